@@ -40,7 +40,7 @@ empties (made h f) = empties f
 empties (left_out xs a) = false
 empties (past f) = empties f
 empties (many f) = true
-empties (lines fl flags step f g s) = empties g
+empties (lines fl flags step f xs g s) = empties g
 
 -- the symbols that it may begin with, limits aside
 abbrev pub begins : {A : Type 0} → Form A → List Symbol
@@ -53,7 +53,7 @@ begins (made h f) = begins f
 begins (left_out xs a) = []
 begins (past f) = begins f
 begins (many f) = begins f
-begins (lines fl flags step f g s) = begins g ++ begins (f (flags s))
+begins (lines fl flags step f xs g s) = begins g ++ begins (f (flags s))
 
 -- the symbols that it may go on with where it could also be complete
 abbrev pub goes_on : {A : Type 0} → Form A → List Symbol
@@ -66,7 +66,7 @@ goes_on (made h f) = goes_on f
 goes_on (left_out xs a) = []
 goes_on (past f) = goes_on f
 goes_on (many f) = begins f ++ goes_on f
-goes_on (lines fl flags step f g s) = goes_on g
+goes_on (lines fl flags step f xs g s) = goes_on g
 
 -- something is derived, limits aside
 abbrev pub derives_some : {A : Type 0} → Form A → Bool
@@ -80,7 +80,7 @@ derives_some (made h f) = derives_some f
 derives_some (left_out xs a) = false
 derives_some (past f) = derives_some f
 derives_some (many f) = true
-derives_some (lines fl flags step f g s) = derives_some g
+derives_some (lines fl flags step f xs g s) = derives_some g
 
 -- the next token always decides
 abbrev pub decides : {A : Type 0} → Form A → Bool
@@ -93,9 +93,10 @@ decides (made h f) = decides f
 decides (left_out xs a) = true
 decides (past f) = decides f && not (empties f)
 decides (many f) = false
-decides (lines fl flags step f g s) =
-    ((decides g && derives_some g) && (not (empties g) && every fl (λ y. decides (f y) && (not (empties (f y)) && apart (begins g) (begins (f y))))))
-    && apart (gather fl (λ y. goes_on (f y))) (union (begins g) (gather fl (λ y. begins (f y))))
+decides (lines fl flags step f xs g s) =
+    ((decides g && derives_some g) && (not (empties g) && only xs (begins g)))
+      && (every fl (λ y. (decides (f y) && not (empties (f y))) && apart xs (begins (f y)))
+        && apart (gather fl (λ y. goes_on (f y))) (xs ++ gather fl (λ y. begins (f y))))
 
 -- whether an element of a list passes a limit is told by that list alone, not by where the form itself stands
 abbrev pub steady : {A : Type 0} → Form A → Bool
@@ -108,4 +109,4 @@ steady (made h f) = steady f
 steady (left_out xs a) = true
 steady (past f) = false
 steady (many f) = true
-steady (lines fl flags step f g s) = steady g
+steady (lines fl flags step f xs g s) = steady g

@@ -23,4 +23,4 @@ Derives (made {A} h f) ts x = (a : A) × Derives f ts a × (x ≡ h a)
 Derives (left_out xs a) ts x = ⊥
 Derives (past f) ts x = ⊥
 Derives (many f) ts xs = Each (Derives f) ts xs
-Derives (lines fl flags step f g s) ts x = Elements flags step (λ y. Derives (f y)) (λ _ v. Derives g v x.1) s ts x.0
+Derives (lines fl flags step f xs g s) ts x = Elements flags step (λ y. Derives (f y)) (λ _ v. Derives g v x.1) s ts x.0

@@ -41,15 +41,15 @@ pub data Form : Type 0 → Type 1 where
   past : {A : Type 0} → Form A → Form A
   -- any number of the form: for a grammar as it is written. It is derived, and never read
   many : {A : Type 0} → Form A → Form (List A)
-  -- any number of elements, and then the form that closes the list. Elements lead from state to state, and the flags of the
-  -- state tell what form the next element has
-  lines : {A B S F : Type 0} → Flags F → (S → F) → (S → A → S) → (F → Form A) → Form B → S → Form (List A × B)
+  -- any number of elements, and then the form that closes the list, which begins with one of these symbols. Elements lead from
+  -- state to state, and the flags of the state tell what form the next element has
+  lines : {A B S F : Type 0} → Flags F → (S → F) → (S → A → S) → (F → Form A) → List Symbol → Form B → S → Form (List A × B)
 
 -- ---- lists
 
 -- any number of the form, up to and with one of these symbols
 abbrev pub until : {A : Type 0} → List Symbol → Form A → Form (List A)
-until xs f = made (λ x. x.0) (lines no_flag (λ _. tt {0}) (λ s _. s) (λ _. f) (token xs) (tt {0}))
+until xs f = made (λ x. x.0) (lines no_flag (λ _. tt {0}) (λ s _. s) (λ _. f) xs (token xs) (tt {0}))
 
 -- the form where the limit is not reached
 abbrev pub within : {A : Type 0} → Form A → Bool → Form A
@@ -58,7 +58,7 @@ within f true = past f
 
 -- the same where k elements stand before these, and at most n may stand in all
 abbrev pub up_to_from : {A : Type 0} → ℕ → ℕ → List Symbol → Form A → Form (List A)
-up_to_from k n xs f = made (λ x. x.0) (lines one_flag (λ k. nat_le n k) (λ k _. suc k) (within f) (token xs) k)
+up_to_from k n xs f = made (λ x. x.0) (lines one_flag (λ k. nat_le n k) (λ k _. suc k) (within f) xs (token xs) k)
 
 -- at most n of the form, up to and with one of these symbols
 abbrev pub up_to : {A : Type 0} → ℕ → List Symbol → Form A → Form (List A)

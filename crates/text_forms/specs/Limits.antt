@@ -15,7 +15,7 @@ unlimited (made h f) = made h (unlimited f)
 unlimited (left_out xs a) = left_out xs a
 unlimited (past f) = unlimited f
 unlimited (many f) = many (unlimited f)
-unlimited (lines fl flags step f g s) = lines fl flags step (λ y. unlimited (f y)) (unlimited g) s
+unlimited (lines fl flags step f xs g s) = lines fl flags step (λ y. unlimited (f y)) xs (unlimited g) s
 
 -- the grammar without limits in which the words that the profile leaves out are words
 abbrev pub widen : {A : Type 0} → Form A → Form A
@@ -28,7 +28,7 @@ widen (made h f) = made h (widen f)
 widen (left_out xs a) = made (λ _. a) (token xs)
 widen (past f) = widen f
 widen (many f) = many (widen f)
-widen (lines fl flags step f g s) = lines fl flags step (λ y. widen (f y)) (widen g) s
+widen (lines fl flags step f xs g s) = lines fl flags step (λ y. widen (f y)) xs (widen g) s
 
 -- some tokens after these complete what the form derives, limits aside
 abbrev pub Live : {A : Type 0} → Form A → List Tok → Type 0

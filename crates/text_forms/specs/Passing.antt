@@ -16,7 +16,7 @@ Leads (made h f) us = Leads f us
 Leads (left_out xs a) us = ⊥
 Leads (past f) us = (t : Tok) × (us ≡ t ∷ []) × Live f us
 Leads (many f) us = ⊥
-Leads (lines {A} fl flags step f g s) us = (xs : List A) × Elements flags step (λ y. Derives (f y)) (λ _ v. Leads g v) s us xs
+Leads (lines {A} fl flags step f xs g s) us = (read : List A) × Elements flags step (λ y. Derives (f y)) (λ _ v. Leads g v) s us read
 
 -- after the tokens ts an element of a list begins, and its tokens us tell that it passes a limit
 abbrev pub Passes : {A : Type 0} → Form A → List Tok → List Tok → Type 0
@@ -29,5 +29,5 @@ Passes (made h f) ts us = Passes f ts us
 Passes (left_out xs a) ts us = ⊥
 Passes (past f) ts us = ⊥
 Passes (many f) ts us = ⊥
-Passes (lines {A} fl flags step f g s) ts us =
-    (xs : List A) × Elements flags step (λ y. Derives (f y)) (λ s v. ((v ≡ []) × Leads (f (flags s)) us) ⊎ (Passes (f (flags s)) v us ⊎ Passes g v us)) s ts xs
+Passes (lines {A} fl flags step f xs g s) ts us =
+    (read : List A) × Elements flags step (λ y. Derives (f y)) (λ s v. ((v ≡ []) × Leads (f (flags s)) us) ⊎ (Passes (f (flags s)) v us ⊎ Passes g v us)) s ts read

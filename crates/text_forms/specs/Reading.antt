@@ -15,7 +15,7 @@ abbrev pub ◌>>=◌ : {A B : Type 0} → Result A Fault → (A → Result B Fau
 abbrev pub token_at : List Symbol → List Tok → Result (Tok × List Tok) Fault
 token_at xs ts = if at xs ts then Ok (first ts, rest_of ts) else Err (fault_at ts)
 
--- elements, until what closes the list begins; the number bounds how many
+-- elements, up to one of the closing symbols; the number bounds how many
 unfoldable pub elements : {A B S F : Type 0} → List Symbol → (S → F) → (S → A → S) → (F → ℕ → List Tok → Result (A × List Tok) Fault) → (List Tok → Result (B × List Tok) Fault) → ℕ → S → List Tok → Result ((List A × B) × List Tok) Fault
 elements closing flags step p q zero s ts = Err (fault_at ts)
 elements closing flags step p q (suc n) s ts =
@@ -34,7 +34,7 @@ read_from (made h f) start ts = read_from f start ts >>= λ x. Ok (h x.0, x.1)
 read_from (left_out xs a) start ts = Err (refusal xs ts)
 read_from (past f) start ts = if at (begins f) ts then Err (too_many_at start) else read_from f start ts
 read_from (many f) start ts = Err (fault_at ts)
-read_from (lines fl flags step f g s) start ts = elements (begins g) flags step (λ y. read_from (f y)) (read_from g start) (suc (length ts)) s ts
+read_from (lines fl flags step f xs g s) start ts = elements xs flags step (λ y. read_from (f y)) (read_from g start) (suc (length ts)) s ts
 
 -- a form whose own lists have all its limits is read alike wherever it stands
 abbrev pub read : {A : Type 0} → Form A → List Tok → Result (A × List Tok) Fault

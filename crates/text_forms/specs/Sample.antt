@@ -95,7 +95,7 @@ begun = record { insts = 0; blocks = 1; open_list = false }
 
 -- { head line* }
 abbrev pub body : Form (Line × List Line)
-body = one symbols.BraceOpen ▸ both (made (λ x. head x.0 x.1) (both (one symbols.Local) head_rest)) (made (λ x. x.0) (lines three_flags flags step line (one symbols.BraceClose) begun))
+body = one symbols.BraceOpen ▸ both (made (λ x. head x.0 x.1) (both (one symbols.Local) head_rest)) (made (λ x. x.0) (lines three_flags flags step line (symbols.BraceClose ∷ []) (one symbols.BraceClose) begun))
 
 -- item = .funcdef body | .typedef type, and .expose is left out; type = int, and double is left out
 pub data Item : Type 0 where

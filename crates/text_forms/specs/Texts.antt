@@ -25,7 +25,7 @@ ordinary (made h f) = ordinary f
 ordinary (left_out xs a) = true
 ordinary (past f) = ordinary f
 ordinary (many f) = ordinary f
-ordinary (lines fl flags step f g s) = every fl (λ y. ordinary (f y)) && ordinary g
+ordinary (lines fl flags step f xs g s) = every fl (λ y. ordinary (f y)) && ordinary g
 
 -- it derives one last token, at the end
 abbrev pub ends : {A : Type 0} → Form A → Bool
@@ -38,7 +38,7 @@ ends (made h f) = ends f
 ends (left_out xs a) = true
 ends (past f) = ends f
 ends (many f) = false
-ends (lines fl flags step f g s) = every fl (λ y. ordinary (f y)) && ends g
+ends (lines fl flags step f xs g s) = every fl (λ y. ordinary (f y)) && ends g
 
 -- the grammar of a whole text, which is read by one token of look-ahead, limits and words that are left out included
 pub record IsGrammar {A : Type 0} (f : Form A) : Type 0 where
