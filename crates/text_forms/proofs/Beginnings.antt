@@ -90,7 +90,7 @@ list_parts fl flags step f xs g s dec =
 
 -- ---- the first token
 
-chosen_has : (b : Bool) (xs : List Symbol) (s : Symbol) → b ≡ true → has xs s ≡ true → has (cond b xs []) s ≡ true
+pub chosen_has : (b : Bool) (xs : List Symbol) (s : Symbol) → b ≡ true → has xs s ≡ true → has (cond b xs []) s ≡ true
 chosen_has true xs s e h = h
 chosen_has false xs s e h = absurd cc
 

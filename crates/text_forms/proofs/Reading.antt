@@ -24,9 +24,6 @@ module _ {A B S F : Type 0} (flags : S → F) (step : S → A → S) (f : F → 
   abbrev pub run : ℕ → ℕ → S → List Tok → Result ((List A × B) × List Tok) Fault
   run q n s ts = elements xs flags step (λ y. read_from (f y)) (read_from g q) n s ts
 
-  pub ElementsDerive : S → List Tok → List A → B → Type 0
-  ElementsDerive s ts ys b = Elements flags step (λ y. Derives (f y)) (λ _ v. Derives g v b) s ts ys
-
   pub record ReadsElements (s : S) (ts : List Tok) (ys : List A) (b : B) (rest : List Tok) : Type 0 where
     pub front : List Tok
     pub parts : ts ≡ front ++ rest
