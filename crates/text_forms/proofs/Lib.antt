@@ -4,3 +4,6 @@ pub mod Reading
 pub mod Unlimited
 pub mod Alike
 pub mod Living
+pub mod Passing
+pub mod Completing
+pub mod Beyond
