@@ -7,3 +7,4 @@ pub mod Living
 pub mod Passing
 pub mod Completing
 pub mod Beyond
+pub mod Stops

@@ -115,6 +115,10 @@ pub is_full : {A : Type 0} (f : Form A) (ts : List Tok) → LiveInFull f ts → 
 unfolding Completes
 is_full f ts c = c
 
+pub some_left : {A : Type 0} (f : Form A) → derives_some f ≡ true → Completes (unlimited f) []
+unfolding Derived Completes
+some_left f e = some_derived f e
+
 pub some_live : {A : Type 0} (f : Form A) → derives_some f ≡ true → Live f []
 unfolding Derived
 some_live f e = some_derived f e
