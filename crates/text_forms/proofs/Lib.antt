@@ -8,3 +8,4 @@ pub mod Passing
 pub mod Completing
 pub mod Beyond
 pub mod Stops
+pub mod Stopping
