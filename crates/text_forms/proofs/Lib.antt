@@ -9,3 +9,4 @@ pub mod Completing
 pub mod Beyond
 pub mod Stops
 pub mod Stopping
+pub mod Ends
