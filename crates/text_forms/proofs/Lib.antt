@@ -10,3 +10,4 @@ pub mod Beyond
 pub mod Stops
 pub mod Stopping
 pub mod Ends
+pub mod Whole

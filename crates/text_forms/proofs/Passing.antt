@@ -90,6 +90,31 @@ passes_first (lines fl flags step f xs g s) dec ts us (x ∷ others, (u, v, q, d
 pub leads_some : {A : Type 0} (f : Form A) → decides f ≡ true → (us : List Tok) → Leads f us → us ≡ [] → ⊥
 leads_some f dec us l none = absurd (let h : at (begins f) ([] ++ []) ≡ true = subst (λ (v : List Tok). at (begins f) (v ++ []) ≡ true) none (leads_first f dec us l []) in cc)
 
+some_behind : {A S F : Type 0} (flags : S → F) (step : S → A → S) (P : F → List Tok → A → Type 0) (Q : S → List Tok → Type 0) → ((s : S) (v : List Tok) → Q s v → ⊥) → (xs : List A) (s : S) (ts : List Tok) → Elements flags step P Q s ts xs → ⊥
+some_behind flags step P Q h [] s ts d = h s ts d
+some_behind flags step P Q h (x ∷ xs) s ts (u, v, p, d, e) = some_behind flags step P Q h xs (step s x) v e
+
+pub passes_some : {A : Type 0} (f : Form A) → decides f ≡ true → (ts us : List Tok) → Passes f ts us → us ≡ [] → ⊥
+passes_some (token xs) dec ts us l none = l
+passes_some (nothing a) dec ts us l none = l
+passes_some never dec ts us l none = l
+passes_some (both f g) dec ts us (inl l) none = passes_some f (and_true _ _ (and_true _ _ dec).0).0 ts us l none
+passes_some (both f g) dec ts us (inr (u, v, a, q, d, l)) none = passes_some g (and_true _ _ (and_true _ _ dec).0).1 v us l none
+passes_some (on xs f g) dec ts us (inl l) none = passes_some f (and_true _ _ (and_true _ _ dec).0).0 ts us l none
+passes_some (on xs f g) dec ts us (inr l) none = passes_some g (and_true _ _ (and_true _ _ dec).0).1 ts us l none
+passes_some (made h f) dec ts us l none = passes_some f dec ts us l none
+passes_some (left_out xs a) dec ts us l none = l
+passes_some (past f) dec ts us l none = l
+passes_some (many f) dec ts us l none = l
+passes_some (lines fl flags step f xs g s) dec ts us (before, l) none =
+    let p = list_parts fl flags step f xs g s dec in
+    some_behind flags step (λ y. Derives (f y)) (λ s v. ((v ≡ []) × Leads (f (flags s)) us) ⊎ (Passes (f (flags s)) v us ⊎ Passes g v us))
+      (λ s v k. elim k [
+        | inl m ↦ leads_some (f (flags s)) (p.element (flags s)) us m.1 none
+        | inr (inl m) ↦ passes_some (f (flags s)) (p.element (flags s)) v us m none
+        | inr (inr m) ↦ passes_some g p.closing v us m none
+      ]) before s ts l
+
 -- ---- their tokens are live
 
 live_group : {A : Type 0} (f : Form A) (us u v : List Tok) → us ≡ u ++ v → Completes f (u ++ v) → Completes f us
