@@ -11,3 +11,5 @@ pub mod Stops
 pub mod Stopping
 pub mod Ends
 pub mod Whole
+pub mod Lists
+pub mod Loops
