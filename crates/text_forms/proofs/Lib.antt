@@ -13,3 +13,6 @@ pub mod Ends
 pub mod Whole
 pub mod Lists
 pub mod Loops
+pub mod Again
+pub mod Usual
+pub mod Judged
