@@ -1,5 +1,5 @@
 -- What a loop that reads a list needs: `until` and `up_to`.
-use Rattle.std.proofs.Common.{◌≡◌, ℕ, suc, ◌<◌, ◌≤◌, Bool, true, false, List, [], ◌∷◌, ◌++◌, length, Result, Ok, Err, refl, sym, ap, subst, ◌∙◌, append_assoc}
+use Rattle.std.proofs.Common.{◌≡◌, ℕ, suc, Bool, true, false, List, [], ◌∷◌, ◌++◌, length, Result, Ok, Err, refl, sym, ap, subst, ◌∙◌, arith, append_assoc}
 use Rattle.std.specs.Prelude.{nat_le, ◌&&◌}
 use Rattle.std.proofs.lemmas.List.{append-nil, length-append}
 use Rattle.text_forms.specs.declared.symbol.Symbol.{Symbol}
@@ -12,7 +12,7 @@ use Rattle.text_forms.specs.Begins.{begins, steady}
 use Rattle.text_forms.specs.Reading.{◌>>=◌, token_at, read_from, read}
 use Rattle.text_forms.specs.Answers.{Gives, GivesAll, kept, with_front}
 use Rattle.text_forms.proofs.Tests.{both_true, false_not}
-use Rattle.text_forms.proofs.Lists.{kept_twice, steady_read, IsElement, began, past_read, past_found, goes_on_by, is_done_by, fails_by}
+use Rattle.text_forms.proofs.Lists.{kept_twice, steady_read, IsElement, past_read, past_found, goes_on_by, is_done_by, fails_by}
 
 token_here : (xs : List Symbol) (ts : List Tok) → at xs ts ≡ true → token_at xs ts ≡ Ok (first ts, rest_of ts)
 token_here xs ts here = rw here refl
