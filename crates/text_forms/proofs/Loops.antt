@@ -1,4 +1,49 @@
 -- What a loop that reads a list needs: `until` and `up_to`.
+--
+-- A reader of `until (symbols.Close ∷ []) f`, where `element` reads one f, is this function and two proof files, in which
+-- `f_element : IsPlain f` is `record { element = record { some = refl; decided = refl }; own = refl }` under `unfolding` f.
+--
+--   fn list(cursor: &mut Cursor, alloc: Global) -> Result<Listing<T>, ReadError>
+--       ensures { Gives result cursor.new (read (until (symbols.Close ∷ []) f) cursor.old) }
+--   {
+--       let mut members = Listing::new(alloc);
+--       'each: while !cursor.at(Symbol::Close) {
+--           members.push(element(cursor, alloc)?)?;
+--       }
+--       cursor.bump();
+--       Ok(members)
+--   }
+--
+--   invariant-each l = with_front l.members (read (until (symbols.Close ∷ []) f) l.cursor) ≡ read (until (symbols.Close ∷ []) f) l.fn.cursor
+--   decreases-each l = length l.cursor
+--
+--   returns-in_err-element c =
+--       let p = err_from_is_err_and c.from_residual.result c.from_residual.ensures.1 in
+--       rw (p.1, p.2) (fails_with (symbols.Close ∷ []) f f_element c.each.members c.each.cursor c.element.new.cursor (read (until (symbols.Close ∷ []) f) c.args.cursor.now) c.in_err-element.field-0.0 (sym c.each-test.ensures) c.in_err-element.ensures c.each.invariant)
+--   each-smaller c = shorter f f_element.element 0 c.each.cursor c.in_ok-element.field-0 c.element.new.cursor c.in_ok-element.ensures
+--   each-preserved c = rw c.in_ok-push.ensures (goes_on (symbols.Close ∷ []) f f_element c.each.members c.each.cursor c.in_ok-element.field-0 c.element.new.cursor (read (until (symbols.Close ∷ []) f) c.args.cursor.now) (sym c.each-test.ensures) c.in_ok-element.ensures c.each.invariant)
+--   returns c = rw c.bump.ensures (is_done (symbols.Close ∷ []) f f_element c.each.members c.each.cursor (read (until (symbols.Close ∷ []) f) c.args.cursor.now) (sym c.each-test.ensures) c.each.invariant)
+--
+-- Of `up_to 256 (symbols.Close ∷ []) f` the loop begins with a test, where `begins` is whether an f begins here, and the
+-- invariant counts the members; `unfolding` f stands above the answers that speak of `begins f`.
+--
+--           if passes_limit(members.len(), 256, begins(cursor)) {
+--               return Err(ReadError::Fault(cursor.too_many()));
+--           }
+--
+--   invariant-each l = with_front l.members (read (up_to_from (length l.members) 256 (symbols.Close ∷ []) f) l.cursor) ≡ read (up_to 256 (symbols.Close ∷ []) f) l.fn.cursor
+--
+--   past : nat_le 256 (length c.each.members) && at (begins f) c.each.cursor ≡ true
+--   past = rw (← c.len.ensures, ← c.begins.ensures) (sym c.passes_limit.ensures ∙ c.if-passes_limit.true)
+--   fits : the same ≡ false, with c.if-passes_limit.false
+--
+--   returns-then-passes_limit c = rw c.too_many.ensures (too_many 256 (symbols.Close ∷ []) f f_element (length c.each.members) c.each.members c.each.cursor TOTAL past (sym c.each-test.ensures) c.each.invariant)
+--   returns-in_err-element c = .. (fails_up_to 256 (symbols.Close ∷ []) f f_element (length c.each.members) c.each.members c.each.cursor c.element.new.cursor TOTAL c.in_err-element.field-0.0 fits (sym c.each-test.ensures) c.in_err-element.ensures c.each.invariant)
+--   each-preserved c = rw c.in_ok-push.ensures (goes_on_counted 256 (symbols.Close ∷ []) f f_element c.each.members c.each.cursor c.in_ok-element.field-0 c.element.new.cursor TOTAL fits (sym c.each-test.ensures) c.in_ok-element.ensures c.each.invariant)
+--   returns c = rw c.bump.ensures (is_done_up_to 256 (symbols.Close ∷ []) f f_element (length c.each.members) c.each.members c.each.cursor TOTAL (sym c.each-test.ensures) c.each.invariant)
+--
+-- Where a list has a state of its own, the lemmas of `Lists` serve in the same way: `goes_on_by`, `is_done_by`, `fails_by` and
+-- `close_fails_by`, with k the meaning of the whole list as a function of what is still to be read.
 use Rattle.std.proofs.Common.{◌≡◌, ℕ, suc, Bool, true, false, List, [], ◌∷◌, ◌++◌, length, Result, Ok, Err, refl, sym, ap, subst, ◌∙◌, arith, append_assoc}
 use Rattle.std.specs.Prelude.{nat_le, ◌&&◌}
 use Rattle.std.proofs.lemmas.List.{append-nil, length-append}
