@@ -57,7 +57,7 @@ use Rattle.text_forms.specs.Begins.{begins, steady}
 use Rattle.text_forms.specs.Reading.{◌>>=◌, token_at, read_from, read}
 use Rattle.text_forms.specs.Answers.{Gives, GivesAll, kept, with_front}
 use Rattle.text_forms.proofs.Tests.{both_true, false_not}
-use Rattle.text_forms.proofs.Lists.{kept_twice, steady_read, IsElement, past_read, past_found, goes_on_by, is_done_by, fails_by}
+use Rattle.text_forms.proofs.Lists.{kept_twice, steady_read, IsElement, fits_read, passes_read, goes_on_by, is_done_by, fails_by}
 
 token_here : (xs : List Symbol) (ts : List Tok) → at xs ts ≡ true → token_at xs ts ≡ Ok (first ts, rest_of ts)
 token_here xs ts here = rw here refl
@@ -114,17 +114,12 @@ module _ {A : Type 0} (n : ℕ) (xs : List Symbol) (f : Form A) (el : IsPlain f)
   unfolded_up_to : (k : ℕ) (front : List A) (ts : List Tok) (total : Result (List A × List Tok) Fault) → with_front front (read (up_to_from k n xs f) ts) ≡ total → kept (λ (x : List A × Tok). front ++ x.0) (read (limited k) ts) ≡ total
   unfolded_up_to k front ts total so_far = sym (kept_twice (λ (ys : List A). front ++ ys) (λ (x : List A × Tok). x.0) (read (limited k) ts)) ∙ so_far
 
-  -- an element that does not pass the limit: within it, or past it where none begins
-  element_is : (full : Bool) (p : ℕ) (ts : List Tok) → full && at (begins f) ts ≡ false → read_from (within f full) p ts ≡ read f ts
-  element_is false p ts e = steady_read f el.own p 0 ts
-  element_is true p ts e = past_read f p ts e ∙ steady_read f el.own p 0 ts
-
   pub goes_on_up_to : (k : ℕ) (front : List A) (ts : List Tok) (a : A) (rest : List Tok) (total : Result (List A × List Tok) Fault) → nat_le n k && at (begins f) ts ≡ false → at xs ts ≡ false → read f ts ≡ Ok (a, rest)
       → with_front front (read (up_to_from k n xs f) ts) ≡ total → with_front (front ++ a ∷ []) (read (up_to_from (suc k) n xs f) rest) ≡ total
   goes_on_up_to k front ts a rest total fits off one so_far =
       kept_twice (λ (ys : List A). (front ++ a ∷ []) ++ ys) (λ (x : List A × Tok). x.0) (read (limited (suc k)) rest)
       ∙ goes_on_by one_flag (λ k. nat_le n k) (λ k (_ : A). suc k) (within f) xs (token xs) (within_element f el.element) 0 k (λ (x : List A × Tok). front ++ x.0) (λ (x : List A × Tok). (front ++ a ∷ []) ++ x.0) ts a rest total
-      (λ ys b. sym (append_assoc front (a ∷ []) ys)) off (element_is (nat_le n k) (first ts).place ts fits ∙ one) (unfolded_up_to k front ts total so_far)
+      (λ ys b. sym (append_assoc front (a ∷ []) ys)) off (fits_read f el.own (nat_le n k) (first ts).place ts fits ∙ one) (unfolded_up_to k front ts total so_far)
 
   -- the same where as many stand before as were read
   pub goes_on_counted : (front : List A) (ts : List Tok) (a : A) (rest : List Tok) (total : Result (List A × List Tok) Fault) → nat_le n (length front) && at (begins f) ts ≡ false → at xs ts ≡ false → read f ts ≡ Ok (a, rest)
@@ -146,12 +141,8 @@ module _ {A : Type 0} (n : ℕ) (xs : List Symbol) (f : Form A) (el : IsPlain f)
   pub fails_up_to : (k : ℕ) (front : List A) (ts rest : List Tok) (total : Result (List A × List Tok) Fault) (e : ReadError) → nat_le n k && at (begins f) ts ≡ false → at xs ts ≡ false → Gives {A = A} (Err e) rest (read f ts)
       → with_front front (read (up_to_from k n xs f) ts) ≡ total → Gives {A = List A} (Err e) rest total
   fails_up_to k front ts rest total e fits off one so_far =
-      fails_at k front ts rest total e off (subst (λ (r : Result (A × List Tok) Fault). Gives {A = A} (Err e) rest r) (sym (element_is (nat_le n k) (first ts).place ts fits)) one) so_far
+      fails_at k front ts rest total e off (subst (λ (r : Result (A × List Tok) Fault). Gives {A = A} (Err e) rest r) (sym (fits_read f el.own (nat_le n k) (first ts).place ts fits)) one) so_far
 
   -- an element begins past the limit
   pub too_many : (k : ℕ) (front : List A) (ts : List Tok) (total : Result (List A × List Tok) Fault) → nat_le n k && at (begins f) ts ≡ true → at xs ts ≡ false → with_front front (read (up_to_from k n xs f) ts) ≡ total → total ≡ Err (too_many_at (first ts).place)
-  too_many k front ts total past off so_far = fails_at k front ts ts total (errors.Fault (too_many_at (first ts).place)) off (found (nat_le n k) past) so_far
-    where
-      found : (full : Bool) → full && at (begins f) ts ≡ true → read_from (within f full) (first ts).place ts ≡ Err (too_many_at (first ts).place)
-      found false e = absurd cc
-      found true e = past_found f (first ts).place ts e
+  too_many k front ts total past off so_far = fails_at k front ts ts total (errors.Fault (too_many_at (first ts).place)) off (passes_read f (nat_le n k) (first ts).place ts past) so_far
