@@ -1,5 +1,5 @@
 -- Reading a list one element at a time, as a loop does: lists with a state.
-use Rattle.std.proofs.Common.{◌≡◌, ℕ, zero, suc, ◌<◌, Bool, true, false, cond, List, [], ◌∷◌, ◌++◌, length, Result, Ok, Err, refl, sym, ap, subst, ◌∙◌, arith}
+use Rattle.std.proofs.Common.{◌≡◌, ℕ, zero, suc, ◌<◌, Bool, true, false, cond, List, [], ◌∷◌, ◌++◌, length, Result, Ok, Err, refl, sym, ap, subst, ◌∙◌, arith, ◌&&◌}
 use Rattle.std.proofs.lemmas.List.{length-append}
 use Rattle.text_forms.specs.declared.symbol.Symbol.{Symbol}
 use Rattle.text_forms.specs.declared.fault.Fault.{Fault}
@@ -8,7 +8,7 @@ use Rattle.text_forms.specs.declared.fault.ReadError.TheVariants as errors
 use Rattle.text_forms.specs.Tokens.{Tok, at, first, too_many_at}
 use Rattle.text_forms.specs.Forms.{Flags, Form, token, nothing, never, both, on, made, left_out, past, many, lines, within}
 use Rattle.text_forms.specs.Begins.{empties, begins, decides, steady}
-use Rattle.text_forms.specs.Reading.{◌>>=◌, elements, read_from}
+use Rattle.text_forms.specs.Reading.{◌>>=◌, elements, read_from, read}
 use Rattle.text_forms.specs.Answers.{Gives, kept}
 use Rattle.text_forms.proofs.Tests.{and_true}
 use Rattle.text_forms.proofs.Beginnings.{nonempty, at_derived}
