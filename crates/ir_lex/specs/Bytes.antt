@@ -40,3 +40,8 @@ goes_on kinds.Directive = is_directive_byte
 goes_on kinds.Word = is_word_byte
 goes_on kinds.Number = is_ascii_alphanumeric
 goes_on (kinds.Mark m) = λ _. false
+
+-- none of them comes next: the bytes are empty, or begin with one that fails the test
+abbrev pub stops_at : (ℕ → Bool) → List ℕ → Type 0
+stops_at test [] = Unit {0}
+stops_at test (b ∷ bs) = test b ≡ false
