@@ -12,9 +12,9 @@ use Rattle.ir_lex.specs.declared.token.Number.{Number}
 use Rattle.ir_lex.specs.Bytes.{is_sigil}
 use Rattle.ir_lex.specs.Numerals.{Means}
 use Rattle.ir_lex.specs.Lexemes.{IsLongest, NoneBegins, longest_token, IsToken, IsFault, too_long, bad_byte, bad_run, bad_name, too_large}
-use Rattle.ir_lex.specs.Scanner.{numeral, numbered, meant, judged, none_begun, sized, lexeme_of, lexeme, Found}
+use Rattle.ir_lex.specs.Scanner.{numeral, numbered, meant, judged, none_begun, sized, lexeme_of, lexeme, Found, number_at}
 use Rattle.ir_lex.proofs.Longest.{found, found_sound, found_longest, longest_found, none_found, found_none, none_is_none, some_is}
-use Rattle.ir_lex.proofs.Meanings.{numeral_ok, numeral_bad, means_numeral, means_too_large, nothing_meant, number_at}
+use Rattle.ir_lex.proofs.Meanings.{numeral_ok, numeral_bad, means_numeral, means_too_large, nothing_meant}
 
 -- ---- a spelling
 

@@ -6,3 +6,4 @@ pub mod Meanings
 pub mod GapLemmas
 pub mod Judging
 pub mod Nexts
+pub mod Lists

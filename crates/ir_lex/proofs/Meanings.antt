@@ -13,7 +13,7 @@ use Rattle.ir_lex.specs.declared.token.LexKind.TheVariants as faults
 use Rattle.ir_lex.specs.declared.token.Number.{Number}
 use Rattle.ir_lex.specs.Bytes.{is_sign}
 use Rattle.ir_lex.specs.Numerals.{are_digits, Denotes, nought, decimal, octal, hexadecimal, Means, plain, plus, minus}
-use Rattle.ir_lex.specs.Scanner.{digits, magnitude, small, unsigned, has_minus, numeral}
+use Rattle.ir_lex.specs.Scanner.{digits, magnitude, small, unsigned, has_minus, numeral, number_at}
 use Rattle.ir_lex.proofs.Longest.{some_is, pick, none_is_none}
 
 -- ---- a run
@@ -63,10 +63,6 @@ magnitude_denotes (b ∷ bs) n e =
     ]
 
 -- ---- a spelling
-
--- the number that a spelling stands for, by its sign and its magnitude
-abbrev pub number_at : List ℕ → ℕ → Number
-number_at spelling n = record { negative = has_minus spelling && not (n == 0); magnitude = n }
 
 not_sign : (base b : ℕ) (bs : List ℕ) → base ≤ 36 → are_digits base (b ∷ bs) ≡ true → is_sign b ≡ false
 not_sign base b bs le h =
@@ -151,3 +147,9 @@ nothing_meant spelling none = go (magnitude (unsigned spelling)) refl
     go : (o : Option ℕ) → magnitude (unsigned spelling) ≡ o → small o ≡ Err faults.BadByte
     go None e = refl
     go (Some n) e = absurd (none (number_at spelling n) (magnitude_means spelling n e))
+
+pub one_number : (spelling : List ℕ) (m : ℕ) → numeral spelling ≡ Ok m → (n : Number) → Means spelling n → n ≡ number_at spelling m
+one_number spelling m e n means =
+    let here = means_magnitude spelling n means in
+    let there = small_ok (magnitude (unsigned spelling)) m e in
+    here.1 ∙ ap (number_at spelling) (some_is n.magnitude m (sym here.0 ∙ there.0))

@@ -1,6 +1,6 @@
 -- The scanner finds the next token of a text, or its fault, or that there is none.
 use Rattle.std.proofs.Common.{◌≡◌, ℕ, zero, suc, ◌+◌, ◌<◌, ◌≤◌, Bool, true, false, cond, eqb, List, [], ◌∷◌, ◌++◌, length, take, drop, Option, Some, None, Result, Ok, Err, refl, sym, ap, subst, ◌∙◌, arith, inl, inr, append_assoc}
-use Rattle.std.specs.Prelude.{◌⊎◌, ◌==◌, ◌||◌, ◌&&◌, not, ◌-◌}
+use Rattle.std.specs.Prelude.{◌⊎◌, ◌==◌, ◌||◌, ◌&&◌, not, ◌-◌, IfOk, IfSome}
 use Rattle.std.proofs.lemmas.Bool.{eqb-true, and_parts, or_cases, cases_Bool}
 use Rattle.std.proofs.lemmas.List.{take-append-drop, length-take-le, length-append, length-drop, append-nil, drop-drop}
 use Rattle.ir_lex.specs.declared.token.TokenKind.{TokenKind}
@@ -18,7 +18,7 @@ use Rattle.ir_lex.proofs.Longest.{found, longest_found, none_is_none, some_is}
 use Rattle.ir_lex.proofs.GapLemmas.{gap_found, gap_whole, gap_within, gap_is}
 use Rattle.ir_lex.proofs.Judging.{token_lexeme, fault_lexeme, lexeme_token, lexeme_none, lexeme_fault, take_front}
 
-drop_front : (s after : List ℕ) → drop (length s) (s ++ after) ≡ after
+pub drop_front : (s after : List ℕ) → drop (length s) (s ++ after) ≡ after
 drop_front [] after = refl
 drop_front (x ∷ s) after = drop_front s after
 
@@ -208,3 +208,20 @@ next_spelling text at t is =
     let front : drop t.from text ≡ is.spelling ++ is.after =
         ap (λ (n : ℕ). drop n text) is.from ∙ sym (drop-drop (length is.gap) at text) ∙ ap (drop (length is.gap)) is.parts ∙ drop_front is.gap (is.spelling ++ is.after) in
     rw (size, front) (take_front is.spelling is.after)
+
+-- ---- as the contract has it
+
+pub found_behind : (text : List ℕ) (at : ℕ) (r : Result (Option Token) LexFault) → next_of text at ≡ r → IfOk r (λ o. IfSome o (λ t. at ≤ t.from))
+found_behind text at (Err f) e = tt
+found_behind text at (Ok None) e = tt
+found_behind text at (Ok (Some t)) e = (next_within text at t (next_found text at t e)).behind
+
+pub found_some : (text : List ℕ) (at : ℕ) (r : Result (Option Token) LexFault) → next_of text at ≡ r → IfOk r (λ o. IfSome o (λ t. t.from < t.to))
+found_some text at (Err f) e = tt
+found_some text at (Ok None) e = tt
+found_some text at (Ok (Some t)) e = (next_within text at t (next_found text at t e)).some
+
+pub found_within : (text : List ℕ) (at : ℕ) (r : Result (Option Token) LexFault) → next_of text at ≡ r → IfOk r (λ o. IfSome o (λ t. t.to ≤ length text))
+found_within text at (Err f) e = tt
+found_within text at (Ok None) e = tt
+found_within text at (Ok (Some t)) e = (next_within text at t (next_found text at t e)).within

@@ -7,7 +7,7 @@ use Rattle.ir_lex.specs.declared.token.LexKind.TheVariants as faults
 use Rattle.ir_lex.specs.declared.token.Number.{Number}
 use Rattle.ir_lex.specs.Bytes.{is_sigil}
 use Rattle.ir_lex.specs.Spellings.{Spells}
-use Rattle.ir_lex.specs.Numerals.{Means}
+use Rattle.ir_lex.specs.Numerals.{Means, IsNumber}
 
 -- a spelling of the kind stands at the front, and no longer front of the bytes is a spelling of any kind
 pub record IsLongest (bytes : List ℕ) (kind : TokenKind) (spelling after : List ℕ) : Type 0 where
@@ -26,7 +26,7 @@ longest_token = 65536
 -- the spelling is that of a token: it is not too long, and a number stands for a number below 2^128
 pub record IsToken (kind : TokenKind) (spelling : List ℕ) : Type 0 where
   pub short : length spelling ≤ longest_token
-  pub number : kind ≡ kinds.Number → (n : Number) × Means spelling n × (n.magnitude < 2 ^ 128)
+  pub number : kind ≡ kinds.Number → IsNumber spelling
 
 -- a lexical fault stands at the front of the bytes
 pub data IsFault : List ℕ → LexKind → Type 0 where

@@ -4,4 +4,6 @@ pub mod Numerals
 pub mod Lexemes
 pub mod Gaps
 pub mod Texts
+pub mod Printed
+pub mod Laws
 pub mod Scanner

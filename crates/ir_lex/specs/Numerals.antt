@@ -1,5 +1,5 @@
 -- What the run of a number stands for.
-use Rattle.std.specs.Prelude.{◌≡◌, ℕ, Bool, true, false, List, [], ◌∷◌, length, ◌&&◌, ◌==◌, not}
+use Rattle.std.specs.Prelude.{◌≡◌, ℕ, Bool, true, false, ◌<◌, ◌^◌, List, [], ◌∷◌, length, ◌&&◌, ◌==◌, not}
 use Rattle.std.specs.List.{list_all}
 use Rattle.std.specs.Char.{is_digit}
 use Rattle.std.specs.Str.Parse.{digits_value}
@@ -26,3 +26,7 @@ pub data Means : List ℕ → Number → Type 0 where
   plus : (run : List ℕ) (n : ℕ) → Denotes run n → Means (43 ∷ run) (record { negative = false; magnitude = n })
   -- a number that is 0 is not negative
   minus : (run : List ℕ) (n : ℕ) → Denotes run n → Means (45 ∷ run) (record { negative = not (n == 0); magnitude = n })
+
+-- the bytes are the spelling of a number below 2^128
+abbrev pub IsNumber : List ℕ → Type 0
+IsNumber spelling = (n : Number) × Means spelling n × (n.magnitude < 2 ^ 128)

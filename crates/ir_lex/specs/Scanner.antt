@@ -60,6 +60,10 @@ has_minus (b ∷ bs) = b == 45
 abbrev pub numeral : List ℕ → Result ℕ LexKind
 numeral spelling = small (magnitude (unsigned spelling))
 
+-- the number, by its sign and its magnitude
+abbrev pub number_at : List ℕ → ℕ → Number
+number_at spelling n = record { negative = has_minus spelling && not (n == 0); magnitude = n }
+
 -- ---- spellings
 
 -- the longest spelling at the front of some bytes, if any: its kind, and how many bytes it has

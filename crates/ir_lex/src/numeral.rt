@@ -1,12 +1,12 @@
 // Numbers.
-ghost use Rattle.std.specs.Prelude.{◌≡◌, ◌^◌, ◌<◌, ◌≤◌, IfSome, IfNone, nat_lt, is_ok};
+ghost use Rattle.std.specs.Prelude.{◌≡◌, ◌^◌, ◌<◌, ◌≤◌, IfSome, IfNone, nat_lt, is_ok, Ok, true};
 ghost use Rattle.std.specs.List.{list_all};
 ghost use Rattle.std.specs.Char.{digit_value, is_digit};
 ghost use Rattle.std.specs.Str.Parse.{digits_value};
 ghost use Rattle.ir_lex.specs.Numerals.{are_digits};
-ghost use Rattle.ir_lex.specs.Scanner.{digits, magnitude, small, unsigned, numeral};
+ghost use Rattle.ir_lex.specs.Scanner.{digits, magnitude, small, unsigned, numeral, number_at};
 
-use crate::token::LexKind;
+use crate::token::{LexKind, Number};
 
 // The value of a digit or a letter, 36 for any other byte.
 fn digit_value(byte: u8) -> u8
@@ -79,5 +79,18 @@ pub(crate) fn numeral(spelling: &[u8]) -> Result<u128, LexKind>
     match spelling {
         [b'+' | b'-', run @ ..] => magnitude(run),
         run => magnitude(run),
+    }
+}
+
+/// The number that a spelling stands for.
+pub(crate) fn number_of(spelling: &[u8]) -> Number
+    requires { is_ok (numeral spelling.now) ≡ true }
+    ensures magnitude { numeral spelling.now ≡ Ok result.magnitude }
+    ensures signed { result ≡ number_at spelling.now result.magnitude }
+{
+    let magnitude = numeral(spelling).unwrap();
+    Number {
+        negative: matches!(spelling, [b'-', ..]) && magnitude != 0,
+        magnitude,
     }
 }
