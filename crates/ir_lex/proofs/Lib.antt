@@ -7,3 +7,4 @@ pub mod GapLemmas
 pub mod Judging
 pub mod Nexts
 pub mod Lists
+pub mod Worked

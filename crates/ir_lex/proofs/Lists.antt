@@ -25,7 +25,7 @@ use Rattle.ir_lex.proofs.Nexts.{next_is, fault_is, end_is, next_found, fault_fou
 abbrev pub Tokens : Type 0
 Tokens = List Token × Option LexFault
 
-abbrev with_token : Token → Tokens → Tokens
+abbrev pub with_token : Token → Tokens → Tokens
 with_token t r = (t ∷ r.0, r.1)
 
 -- the tokens from a place on; the number bounds how many
@@ -48,7 +48,7 @@ within_fault : (n : ℕ) (text : List ℕ) (at : ℕ) (f : LexFault) → next_of
 unfolding tokens_within
 within_fault n text at f e = rw (e, tokens_within) refl
 
-abbrev LexesAs : List ℕ → ℕ → Tokens → Type 0
+abbrev pub LexesAs : List ℕ → ℕ → Tokens → Type 0
 LexesAs text at r = Lexes text at r.0 r.1
 
 -- one token more, where the tokens behind it are known

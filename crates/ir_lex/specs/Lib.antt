@@ -7,3 +7,4 @@ pub mod Texts
 pub mod Printed
 pub mod Laws
 pub mod Scanner
+pub mod Examples

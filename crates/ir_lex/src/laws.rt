@@ -1,4 +1,5 @@
 // Laws of the tokens of a text. The functions do nothing; their contracts are what they are for.
+ghost use Rattle.ir_lex.specs.Examples.{Kinds, Gaps, Refused, Numbers};
 ghost use Rattle.ir_lex.specs.Laws.{TokensAreOneList, SpellingsReadBack, PiecesReadBack, SpacedStandApart, NumbersAreSmall};
 
 /// Each text has one list of tokens, which goes to the end of the text or to one lexical fault.
@@ -28,5 +29,14 @@ pub fn spaced_stand_apart()
 /// `number` may be called with each number token of a text.
 pub fn numbers_are_small()
     ensures { NumbersAreSmall }
+{
+}
+
+/// Texts with their tokens, and spellings with their numbers, worked out by hand.
+pub fn worked_examples()
+    ensures kinds { Kinds }
+    ensures gaps { Gaps }
+    ensures refused { Refused }
+    ensures numbers { Numbers }
 {
 }

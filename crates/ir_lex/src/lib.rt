@@ -10,7 +10,7 @@ mod token;
 
 pub use laws::{
     numbers_are_small, pieces_read_back, spaced_stand_apart, spellings_read_back,
-    tokens_are_one_list,
+    tokens_are_one_list, worked_examples,
 };
 pub use next::{next_token, number};
 pub use token::{LexFault, LexKind, Mark, Number, Token, TokenKind};
