@@ -1,18 +1,14 @@
 -- The list of the tokens of a text.
-use Rattle.std.proofs.Common.{◌≡◌, ℕ, zero, suc, ◌+◌, ◌<◌, ◌≤◌, Bool, true, false, cond, eqb, List, [], ◌∷◌, ◌++◌, length, take, drop, map, Option, Some, None, Result, Ok, Err, refl, sym, ap, subst, ◌∙◌, arith, inl, inr, append_assoc}
-use Rattle.std.specs.Prelude.{◌&&◌, ◌||◌, ◌==◌, ◌-◌}
+use Rattle.std.proofs.Common.{◌≡◌, ℕ, zero, suc, ◌+◌, ◌<◌, ◌≤◌, true, false, List, [], ◌∷◌, ◌++◌, length, drop, map, Option, Some, None, Result, Ok, Err, refl, sym, ap, ◌∙◌, arith, inl, inr}
 use Rattle.std.specs.List.{list_all}
 use Rattle.std.proofs.lemmas.Bool.{and_parts, eqb-true, or_cases}
-use Rattle.std.proofs.lemmas.List.{take-append-drop, length-take-le, length-append, length-drop, drop-drop}
 use Rattle.ir_lex.specs.declared.token.TokenKind.{TokenKind}
 use Rattle.ir_lex.specs.declared.token.TokenKind.TheVariants as kinds
 use Rattle.ir_lex.specs.declared.token.Token.{Token}
 use Rattle.ir_lex.specs.declared.token.LexFault.{LexFault}
 use Rattle.ir_lex.specs.Bytes.{is_blank, goes_on, stops_at}
-use Rattle.ir_lex.specs.Spellings.{Spells}
 use Rattle.ir_lex.specs.Gaps.{IsGap, none, blank}
-use Rattle.ir_lex.specs.Lexemes.{IsLongest, IsToken}
-use Rattle.ir_lex.specs.Texts.{OnlyGap, IsNext, IsNextFault, Lexes, ends, stops, reads, spelling_of}
+use Rattle.ir_lex.specs.Texts.{IsNext, Lexes, ends, stops, reads, spelling_of}
 use Rattle.ir_lex.specs.Printed.{Piece, text_of, tokens_of, IsPiece, StandApart, AreSpaced}
 use Rattle.ir_lex.specs.Laws.{TokensAreOneList, SpellingsReadBack, PiecesReadBack, SpacedStandApart, NumbersAreSmall}
 use Rattle.ir_lex.specs.Scanner.{next_of}
@@ -32,9 +28,9 @@ with_token t r = (t ∷ r.0, r.1)
 unfoldable pub tokens_within : ℕ → List ℕ → ℕ → Tokens
 tokens_within zero text at = ([], None)
 tokens_within (suc n) text at = elim (next_of text at) [
-    | Err e ↦ ([], Some e)
-    | Ok o ↦ elim o [ None ↦ ([], None) | Some t ↦ with_token t (tokens_within n text t.to) ]
-    ]
+  | Err e ↦ ([], Some e)
+  | Ok o ↦ elim o [ None ↦ ([], None) | Some t ↦ with_token t (tokens_within n text t.to) ]
+]
 
 within_token : (n : ℕ) (text : List ℕ) (at : ℕ) (t : Token) → next_of text at ≡ Ok (Some t) → tokens_within (suc n) text at ≡ with_token t (tokens_within n text t.to)
 unfolding tokens_within
@@ -74,10 +70,14 @@ lexes_are text _ _ _ (reads at t more end is later) (suc n) le =
 
 pub one_list : TokensAreOneList
 one_list text =
-    let here = tokens_within (suc (length text)) text 0 in
-    (here.0, here.1, lexed (length text) text 0 (omega arith), λ others other is.
-      let same : here ≡ (others, other) = lexes_are text 0 others other is (length text) (omega arith) in
-      (ap (λ (r : Tokens). r.0) (sym same), ap (λ (r : Tokens). r.1) (sym same)))
+    let here = tokens_within (suc (length text)) text 0 in (
+      here.0,
+      here.1,
+      lexed (length text) text 0 (omega arith),
+      λ others other is.
+          let same : here ≡ (others, other) = lexes_are text 0 others other is (length text) (omega arith) in
+          (ap (λ (r : Tokens). r.0) (sym same), ap (λ (r : Tokens). r.1) (sym same)),
+    )
 
 -- ---- printed tokens read back
 
@@ -92,16 +92,16 @@ blanks_gap (b ∷ space) after all = let parts = and_parts (is_blank b) (list_al
 
 abbrev piece_next : (text : List ℕ) (at : ℕ) (p : Piece) (after : List ℕ) → drop at text ≡ p.space ++ (p.spelling ++ after) → IsPiece p → stops_at (goes_on p.kind) after → IsNext text at (record { kind = p.kind; from = at + length p.space; to = at + length p.space + length p.spelling })
 piece_next text at p after parts is stop = record {
-    gap = p.space;
-    spelling = p.spelling;
-    after = after;
-    parts = parts;
-    is_gap = blanks_gap p.space (p.spelling ++ after) is.blanks;
-    longest = spellings_read_back p.kind p.spelling after is.spells stop;
-    is_token = is.is_token;
-    from = refl;
-    to = refl
-  }
+  gap = p.space;
+  spelling = p.spelling;
+  after = after;
+  parts = parts;
+  is_gap = blanks_gap p.space (p.spelling ++ after) is.blanks;
+  longest = spellings_read_back p.kind p.spelling after is.spells stop;
+  is_token = is.is_token;
+  from = refl;
+  to = refl;
+}
 
 pieces_lex : (text : List ℕ) (at : ℕ) (ps : List Piece) (last : List ℕ) → drop at text ≡ text_of ps last → StandApart ps last → Lexes text at (tokens_of at ps) None
 pieces_lex text at [] last parts all = ends at (rw parts (blanks_gap last [] all))

@@ -1,5 +1,5 @@
 -- What the private functions of the scanner compute, in the order of the code. No public contract cites this file.
-use Rattle.std.specs.Prelude.{◌≡◌, ◌+◌, ◌^◌, ℕ, zero, suc, Bool, true, false, Option, Some, None, Result, Ok, Err, List, [], ◌∷◌, length, take, drop, if◌then◌else◌, ◌&&◌, ◌||◌, ◌==◌, not, nat_lt, slice_index, option_map}
+use Rattle.std.specs.Prelude.{◌+◌, ◌^◌, ℕ, suc, Bool, true, false, Option, Some, None, Result, Ok, Err, List, [], ◌∷◌, length, take, drop, if◌then◌else◌, ◌&&◌, ◌==◌, not, nat_lt, slice_index, option_map}
 use Rattle.std.specs.List.{prefix_len}
 use Rattle.std.specs.Char.{is_ascii_digit, is_ascii_alphabetic}
 use Rattle.std.specs.Str.Parse.{digits_value}
@@ -40,8 +40,8 @@ abbrev pub magnitude : List ℕ → Option ℕ
 magnitude [] = None
 magnitude (b ∷ bs) =
     if b == 48 then
-      (if length bs == 0 then Some 0
-      else (if slice_index bs 0 == 120 then digits 16 (drop 1 bs) else digits 8 bs))
+    (if length bs == 0 then Some 0
+    else (if slice_index bs 0 == 120 then digits 16 (drop 1 bs) else digits 8 bs))
     else digits 10 (b ∷ bs)
 
 abbrev pub small : Option ℕ → Result ℕ LexKind

@@ -14,3 +14,6 @@ pub use laws::{
 };
 pub use next::{next_token, number};
 pub use token::{LexFault, LexKind, Mark, Number, Token, TokenKind};
+
+#[cfg(test)]
+mod tests;
