@@ -10,37 +10,23 @@ use Rattle.ir_lex.specs.Bytes.{is_blank, goes_on, stops_at}
 use Rattle.ir_lex.specs.Gaps.{IsGap, none, blank}
 use Rattle.ir_lex.specs.Texts.{IsNext, Lexes, ends, stops, reads, spelling_of}
 use Rattle.ir_lex.specs.Printed.{Piece, text_of, tokens_of, IsPiece, StandApart, AreSpaced}
-use Rattle.ir_lex.specs.Laws.{TokensAreOneList, SpellingsReadBack, PiecesReadBack, SpacedStandApart, NumbersAreSmall}
-use Rattle.ir_lex.specs.Scanner.{next_of}
+use Rattle.ir_lex.specs.Laws.{TokensAreOneList, SpellingsReadBack, PiecesReadBack, SpacedStandApart}
+use Rattle.ir_lex.specs.Scanner.{next_of, Tokens, with_token, tokens_within}
 use Rattle.ir_lex.proofs.Longest.{found_again, found_longest}
 use Rattle.ir_lex.proofs.Judging.{take_front}
 use Rattle.ir_lex.proofs.Nexts.{next_is, fault_is, end_is, next_found, fault_found, end_found, next_within, behind_next, next_spelling, drop_front}
 
 -- ---- there is one list
 
-abbrev pub Tokens : Type 0
-Tokens = List Token × Option LexFault
-
-abbrev pub with_token : Token → Tokens → Tokens
-with_token t r = (t ∷ r.0, r.1)
-
--- the tokens from a place on; the number bounds how many
-unfoldable pub tokens_within : ℕ → List ℕ → ℕ → Tokens
-tokens_within zero text at = ([], None)
-tokens_within (suc n) text at = elim (next_of text at) [
-  | Err e ↦ ([], Some e)
-  | Ok o ↦ elim o [ None ↦ ([], None) | Some t ↦ with_token t (tokens_within n text t.to) ]
-]
-
-within_token : (n : ℕ) (text : List ℕ) (at : ℕ) (t : Token) → next_of text at ≡ Ok (Some t) → tokens_within (suc n) text at ≡ with_token t (tokens_within n text t.to)
+pub within_token : (n : ℕ) (text : List ℕ) (at : ℕ) (t : Token) → next_of text at ≡ Ok (Some t) → tokens_within (suc n) text at ≡ with_token t (tokens_within n text t.to)
 unfolding tokens_within
 within_token n text at t e = rw (e, tokens_within) refl
 
-within_end : (n : ℕ) (text : List ℕ) (at : ℕ) → next_of text at ≡ Ok None → tokens_within (suc n) text at ≡ ([], None)
+pub within_end : (n : ℕ) (text : List ℕ) (at : ℕ) → next_of text at ≡ Ok None → tokens_within (suc n) text at ≡ ([], None)
 unfolding tokens_within
 within_end n text at e = rw (e, tokens_within) refl
 
-within_fault : (n : ℕ) (text : List ℕ) (at : ℕ) (f : LexFault) → next_of text at ≡ Err f → tokens_within (suc n) text at ≡ ([], Some f)
+pub within_fault : (n : ℕ) (text : List ℕ) (at : ℕ) (f : LexFault) → next_of text at ≡ Err f → tokens_within (suc n) text at ≡ ([], Some f)
 unfolding tokens_within
 within_fault n text at f e = rw (e, tokens_within) refl
 
@@ -159,6 +145,3 @@ spaced_stop kind (p ∷ ps) last (is, some, later) all = space_stops kind p.spac
 pub spaced_stand_apart : SpacedStandApart
 spaced_stand_apart [] last spaced all = all
 spaced_stand_apart (p ∷ ps) last (is, some, later) all = (is, spaced_stop p.kind ps last later all, spaced_stand_apart ps last later all)
-
-pub numbers_are_small : NumbersAreSmall
-numbers_are_small text at t is e = rw (next_spelling text at t is) (is.is_token.number e)

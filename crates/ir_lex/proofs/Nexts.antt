@@ -4,6 +4,8 @@ use Rattle.std.specs.Prelude.{◌==◌, ◌&&◌, ◌-◌, IfOk, IfSome}
 use Rattle.std.proofs.lemmas.Bool.{eqb-true, and_parts, or_cases, cases_Bool}
 use Rattle.std.proofs.lemmas.List.{take-append-drop, length-take-le, length-append, length-drop, append-nil, drop-drop}
 use Rattle.ir_lex.specs.declared.token.TokenKind.{TokenKind}
+use Rattle.ir_lex.specs.declared.token.TokenKind.TheVariants as kinds
+use Rattle.ir_lex.specs.Numerals.{IsNumber}
 use Rattle.ir_lex.specs.declared.token.Token.{Token}
 use Rattle.ir_lex.specs.declared.token.LexKind.{LexKind}
 use Rattle.ir_lex.specs.declared.token.LexFault.{LexFault}
@@ -225,3 +227,8 @@ pub found_within : (text : List ℕ) (at : ℕ) (r : Result (Option Token) LexFa
 found_within text at (Err f) e = tt
 found_within text at (Ok None) e = tt
 found_within text at (Ok (Some t)) e = (next_within text at t (next_found text at t e)).within
+
+pub found_number : (text : List ℕ) (at : ℕ) (r : Result (Option Token) LexFault) → next_of text at ≡ r → IfOk r (λ o. IfSome o (λ t. t.kind ≡ kinds.Number → IsNumber (spelling_of text t)))
+found_number text at (Err f) e = tt
+found_number text at (Ok None) e = tt
+found_number text at (Ok (Some t)) e = λ kind. let is = next_found text at t e in rw (next_spelling text at t is) (is.is_token.number kind)

@@ -3,8 +3,8 @@ use Rattle.std.proofs.Common.{ℕ, suc, List, [], ◌∷◌, length, refl, arith
 use Rattle.std.specs.Prelude.{codes}
 use Rattle.ir_lex.specs.Numerals.{nought, decimal, octal, hexadecimal, plain, plus, minus}
 use Rattle.ir_lex.specs.Examples.{Kinds, Gaps, Refused, Numbers}
-use Rattle.ir_lex.specs.Scanner.{gap_len, next_of}
-use Rattle.ir_lex.proofs.Lists.{LexesAs, tokens_within, lexed}
+use Rattle.ir_lex.specs.Scanner.{gap_len, next_of, tokens_within}
+use Rattle.ir_lex.proofs.Lists.{LexesAs, lexed}
 
 -- the tokens of a text
 here : (text : List ℕ) → LexesAs text 0 (tokens_within (suc (length text)) text 0)

@@ -1,5 +1,6 @@
 use super::*;
 use std::test::Fail;
+use text_forms::{FaultKind, Symbol};
 
 fn token(kind: TokenKind, from: usize, to: usize) -> Result<Option<Token>, LexFault> {
     Ok(Some(Token { kind, from, to }))
@@ -106,4 +107,50 @@ fn tokens_of_many_bytes(rt: HostRuntime) -> Result<(), Fail> {
     let comment = long(&rt, b"//", 65_537)?;
     assert_eq!(rt; next_token(&comment, 0), Ok(None));
     Ok(())
+}
+
+#[test]
+fn numbers(rt: HostRuntime) -> Result<(), Fail> {
+    let text = b"-012 +0xA0".as_slice();
+    if let Some(token) = next_token(text, 0)? {
+        if token.kind == TokenKind::Number {
+            let number = number(text, &token);
+            assert_eq!(rt; (number.negative, number.magnitude), (true, 10));
+            assert_eq!(rt; symbol(text, &token), Symbol::Number);
+            return Ok(());
+        }
+    }
+    assert!(rt; false);
+    Ok(())
+}
+
+#[test]
+fn takes_tokens(rt: HostRuntime) -> Result<(), Fail> {
+    let mut cursor = Cursor::new(b".const @k <");
+    assert_eq!(rt; cursor.mark(Symbol::DotConst)?, 0);
+    let name = cursor.name(rt.alloc(), &[Symbol::Global])?;
+    assert_eq!(rt; (name.place, name.text.as_slice()), (7, b"@k".as_slice()));
+    let choice = cursor.choice(&[Symbol::Greater, Symbol::Less])?;
+    assert_eq!(rt; choice, Symbol::Less);
+    Ok(())
+}
+
+#[test]
+fn takes_a_number(rt: HostRuntime) -> Result<(), Fail> {
+    let mut cursor = Cursor::new(b" -0x1f // x");
+    let numeral = cursor.numeral()?;
+    assert_eq!(rt; (numeral.place, numeral.number.magnitude), (1, 31));
+    assert_eq!(rt; (cursor.symbol(), cursor.place()), (Symbol::End, 11));
+    Ok(())
+}
+
+#[test]
+fn stays_at_a_fault(rt: HostRuntime) {
+    let cursor = Cursor::new(b" %x");
+    assert!(rt; cursor.at_any(&[Symbol::Global, Symbol::Local]));
+    assert_eq!(rt; cursor.ahead().spelling(), b"%x".as_slice());
+    let fault = cursor.fault();
+    assert_eq!(rt; (fault.kind, fault.place), (FaultKind::Unexpected, 1));
+    let refusal = cursor.refusal(&[Symbol::Local]);
+    assert_eq!(rt; (refusal.kind, refusal.place), (FaultKind::NotInProfile, 1));
 }
