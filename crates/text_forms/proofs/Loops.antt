@@ -1,8 +1,52 @@
 -- What a loop that reads a list needs: `until` and `up_to`.
-use Rattle.std.proofs.Common.{◌≡◌, ℕ, suc, ◌<◌, ◌≤◌, Bool, true, false, List, [], ◌∷◌, ◌++◌, Result, Ok, Err, refl, sym, ap, subst, ◌∙◌, append_assoc}
-use Rattle.std.specs.Prelude.{nat_le}
-use Rattle.std.proofs.lemmas.List.{append-nil}
-use Rattle.std.proofs.lemmas.Bool.{lt-leb, le-leb}
+--
+-- A reader of `until (symbols.Close ∷ []) f`, where `element` reads one f, is this function and two proof files, in which
+-- `f_element : IsPlain f` is `record { element = record { some = refl; decided = refl }; own = refl }` under `unfolding` f.
+--
+--   fn list(cursor: &mut Cursor, alloc: Global) -> Result<Listing<T>, ReadError>
+--       ensures { Gives result cursor.new (read (until (symbols.Close ∷ []) f) cursor.old) }
+--   {
+--       let mut members = Listing::new(alloc);
+--       'each: while !cursor.at(Symbol::Close) {
+--           members.push(element(cursor, alloc)?)?;
+--       }
+--       cursor.bump();
+--       Ok(members)
+--   }
+--
+--   invariant-each l = with_front l.members (read (until (symbols.Close ∷ []) f) l.cursor) ≡ read (until (symbols.Close ∷ []) f) l.fn.cursor
+--   decreases-each l = length l.cursor
+--
+--   returns-in_err-element c =
+--       let p = err_from_is_err_and c.from_residual.result c.from_residual.ensures.1 in
+--       rw (p.1, p.2) (fails_with (symbols.Close ∷ []) f f_element c.each.members c.each.cursor c.element.new.cursor (read (until (symbols.Close ∷ []) f) c.args.cursor.now) c.in_err-element.field-0.0 (sym c.each-test.ensures) c.in_err-element.ensures c.each.invariant)
+--   each-smaller c = shorter f f_element.element 0 c.each.cursor c.in_ok-element.field-0 c.element.new.cursor c.in_ok-element.ensures
+--   each-preserved c = rw c.in_ok-push.ensures (goes_on (symbols.Close ∷ []) f f_element c.each.members c.each.cursor c.in_ok-element.field-0 c.element.new.cursor (read (until (symbols.Close ∷ []) f) c.args.cursor.now) (sym c.each-test.ensures) c.in_ok-element.ensures c.each.invariant)
+--   returns c = rw c.bump.ensures (is_done (symbols.Close ∷ []) f f_element c.each.members c.each.cursor (read (until (symbols.Close ∷ []) f) c.args.cursor.now) (sym c.each-test.ensures) c.each.invariant)
+--
+-- Of `up_to 256 (symbols.Close ∷ []) f` the loop begins with a test, where `begins` is whether an f begins here, and the
+-- invariant counts the members; `unfolding` f stands above the answers that speak of `begins f`.
+--
+--           if passes_limit(members.len(), 256, begins(cursor)) {
+--               return Err(ReadError::Fault(cursor.too_many()));
+--           }
+--
+--   invariant-each l = with_front l.members (read (up_to_from (length l.members) 256 (symbols.Close ∷ []) f) l.cursor) ≡ read (up_to 256 (symbols.Close ∷ []) f) l.fn.cursor
+--
+--   past : nat_le 256 (length c.each.members) && at (begins f) c.each.cursor ≡ true
+--   past = rw (← c.len.ensures, ← c.begins.ensures) (sym c.passes_limit.ensures ∙ c.if-passes_limit.true)
+--   fits : the same ≡ false, with c.if-passes_limit.false
+--
+--   returns-then-passes_limit c = rw c.too_many.ensures (too_many 256 (symbols.Close ∷ []) f f_element (length c.each.members) c.each.members c.each.cursor TOTAL past (sym c.each-test.ensures) c.each.invariant)
+--   returns-in_err-element c = .. (fails_up_to 256 (symbols.Close ∷ []) f f_element (length c.each.members) c.each.members c.each.cursor c.element.new.cursor TOTAL c.in_err-element.field-0.0 fits (sym c.each-test.ensures) c.in_err-element.ensures c.each.invariant)
+--   each-preserved c = rw c.in_ok-push.ensures (goes_on_counted 256 (symbols.Close ∷ []) f f_element c.each.members c.each.cursor c.in_ok-element.field-0 c.element.new.cursor TOTAL fits (sym c.each-test.ensures) c.in_ok-element.ensures c.each.invariant)
+--   returns c = rw c.bump.ensures (is_done_up_to 256 (symbols.Close ∷ []) f f_element (length c.each.members) c.each.members c.each.cursor TOTAL (sym c.each-test.ensures) c.each.invariant)
+--
+-- Where a list has a state of its own, the lemmas of `Lists` serve in the same way: `goes_on_by`, `is_done_by`, `fails_by` and
+-- `close_fails_by`, with k the meaning of the whole list as a function of what is still to be read.
+use Rattle.std.proofs.Common.{◌≡◌, ℕ, suc, Bool, true, false, List, [], ◌∷◌, ◌++◌, length, Result, Ok, Err, refl, sym, ap, subst, ◌∙◌, arith, append_assoc}
+use Rattle.std.specs.Prelude.{nat_le, ◌&&◌}
+use Rattle.std.proofs.lemmas.List.{append-nil, length-append}
 use Rattle.text_forms.specs.declared.symbol.Symbol.{Symbol}
 use Rattle.text_forms.specs.declared.fault.Fault.{Fault}
 use Rattle.text_forms.specs.declared.fault.ReadError.{ReadError}
@@ -13,7 +57,7 @@ use Rattle.text_forms.specs.Begins.{begins, steady}
 use Rattle.text_forms.specs.Reading.{◌>>=◌, token_at, read_from, read}
 use Rattle.text_forms.specs.Answers.{Gives, GivesAll, kept, with_front}
 use Rattle.text_forms.proofs.Tests.{both_true, false_not}
-use Rattle.text_forms.proofs.Lists.{kept_twice, steady_read, IsElement, began, past_read, past_found, goes_on_by, is_done_by, fails_by}
+use Rattle.text_forms.proofs.Lists.{kept_twice, steady_read, IsElement, fits_read, passes_read, goes_on_by, is_done_by, fails_by}
 
 token_here : (xs : List Symbol) (ts : List Tok) → at xs ts ≡ true → token_at xs ts ≡ Ok (first ts, rest_of ts)
 token_here xs ts here = rw here refl
@@ -70,20 +114,19 @@ module _ {A : Type 0} (n : ℕ) (xs : List Symbol) (f : Form A) (el : IsPlain f)
   unfolded_up_to : (k : ℕ) (front : List A) (ts : List Tok) (total : Result (List A × List Tok) Fault) → with_front front (read (up_to_from k n xs f) ts) ≡ total → kept (λ (x : List A × Tok). front ++ x.0) (read (limited k) ts) ≡ total
   unfolded_up_to k front ts total so_far = sym (kept_twice (λ (ys : List A). front ++ ys) (λ (x : List A × Tok). x.0) (read (limited k) ts)) ∙ so_far
 
-  -- an element within the limit
-  within_limit : (k : ℕ) (ts : List Tok) → k < n → read_from (within f (nat_le n k)) (first ts).place ts ≡ read f ts
-  within_limit k ts lt = rw (lt-leb n k lt) (steady_read f el.own (first ts).place 0 ts)
-
-  -- an element past the limit, where none begins
-  past_limit : (k : ℕ) (ts : List Tok) → n ≤ k → at (begins f) ts ≡ false → read_from (within f (nat_le n k)) (first ts).place ts ≡ read f ts
-  past_limit k ts le off = rw (le-leb n k le) (past_read f (first ts).place ts off ∙ steady_read f el.own (first ts).place 0 ts)
-
-  pub goes_on_up_to : (k : ℕ) (front : List A) (ts : List Tok) (a : A) (rest : List Tok) (total : Result (List A × List Tok) Fault) → k < n → at xs ts ≡ false → read f ts ≡ Ok (a, rest)
+  pub goes_on_up_to : (k : ℕ) (front : List A) (ts : List Tok) (a : A) (rest : List Tok) (total : Result (List A × List Tok) Fault) → nat_le n k && at (begins f) ts ≡ false → at xs ts ≡ false → read f ts ≡ Ok (a, rest)
       → with_front front (read (up_to_from k n xs f) ts) ≡ total → with_front (front ++ a ∷ []) (read (up_to_from (suc k) n xs f) rest) ≡ total
-  goes_on_up_to k front ts a rest total lt off one so_far =
+  goes_on_up_to k front ts a rest total fits off one so_far =
       kept_twice (λ (ys : List A). (front ++ a ∷ []) ++ ys) (λ (x : List A × Tok). x.0) (read (limited (suc k)) rest)
       ∙ goes_on_by one_flag (λ k. nat_le n k) (λ k (_ : A). suc k) (within f) xs (token xs) (within_element f el.element) 0 k (λ (x : List A × Tok). front ++ x.0) (λ (x : List A × Tok). (front ++ a ∷ []) ++ x.0) ts a rest total
-      (λ ys b. sym (append_assoc front (a ∷ []) ys)) off (within_limit k ts lt ∙ one) (unfolded_up_to k front ts total so_far)
+      (λ ys b. sym (append_assoc front (a ∷ []) ys)) off (fits_read f el.own (nat_le n k) (first ts).place ts fits ∙ one) (unfolded_up_to k front ts total so_far)
+
+  -- the same where as many stand before as were read
+  pub goes_on_counted : (front : List A) (ts : List Tok) (a : A) (rest : List Tok) (total : Result (List A × List Tok) Fault) → nat_le n (length front) && at (begins f) ts ≡ false → at xs ts ≡ false → read f ts ≡ Ok (a, rest)
+      → with_front front (read (up_to_from (length front) n xs f) ts) ≡ total → with_front (front ++ a ∷ []) (read (up_to_from (length (front ++ a ∷ [])) n xs f) rest) ≡ total
+  goes_on_counted front ts a rest total fits off one so_far =
+      let more : suc (length front) ≡ length (front ++ a ∷ []) = omega (arith, length-append front (a ∷ [])) in
+      subst (λ (k : ℕ). with_front (front ++ a ∷ []) (read (up_to_from k n xs f) rest) ≡ total) more (goes_on_up_to (length front) front ts a rest total fits off one so_far)
 
   pub is_done_up_to : (k : ℕ) (front : List A) (ts : List Tok) (total : Result (List A × List Tok) Fault) → at xs ts ≡ true → with_front front (read (up_to_from k n xs f) ts) ≡ total → total ≡ Ok (front, rest_of ts)
   is_done_up_to k front ts total here so_far =
@@ -95,23 +138,11 @@ module _ {A : Type 0} (n : ℕ) (xs : List Symbol) (f : Form A) (el : IsPlain f)
   fails_at k front ts rest total e off one so_far =
       fails_by one_flag (λ k. nat_le n k) (λ k (_ : A). suc k) (within f) xs (token xs) (within_element f el.element) 0 k (λ (x : List A × Tok). front ++ x.0) ts rest total e off one (unfolded_up_to k front ts total so_far)
 
-  pub fails_up_to : (k : ℕ) (front : List A) (ts rest : List Tok) (total : Result (List A × List Tok) Fault) (e : ReadError) → k < n → at xs ts ≡ false → Gives {A = A} (Err e) rest (read f ts)
+  pub fails_up_to : (k : ℕ) (front : List A) (ts rest : List Tok) (total : Result (List A × List Tok) Fault) (e : ReadError) → nat_le n k && at (begins f) ts ≡ false → at xs ts ≡ false → Gives {A = A} (Err e) rest (read f ts)
       → with_front front (read (up_to_from k n xs f) ts) ≡ total → Gives {A = List A} (Err e) rest total
-  fails_up_to k front ts rest total e lt off one so_far =
-      fails_at k front ts rest total e off (subst (λ (r : Result (A × List Tok) Fault). Gives {A = A} (Err e) rest r) (sym (within_limit k ts lt)) one) so_far
+  fails_up_to k front ts rest total e fits off one so_far =
+      fails_at k front ts rest total e off (subst (λ (r : Result (A × List Tok) Fault). Gives {A = A} (Err e) rest r) (sym (fits_read f el.own (nat_le n k) (first ts).place ts fits)) one) so_far
 
-  -- past the limit: no element begins, and the reader of an element fails
-  pub fails_past : (k : ℕ) (front : List A) (ts rest : List Tok) (total : Result (List A × List Tok) Fault) (e : ReadError) → n ≤ k → at (begins f) ts ≡ false → at xs ts ≡ false → Gives {A = A} (Err e) rest (read f ts)
-      → with_front front (read (up_to_from k n xs f) ts) ≡ total → Gives {A = List A} (Err e) rest total
-  fails_past k front ts rest total e le none off one so_far =
-      fails_at k front ts rest total e off (subst (λ (r : Result (A × List Tok) Fault). Gives {A = A} (Err e) rest r) (sym (past_limit k ts le none)) one) so_far
-
-  -- past the limit: an element begins
-  pub too_many : (k : ℕ) (front : List A) (ts : List Tok) (total : Result (List A × List Tok) Fault) → n ≤ k → at (begins f) ts ≡ true → at xs ts ≡ false → with_front front (read (up_to_from k n xs f) ts) ≡ total → total ≡ Err (too_many_at (first ts).place)
-  too_many k front ts total le here off so_far =
-      let one : read_from (within f (nat_le n k)) (first ts).place ts ≡ Err (too_many_at (first ts).place) = rw (le-leb n k le) (past_found f (first ts).place ts here) in
-      fails_at k front ts ts total (errors.Fault (too_many_at (first ts).place)) off one so_far
-
-  -- past the limit the reader of an element does not answer one where none begins
-  pub none_read : (ts : List Tok) (a : A) (rest : List Tok) → at (begins f) ts ≡ false → read f ts ≡ Ok (a, rest) → ⊥
-  none_read ts a rest off one = absurd (let here : at (begins f) ts ≡ true = began f el.element 0 ts a rest one in let bad : true ≡ false = sym here ∙ off in cc)
+  -- an element begins past the limit
+  pub too_many : (k : ℕ) (front : List A) (ts : List Tok) (total : Result (List A × List Tok) Fault) → nat_le n k && at (begins f) ts ≡ true → at xs ts ≡ false → with_front front (read (up_to_from k n xs f) ts) ≡ total → total ≡ Err (too_many_at (first ts).place)
+  too_many k front ts total past off so_far = fails_at k front ts ts total (errors.Fault (too_many_at (first ts).place)) off (passes_read f (nat_le n k) (first ts).place ts past) so_far
