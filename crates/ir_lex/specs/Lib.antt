@@ -1,0 +1,17 @@
+pub mod Bytes
+pub mod Spellings
+pub mod Numerals
+pub mod Lexemes
+pub mod Gaps
+pub mod Texts
+pub mod Printed
+pub mod Laws
+pub mod WordTable
+pub mod Seen
+pub mod WordGroups
+pub mod Scanner
+pub mod Walk
+pub mod TokenForms
+pub mod Examples
+pub mod SeenLaws
+pub mod SeenExamples
