@@ -1,0 +1,4 @@
+pub mod Values
+pub mod Step
+pub mod Run
+pub mod Examples

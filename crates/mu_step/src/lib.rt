@@ -1,0 +1,6 @@
+//! The machine.
+#![tactic(auto)]
+
+mod line;
+
+pub use line::{Ending, Line, Lines, Note};
