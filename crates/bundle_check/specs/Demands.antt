@@ -40,10 +40,6 @@ abbrev pub first_of : List Demand → Option CheckFault
 first_of [] = None
 first_of (d ∷ ds) = if d.met then first_of ds else Some (faults.At d.kind d.place)
 
--- the first unmet demand is that of the list
-abbrev pub FirstIsOfTheList : Type 0
-FirstIsOfTheList = (ds : Demands) → first_unmet ds ≡ first_of (listed ds)
-
 -- what a checking function answers: what was made where all demands are met, else the first fault; want of memory says nothing
 abbrev pub Judges : {A : Type 0} → Demands → A → Result A CheckFault → Type 0
 Judges ds made (Ok x) = (first_unmet ds ≡ None) × (x ≡ made)
@@ -55,3 +51,9 @@ abbrev pub Meets : {A : Type 0} → Demands → Result A CheckFault → Type 0
 Meets ds (Ok x) = first_unmet ds ≡ None
 Meets ds (Err faults.Memory) = Unit {0}
 Meets ds (Err (faults.At kind place)) = first_unmet ds ≡ Some (faults.At kind place)
+
+-- a refusal is for want of memory
+abbrev pub IsMemory : {A : Type 0} → Result A CheckFault → Type 0
+IsMemory (Ok x) = Unit {0}
+IsMemory (Err faults.Memory) = Unit {0}
+IsMemory (Err (faults.At kind place)) = ⊥

@@ -4,4 +4,5 @@ pub mod Names
 pub mod Checking
 pub mod Functions
 pub mod Numbering
+pub mod Laws
 pub mod Examples
