@@ -48,15 +48,25 @@ some_there : {T : Type 0} (o : Option T) → is_some o ≡ true → (x : T) × (
 some_there (Some x) h = (x, refl)
 some_there None h = cc
 
+abbrev Has : List Item → Names → Results → Values → List ℕ → Operand → Type 0
+Has bundle names rs values slots o = (value_of bundle values o ≡ Some (source_value slots (source_of names rs o))) × SourceFits (length slots) (source_of names rs o)
+
+local_value : (bundle : List Item) (names : Names) (rs : Results) (values : Values) (slots : List ℕ) (n : Name) (k : ℕ) → Holds rs values slots → found rs n.text ≡ Some k → Has bundle names rs values slots (operands.Local n)
+local_value bundle names rs values slots n k holds e = rw e (holds.same n.text k e, holds.there n.text k e)
+
+global_value : (bundle : List Item) (names : Names) (rs : Results) (values : Values) (slots : List ℕ) (n : Name) (v : ℕ) → Begins names bundle → found names n.text ≡ Some (meanings.Constant v) → Has bundle names rs values slots (operands.Global n)
+global_value bundle names rs values slots n v begins e =
+    let there : found (names_of bundle) n.text ≡ Some (meanings.Constant v) = rw begins.whole (found_front names begins.rest n.text (meanings.Constant v) e) in
+    rw (there, e) (refl, tt)
+
 -- an operand that meets its demands has the value of its source
-pub operand_value : (bundle : List Item) (names : Names) (rs : Results) (values : Values) (slots : List ℕ) (o : Operand) → Begins names bundle → Holds rs values slots → first_unmet (operand_demands names rs o) ≡ None →
-    (value_of bundle values o ≡ Some (source_value slots (source_of names rs o))) × SourceFits (length slots) (source_of names rs o)
+pub operand_value : (bundle : List Item) (names : Names) (rs : Results) (values : Values) (slots : List ℕ) (o : Operand) → Begins names bundle → Holds rs values slots → first_unmet (operand_demands names rs o) ≡ None → Has bundle names rs values slots o
 operand_value bundle names rs values slots (operands.Local n) begins holds met =
     let r = some_there (found rs n.text) (test_met _ _ _ met) in
-    rw r.1 (holds.same n.text r.0 r.1, holds.there n.text r.0 r.1)
+    local_value bundle names rs values slots n r.0 holds r.1
 operand_value bundle names rs values slots (operands.Global n) begins holds met =
     let r = some_constant (found names n.text) (test_met _ _ _ met) in
-    rw (begins.whole, found_front names begins.rest n.text (meanings.Constant r.0) r.1, r.1) (refl, tt)
+    global_value bundle names rs values slots n r.0 begins r.1
 
 -- an instruction that meets its demands gives the value of its code
 pub op_value : (bundle : List Item) (names : Names) (rs : Results) (values : Values) (slots : List ℕ) (o : Op) → Begins names bundle → Holds rs values slots → first_unmet (op_demands names rs o) ≡ None →
@@ -72,13 +82,34 @@ one_more : (old : Option ℕ) (b : Bool) (rs : Results) (values : Values) (slots
     (k < length (slots ++ v ∷ [])) × ((if b then Some v else found values x) ≡ Some (get_or (slots ++ v ∷ []) k 0))
 one_more (Some j) true rs values slots n x v k holds absent same e none some =
     let is : found rs n ≡ Some j = subst (λ (y : List ℕ). found rs y ≡ Some j) (same refl) e in
-    absurd (let wrong : None {T = ℕ} ≡ Some j = sym absent ∙ is in cc)
+    let wrong : ⊥ = cc in
+    absurd wrong
 one_more (Some j) false rs values slots n x v k holds absent same e none some =
     let is : j ≡ k = some j refl in
     let there : k < length slots = subst (λ (i : ℕ). i < length slots) is (holds.there x j e) in
     (omega (arith, length-append slots (v ∷ [])), subst (λ (i : ℕ). found values x ≡ Some (get_or slots i 0)) is (holds.same x j e) ∙ ap (λ (w : ℕ). Some w) (sym (get_or_append_left slots (v ∷ []) 0 k there)))
 one_more None true rs values slots n x v k holds absent same e none some =
-    let is : length rs ≡ k = (let h = none refl in cc) in
+    let here : Some (length rs) ≡ Some k = none refl in
+    let is : length rs ≡ k = cc in
     let last : length slots ≡ k = holds.long ∙ is in
     (omega (arith, length-append slots (v ∷ [])), ap (λ (w : ℕ). Some w) (subst (λ (i : ℕ). v ≡ get_or (slots ++ v ∷ []) i 0) last (sym (get_or-append_seam slots v [] 0))))
-one_more None false rs values slots n x v k holds absent same e none some = absurd (let h = none refl in cc)
+one_more None false rs values slots n x v k holds absent same e none some =
+    let here : None ≡ Some k = none refl in
+    let wrong : ⊥ = cc in
+    absurd wrong
+
+-- what is found behind one more result
+more : (rs : Results) (values : Values) (slots : List ℕ) (n : Name) (v : ℕ) → Holds rs values slots → found rs n.text ≡ None → (x : List ℕ) (k : ℕ) → found (with_result rs n) x ≡ Some k →
+    (k < length (slots ++ v ∷ [])) × (found (bound values n v) x ≡ Some (get_or (slots ++ v ∷ []) k 0))
+more rs values slots n v holds absent x k e =
+    one_more (found rs x) (bytes_eq x n.text) rs values slots n.text x v k holds absent (bytes_eq-Decides x n.text).0 refl
+      (λ none. sym (found_behind rs ((n.text, length rs) ∷ []) x none) ∙ e)
+      (λ j there. let found_there : found (with_result rs n) x ≡ Some j = found_front rs ((n.text, length rs) ∷ []) x j there in cc)
+
+-- one more result, with its value in the next slot
+pub holds_more : (rs : Results) (values : Values) (slots : List ℕ) (n : Name) (v : ℕ) → Holds rs values slots → found rs n.text ≡ None → Holds (with_result rs n) (bound values n v) (slots ++ v ∷ [])
+holds_more rs values slots n v holds absent = record {
+  long = omega (arith, holds.long, length-append slots (v ∷ []), length-append rs ((n.text, length rs) ∷ []));
+  there = λ x k e. (more rs values slots n v holds absent x k e).0;
+  same = λ x k e. (more rs values slots n v holds absent x k e).1;
+}
