@@ -1,0 +1,14 @@
+pub mod Numbers
+pub mod Tokens
+pub mod Forms
+pub mod Derives
+pub mod Begins
+pub mod Reading
+pub mod Limits
+pub mod Passing
+pub mod First
+pub mod Texts
+pub mod Answers
+pub mod Laws
+pub mod Sample
+pub mod Examples
