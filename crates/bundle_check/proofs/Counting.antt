@@ -79,7 +79,7 @@ each_numbered names k (items.Funcdef d ∷ is) zero f met e =
     let same : d ≡ f = cc in
     let absent : found names d.name.text ≡ None = none_there _ (test_met _ _ _ (both_met _ _ (both_met _ _ met).0).0) in
     subst (λ (g : Funcdef). found (names ++ names_from k (items.Funcdef d ∷ is)) g.name.text ≡ Some (meanings.Function (k + 0))) same
-      (found_behind names (names_from k (items.Funcdef d ∷ is)) d.name.text absent ∙ rw (reflexive d.name.text) (ap (λ (n : ℕ). Some (meanings.Function n)) (omega arith)))
+    (found_behind names (names_from k (items.Funcdef d ∷ is)) d.name.text absent ∙ rw (reflexive d.name.text) (ap (λ (n : ℕ). Some (meanings.Function n)) (omega arith)))
 each_numbered names k (items.Funcdef d ∷ is) (suc m) f met e =
     let next : k + 1 + m ≡ k + suc m = omega arith in
     goes_on names k (items.Funcdef d) is f.name.text _ (subst (λ (n : ℕ). found ((names ++ named k (items.Funcdef d) ∷ []) ++ names_from (k + 1) is) f.name.text ≡ Some (meanings.Function n)) next (each_numbered (names ++ named k (items.Funcdef d) ∷ []) (k + 1) is m f (both_met _ _ met).1 e))

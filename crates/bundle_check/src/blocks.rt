@@ -19,7 +19,11 @@ fn op(names: &Scope<Meaning>, results: &Scope<u32>, op: &Op) -> Result<Code, Che
     ensures { Judges (op_demands names.now results.now op.now) (code_of names.now results.now op.now) result }
 {
     match op {
-        Op::Add { of_type, left, right } => {
+        Op::Add {
+            of_type,
+            left,
+            right,
+        } => {
             written(names, of_type)?;
             let left = operand(names, results, left)?;
             let right = operand(names, results, right)?;
@@ -40,7 +44,12 @@ fn add_result(alloc: Global, results: &mut Scope<u32>, name: &Name) -> Result<()
 }
 
 /// An instruction. Its result has a number behind it.
-fn inst(alloc: Global, names: &Scope<Meaning>, results: &mut Scope<u32>, inst: &Inst) -> Result<Code, CheckFault>
+fn inst(
+    alloc: Global,
+    names: &Scope<Meaning>,
+    results: &mut Scope<u32>,
+    inst: &Inst,
+) -> Result<Code, CheckFault>
     ensures judged { Judges (inst_demands names.now results.old inst.now) (code_of names.now results.old inst.now.op) result }
     ensures ok { OnOk result (results.new ≡ with_result results.old inst.now.result) }
 {
@@ -51,7 +60,12 @@ fn inst(alloc: Global, names: &Scope<Meaning>, results: &mut Scope<u32>, inst: &
 }
 
 /// The instructions of a block, and what is returned behind them.
-fn insts(alloc: Global, names: &Scope<Meaning>, insts: &[Inst], returns: &Operand) -> Result<Function, CheckFault>
+fn insts(
+    alloc: Global,
+    names: &Scope<Meaning>,
+    insts: &[Inst],
+    returns: &Operand,
+) -> Result<Function, CheckFault>
     ensures { Judges (insts_demands names.now [] insts.now returns.now) (record { code = codes_of names.now [] insts.now; returns = source_of names.now (with_results [] insts.now) returns.now }) result }
 {
     let mut results = Scope::new(alloc);

@@ -40,7 +40,11 @@ impl Checked {
     ghost use Rattle.bundle_check.specs.Numbering.{numbered};
 
     /// A bundle with what its check made.
-    pub(crate) fn new(bundle: Bundle, names: Scope<Meaning>, functions: Listing<Function>) -> Checked
+    pub(crate) fn new(
+        bundle: Bundle,
+        names: Scope<Meaning>,
+        functions: Listing<Function>,
+    ) -> Checked
         requires met { first_unmet (check_demands bundle) ≡ None }
         requires names { names ≡ names_of bundle }
         requires functions { functions ≡ numbered bundle }

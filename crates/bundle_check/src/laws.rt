@@ -4,17 +4,14 @@ ghost use Rattle.bundle_check.specs.Laws.{FirstIsOfTheList, NumberIsOfTheName, N
 /// The first unmet of some demands is the first in their list that is not met.
 pub fn first_is_of_the_list()
     ensures { FirstIsOfTheList }
-{
-}
+{}
 
 /// The number of a name is that of a function with this name.
 pub fn number_is_of_the_name()
     ensures { NumberIsOfTheName }
-{
-}
+{}
 
 /// In a bundle that meets its demands each function is found by its name.
 pub fn name_has_its_number()
     ensures { NameHasItsNumber }
-{
-}
+{}

@@ -85,7 +85,11 @@ pub fn literal(literal: &Literal) -> Result<u64, CheckFault>
 }
 
 /// Where an operand's value comes from.
-pub fn operand(names: &Scope<Meaning>, results: &Scope<u32>, operand: &Operand) -> Result<Source, CheckFault>
+pub fn operand(
+    names: &Scope<Meaning>,
+    results: &Scope<u32>,
+    operand: &Operand,
+) -> Result<Source, CheckFault>
     ensures { Judges (operand_demands names.now results.now operand.now) (source_of names.now results.now operand.now) result }
 {
     match operand {

@@ -103,8 +103,8 @@ more : (rs : Results) (values : Values) (slots : List ℕ) (n : Name) (v : ℕ) 
     (k < length (slots ++ v ∷ [])) × (found (bound values n v) x ≡ Some (get_or (slots ++ v ∷ []) k 0))
 more rs values slots n v holds absent x k e =
     one_more (found rs x) (bytes_eq x n.text) rs values slots n.text x v k holds absent (bytes_eq-Decides x n.text).0 refl
-      (λ none. sym (found_behind rs ((n.text, length rs) ∷ []) x none) ∙ e)
-      (λ j there. let found_there : found (with_result rs n) x ≡ Some j = found_front rs ((n.text, length rs) ∷ []) x j there in cc)
+    (λ none. sym (found_behind rs ((n.text, length rs) ∷ []) x none) ∙ e)
+    (λ j there. let found_there : found (with_result rs n) x ≡ Some j = found_front rs ((n.text, length rs) ∷ []) x j there in cc)
 
 -- one more result, with its value in the next slot
 pub holds_more : (rs : Results) (values : Values) (slots : List ℕ) (n : Name) (v : ℕ) → Holds rs values slots → found rs n.text ≡ None → Holds (with_result rs n) (bound values n v) (slots ++ v ∷ [])

@@ -58,7 +58,7 @@ block_runs (i ∷ is) bundle b names rs front values slots begins holds parts me
     let place : length (front ++ i ∷ []) ≡ length front + 1 = length-append front (i ∷ []) in
     let next = block_runs is bundle b names (with_result rs i.result) (front ++ i ∷ []) (bound values i.result v) (slots ++ v ∷ []) begins (holds_more rs values slots i.result v holds absent) more m.1 in
     goes bundle b (suc (length is)) (record { at = length front; values = values }) i v _ (rw (← parts) (at_seam front i is)) gives.0
-      (subst (λ (k : ℕ). run_from bundle b (suc (length is)) (record { at = k; values = bound values i.result v }) ≡ returns_value (source_value (slots_after (slots ++ v ∷ []) (codes_of names (with_result rs i.result) is)) (source_of names (with_results (with_result rs i.result) is) b.returns))) place next)
+    (subst (λ (k : ℕ). run_from bundle b (suc (length is)) (record { at = k; values = bound values i.result v }) ≡ returns_value (source_value (slots_after (slots ++ v ∷ []) (codes_of names (with_result rs i.result) is)) (source_of names (with_results (with_result rs i.result) is) b.returns))) place next)
 
 -- sources are those of earlier results
 block_fits : (is : List Inst) (bundle : List Item) (names : Names) (rs : Results) (values : Values) (slots : List ℕ) (returns : Operand) →
@@ -74,9 +74,10 @@ block_fits (i ∷ is) bundle names rs values slots returns begins holds met =
     let v = code_value slots (code_of names rs i.op) in
     let long : length (slots ++ v ∷ []) ≡ length slots + 1 = length-append slots (v ∷ []) in
     let rest = block_fits is bundle names (with_result rs i.result) (bound values i.result v) (slots ++ v ∷ []) returns begins (holds_more rs values slots i.result v holds absent) m.1 in
-    let count : length (slots ++ v ∷ []) + length (codes_of names (with_result rs i.result) is) ≡ length slots + suc (length (codes_of names (with_result rs i.result) is)) = omega (arith, long) in
-    ((gives.1, subst (λ (k : ℕ). CodesFit k (codes_of names (with_result rs i.result) is)) long rest.0),
-     subst (λ (k : ℕ). SourceFits k (source_of names (with_results (with_result rs i.result) is) returns)) count rest.1)
+    let count : length (slots ++ v ∷ []) + length (codes_of names (with_result rs i.result) is) ≡ length slots + suc (length (codes_of names (with_result rs i.result) is)) = omega (arith, long) in (
+      (gives.1, subst (λ (k : ℕ). CodesFit k (codes_of names (with_result rs i.result) is)) long rest.0),
+      subst (λ (k : ℕ). SourceFits k (source_of names (with_results (with_result rs i.result) is) returns)) count rest.1,
+    )
 
 -- a function of some items, with the names before it
 pub record Stands (names : Names) (k : ℕ) (is : List Item) (m : ℕ) (d : Funcdef) : Type 0 where

@@ -4,5 +4,4 @@ ghost use Rattle.mu_step.specs.Run.{NeverStuck};
 /// The run of a function of a checked bundle comes to its ending.
 pub fn never_stuck()
     ensures { NeverStuck }
-{
-}
+{}
