@@ -1,0 +1,10 @@
+pub mod Bytes
+pub mod Spellings
+pub mod Numerals
+pub mod Lexemes
+pub mod Gaps
+pub mod Texts
+pub mod Printed
+pub mod Laws
+pub mod Scanner
+pub mod Examples
