@@ -4,3 +4,10 @@ pub mod Reading
 pub mod Unlimited
 pub mod Alike
 pub mod Living
+pub mod Passing
+pub mod Completing
+pub mod Beyond
+pub mod Stops
+pub mod Stopping
+pub mod Ends
+pub mod Whole

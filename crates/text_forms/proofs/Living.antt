@@ -17,7 +17,7 @@ use Rattle.text_forms.proofs.Unlimited.{decides_unlimited, begins_unlimited, der
 
 -- ---- some tokens that are derived
 
-pub Derived : {A : Type 0} → Form A → Type 0
+unfoldable pub Derived : {A : Type 0} → Form A → Type 0
 Derived {A} f = (ts : List Tok) × (a : A) × Derives f ts a
 
 pub some_derived : {A : Type 0} (f : Form A) → derives_some f ≡ true → Derived (unlimited f)
@@ -71,7 +71,7 @@ none_derived (lines fl flags step f xs g s) dec e = let p = none_derived g (list
 
 -- ---- completions of a form as it stands
 
-pub Completes : {A : Type 0} → Form A → List Tok → Type 0
+unfoldable pub Completes : {A : Type 0} → Form A → List Tok → Type 0
 Completes {A} f ts = (more : List Tok) × (a : A) × Derives f (ts ++ more) a
 
 -- a first part, and tokens that the second can go on from
@@ -114,6 +114,10 @@ full_is f ts c = c
 pub is_full : {A : Type 0} (f : Form A) (ts : List Tok) → LiveInFull f ts → Completes (widen f) ts
 unfolding Completes
 is_full f ts c = c
+
+pub some_left : {A : Type 0} (f : Form A) → derives_some f ≡ true → Completes (unlimited f) []
+unfolding Derived Completes
+some_left f e = some_derived f e
 
 pub some_live : {A : Type 0} (f : Form A) → derives_some f ≡ true → Live f []
 unfolding Derived
