@@ -11,3 +11,8 @@ pub mod Stops
 pub mod Stopping
 pub mod Ends
 pub mod Whole
+pub mod Lists
+pub mod Loops
+pub mod Again
+pub mod Usual
+pub mod Judged

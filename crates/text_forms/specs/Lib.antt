@@ -9,6 +9,7 @@ pub mod Passing
 pub mod First
 pub mod Texts
 pub mod Answers
+pub mod Places
 pub mod Laws
 pub mod Sample
 pub mod Examples

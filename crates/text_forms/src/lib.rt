@@ -3,9 +3,14 @@
 #![tactic(auto)]
 
 mod fault;
+mod laws;
 mod listing;
 mod symbol;
 
 pub use fault::{Fault, FaultKind, ReadError};
+pub use laws::{
+    Grammar, derived_again, each_text_is_judged, first_fault_is_one, grammar_is_unambiguous,
+    until_is_each, up_to_is_at_most, what_is_read_is_derived, what_is_refused_is_the_first_fault,
+};
 pub use listing::Listing;
 pub use symbol::Symbol;

@@ -1,0 +1,5 @@
+use Rattle.text_forms.proofs.Judged.{has_one_fault}
+use Rattle.text_forms.proofs.laws.first_fault_is_one.Goals as goal
+
+pub returns : goal.returns
+returns g c = has_one_fault g.G.Grammar.form
