@@ -1,8 +1,7 @@
 -- What a bundle must meet, in text order. Each name is defined before it is used and once in its space: global names are one
 -- space, the results of a block are one. A type, a signature or a constant is asked where one must stand, and no number is below -2^63.
 use Rattle.std.specs.Prelude.{ℕ, ◌^◌, Bool, true, false, List, [], ◌∷◌, ◌++◌, Option, Some, None, is_some, not, ◌&&◌, nat_lt, length}
-use Rattle.ir_text.specs.declared.tree.Name.{Name}
-use Rattle.ir_text.specs.declared.tree.Numeral.{Numeral}
+use Rattle.ir_lex.specs.declared.name.Name.{Name}
 use Rattle.ir_text.specs.declared.tree.Literal.{Literal}
 use Rattle.ir_text.specs.declared.tree.Literal.TheVariants as literals
 use Rattle.ir_text.specs.declared.tree.Operand.{Operand}
@@ -61,7 +60,7 @@ signature_demands names n = demand n.place NotBuilt (is_signature (found names n
 
 -- -2^63 or more
 abbrev pub literal_demands : Literal → Demands
-literal_demands (literals.Number n) = demand n.place NotBuilt (not (n.negative && nat_lt (2 ^ 63) n.magnitude))
+literal_demands (literals.Number n) = demand n.place NotBuilt (not (n.number.negative && nat_lt (2 ^ 63) n.number.magnitude))
 
 -- an earlier result of the block, or an earlier constant
 abbrev pub operand_demands : Names → Results → Operand → Demands

@@ -1,7 +1,7 @@
 -- Global names are one space: what the names of a bundle stand for, in text order.
 use Rattle.std.specs.Prelude.{ℕ, ◌+◌, Bool, List, [], ◌∷◌, Option, Some, None, if◌then◌else◌}
 use Rattle.std.specs.Str.{bytes_eq}
-use Rattle.ir_text.specs.declared.tree.Name.{Name}
+use Rattle.ir_lex.specs.declared.name.Name.{Name}
 use Rattle.ir_text.specs.declared.tree.Item.{Item}
 use Rattle.ir_text.specs.declared.tree.Item.TheVariants as items
 use Rattle.bundle_check.specs.declared.meaning.Meaning.{Meaning}

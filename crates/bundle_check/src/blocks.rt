@@ -10,7 +10,8 @@ use crate::fault::CheckFault;
 use crate::meaning::Meaning;
 use crate::operands::{fresh, operand, written};
 use crate::scope::Scope;
-use ir_text::{Block, Inst, Name, Op, Operand};
+use ir_lex::Name;
+use ir_text::{Block, Inst, Op, Operand};
 use std::alloc::Global;
 use text_forms::Listing;
 

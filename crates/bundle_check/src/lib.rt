@@ -17,3 +17,6 @@ pub use fault::{CheckFault, CheckKind, EntryFault};
 pub use items::check;
 pub use laws::{first_is_of_the_list, name_has_its_number, number_is_of_the_name};
 pub use meaning::Meaning;
+
+#[cfg(test)]
+mod tests;

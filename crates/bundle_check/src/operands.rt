@@ -1,7 +1,7 @@
 //! Names, numbers and operands: one function for each demand.
 ghost use Rattle.std.specs.Prelude.{◌≡◌, None, OnOk};
 ghost use Rattle.bundle_check.specs.Demands.{Judges, Meets};
-ghost use Rattle.bundle_check.specs.Constants.{value_of_literal, value_of_numeral};
+ghost use Rattle.bundle_check.specs.Constants.{value_of_literal, value_of_number};
 ghost use Rattle.bundle_check.specs.Names.{found};
 ghost use Rattle.bundle_check.specs.Checking.{fresh, type_demands, signature_demands, literal_demands, operand_demands};
 ghost use Rattle.bundle_check.specs.Numbering.{source_of};
@@ -12,7 +12,8 @@ use crate::code::Source;
 use crate::fault::{CheckFault, CheckKind};
 use crate::meaning::Meaning;
 use crate::scope::Scope;
-use ir_text::{Literal, Name, Numeral, Operand};
+use ir_lex::{Name, Number};
+use ir_text::{Literal, Operand};
 
 /// The fault at a place.
 fn not_built(place: usize) -> CheckFault
@@ -59,11 +60,11 @@ pub fn signature(names: &Scope<Meaning>, name: &Name) -> Result<(), CheckFault>
 const VALUES: u128 = 1 << 64;
 
 /// The value of a number modulo 2^64.
-fn wrapped(numeral: &Numeral) -> u64
-    ensures { result ≡ value_of_numeral numeral.now }
+fn wrapped(number: Number) -> u64
+    ensures { result ≡ value_of_number number }
 {
-    let magnitude = numeral.magnitude % VALUES;
-    if numeral.negative {
+    let magnitude = number.magnitude % VALUES;
+    if number.negative {
         ((VALUES - magnitude) % VALUES) as u64
     } else {
         magnitude as u64
@@ -76,10 +77,11 @@ pub fn literal(literal: &Literal) -> Result<u64, CheckFault>
 {
     match literal {
         Literal::Number(numeral) => {
-            if numeral.negative && numeral.magnitude > VALUES / 2 {
+            let number = numeral.number;
+            if number.negative && number.magnitude > VALUES / 2 {
                 return Err(not_built(numeral.place));
             }
-            Ok(wrapped(numeral))
+            Ok(wrapped(number))
         }
     }
 }

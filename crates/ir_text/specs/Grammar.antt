@@ -11,13 +11,12 @@
 --   value   = L | G
 --
 -- G is a global name, L a local name, N a number; words and marks stand for themselves.
-use Rattle.std.specs.Prelude.{ℕ, List, [], ◌∷◌}
+use Rattle.std.specs.Prelude.{List, [], ◌∷◌}
 use Rattle.text_forms.specs.declared.symbol.Symbol.{Symbol}
 use Rattle.text_forms.specs.declared.symbol.Symbol.TheVariants as symbols
-use Rattle.text_forms.specs.Tokens.{Tok}
-use Rattle.text_forms.specs.Forms.{Form, token, both, on, made, lines, no_flag, until, ◌▸◌, ◌◂◌}
-use Rattle.ir_text.specs.declared.tree.Name.{Name}
-use Rattle.ir_text.specs.declared.tree.Numeral.{Numeral}
+use Rattle.text_forms.specs.Forms.{Form, both, on, made, lines, no_flag, until, ◌▸◌, ◌◂◌}
+use Rattle.ir_lex.specs.declared.name.Name.{Name}
+use Rattle.ir_lex.specs.TokenForms.{mark, name, numeral}
 use Rattle.ir_text.specs.declared.tree.TypeForm.{TypeForm}
 use Rattle.ir_text.specs.declared.tree.TypeForm.TheVariants as types
 use Rattle.ir_text.specs.declared.tree.Literal.{Literal}
@@ -34,14 +33,6 @@ use Rattle.ir_text.specs.declared.tree.Block.{Block}
 use Rattle.ir_text.specs.declared.tree.Funcdef.{Funcdef}
 use Rattle.ir_text.specs.declared.tree.Item.{Item}
 use Rattle.ir_text.specs.declared.tree.Item.TheVariants as items
-use Rattle.ir_text.specs.Numerals.{numeral_of}
-
--- a word, a mark or a directive, with its place
-unfoldable pub mark : Symbol → Form ℕ
-mark s = made (λ t. t.place) (token (s ∷ []))
-
-abbrev pub name_of : Tok → Name
-name_of t = record { place = t.place; text = t.spelling }
 
 -- G: the names of common instructions are global names like any others
 abbrev pub globals : List Symbol
@@ -50,15 +41,11 @@ globals =
     ∷ symbols.UvmGetThreadlocal ∷ symbols.UvmFutexWait ∷ symbols.UvmFutexWake ∷ symbols.UvmFutexWaitTimeout ∷ []
 
 unfoldable pub global : Form Name
-global = made name_of (token globals)
+global = name globals
 
 -- L
 unfoldable pub local : Form Name
-local = made name_of (token (symbols.Local ∷ []))
-
--- N
-unfoldable pub numeral : Form Numeral
-numeral = made numeral_of (token (symbols.Number ∷ []))
+local = name (symbols.Local ∷ [])
 
 -- < G >
 unfoldable pub bracketed : Form Name

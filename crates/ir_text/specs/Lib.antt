@@ -1,4 +1,4 @@
-pub mod Numerals
 pub mod Grammar
 pub mod NotBuilt
 pub mod Grammatical
+pub mod Examples

@@ -2,22 +2,8 @@
 //!
 //! A place is the offset of a token's first byte.
 
+use ir_lex::{Name, Numeral};
 use text_forms::Listing;
-
-/// A name as it is written, with the sign before it: `@main` or `%x`.
-#[derive(Drop)]
-pub struct Name {
-    pub place: usize,
-    pub text: Listing<u8>,
-}
-
-/// A number as it is written. It is negative only where the magnitude is not 0.
-#[derive(Clone, Copy, Debug, PartialEq, Eq)]
-pub struct Numeral {
-    pub place: usize,
-    pub negative: bool,
-    pub magnitude: u128,
-}
 
 /// What a `.typedef` gives a name to.
 #[derive(Drop)]

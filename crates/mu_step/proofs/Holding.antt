@@ -4,7 +4,7 @@ use Rattle.std.specs.Str.{bytes_eq}
 use Rattle.std.proofs.lemmas.Slice.Eq.{bytes_eq-Decides}
 use Rattle.std.proofs.lemmas.List.{get_or_append_left}
 use Rattle.std.proofs.Math.Seq.{get_or-append_seam}
-use Rattle.ir_text.specs.declared.tree.Name.{Name}
+use Rattle.ir_lex.specs.declared.name.Name.{Name}
 use Rattle.ir_text.specs.declared.tree.Operand.{Operand}
 use Rattle.ir_text.specs.declared.tree.Operand.TheVariants as operands
 use Rattle.ir_text.specs.declared.tree.Op.{Op}

@@ -1,11 +1,11 @@
 -- Worked examples.
 use Rattle.std.specs.Prelude.{◌≡◌, ℕ, ◌+◌, ◌-◌, ◌^◌, List, [], ◌∷◌, Option, Some, None, codes, refl}
-use Rattle.ir_text.specs.declared.tree.Name.{Name}
+use Rattle.ir_lex.specs.declared.name.Name.{Name}
 use Rattle.ir_text.specs.declared.tree.Operand.TheVariants as operands
 use Rattle.ir_text.specs.declared.tree.Op.TheVariants as ops
 use Rattle.ir_text.specs.declared.tree.Inst.{Inst}
 use Rattle.ir_text.specs.declared.tree.Block.{Block}
-use Rattle.bundle_check.specs.Examples.{adds}
+use Rattle.ir_text.specs.Examples.{adds}
 use Rattle.mu_step.specs.declared.line.Note.TheVariants.{Returned}
 use Rattle.mu_step.specs.declared.line.Line.TheVariants as lines
 use Rattle.mu_step.specs.declared.line.Ending.TheVariants.{Done}

@@ -1,6 +1,6 @@
 -- The abstract machine that runs a block. Thread 0 alone runs, on stack 0, whose only frame is the block's function.
 use Rattle.std.specs.Prelude.{ℕ, ◌+◌, List, [], ◌∷◌, Option, Some, None, slice_get}
-use Rattle.ir_text.specs.declared.tree.Name.{Name}
+use Rattle.ir_lex.specs.declared.name.Name.{Name}
 use Rattle.ir_text.specs.declared.tree.Inst.{Inst}
 use Rattle.ir_text.specs.declared.tree.Block.{Block}
 use Rattle.ir_text.specs.declared.tree.Item.{Item}
