@@ -1,13 +1,12 @@
 -- What is derived begins as the form says.
-use Rattle.std.proofs.Common.{◌≡◌, Bool, true, false, cond, List, [], ◌∷◌, ◌++◌, Option, Some, None, refl, sym, ap, subst, ◌∙◌, inl, inr}
-use Rattle.std.specs.Prelude.{◌⊎◌, ◌&&◌, ◌||◌, not}
+use Rattle.std.proofs.Common.{◌≡◌, Bool, true, false, cond, List, [], ◌∷◌, ◌++◌, refl, sym, subst, ◌∙◌, inl, inr}
+use Rattle.std.specs.Prelude.{◌&&◌, not}
 use Rattle.text_forms.specs.declared.symbol.Symbol.{Symbol}
-use Rattle.text_forms.specs.Numbers.{number_of, same}
 use Rattle.text_forms.specs.Tokens.{Tok, has, at}
-use Rattle.text_forms.specs.Forms.{Flags, every, Form, token, nothing, never, both, on, made, left_out, past, many, lines}
-use Rattle.text_forms.specs.Derives.{Each, Elements, Derives}
+use Rattle.text_forms.specs.Forms.{Flags, Form, token, nothing, never, both, on, made, left_out, past, many, lines}
+use Rattle.text_forms.specs.Derives.{Elements, Derives}
 use Rattle.text_forms.specs.Begins.{apart, only, union, gather, empties, begins, goes_on, derives_some, decides}
-use Rattle.text_forms.proofs.Tests.{and_true, and_false, not_true, false_not, or_false, or_left, or_right, is_false, has_append, has_none, has_left, has_right, only_has, apart_has, apart_not, gathered, every_at, clear, nil_append, cons_parts, union_none}
+use Rattle.text_forms.proofs.Tests.{and_true, and_false, not_true, false_not, or_false, or_left, or_right, is_false, has_left, has_right, only_has, apart_not, gathered, every_at, clear, nil_append, cons_parts, union_none}
 
 -- ---- no tokens
 

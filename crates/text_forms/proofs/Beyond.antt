@@ -1,16 +1,15 @@
 -- Reading finds an element past a limit, at its first token.
-use Rattle.std.proofs.Common.{◌≡◌, ℕ, zero, suc, ◌+◌, ◌<◌, ◌≤◌, Bool, true, false, cond, List, [], ◌∷◌, ◌++◌, length, Result, Ok, Err, refl, sym, ap, subst, ◌∙◌, arith, inl, inr, append_assoc}
-use Rattle.std.specs.Prelude.{◌⊎◌, ◌&&◌, not}
-use Rattle.text_forms.specs.declared.symbol.Symbol.{Symbol}
+use Rattle.std.proofs.Common.{◌≡◌, ℕ, suc, ◌<◌, true, List, [], ◌∷◌, ◌++◌, length, Ok, Err, refl, sym, ap, subst, ◌∙◌, arith, inl, inr, append_assoc}
+use Rattle.std.specs.Prelude.{◌⊎◌}
 use Rattle.text_forms.specs.declared.fault.Fault.{Fault}
-use Rattle.text_forms.specs.Tokens.{Tok, has, at, first, too_many_at}
-use Rattle.text_forms.specs.Forms.{Flags, Form, token, nothing, never, both, on, made, left_out, past, many, lines}
-use Rattle.text_forms.specs.Derives.{Elements, Derives}
-use Rattle.text_forms.specs.Begins.{apart, begins, goes_on, decides}
-use Rattle.text_forms.specs.Reading.{◌>>=◌, elements, read_from}
+use Rattle.text_forms.specs.Tokens.{Tok, at, first, too_many_at}
+use Rattle.text_forms.specs.Forms.{Form, token, nothing, never, both, on, made, left_out, past, many, lines}
+use Rattle.text_forms.specs.Derives.{Derives}
+use Rattle.text_forms.specs.Begins.{begins, goes_on, decides}
+use Rattle.text_forms.specs.Reading.{read_from}
 use Rattle.text_forms.specs.Passing.{Leads, Passes}
-use Rattle.text_forms.proofs.Tests.{and_true, false_not, clear}
-use Rattle.text_forms.proofs.Beginnings.{at_only, at_apart, list_parts, IsList}
+use Rattle.text_forms.proofs.Tests.{and_true, false_not}
+use Rattle.text_forms.proofs.Beginnings.{at_only, at_apart, list_parts}
 use Rattle.text_forms.proofs.Reading.{run}
 use Rattle.text_forms.proofs.Passing.{leads_first, passes_first, leads_some}
 use Rattle.text_forms.proofs.Completing.{complete, over, run_fails, run_close_fails, not_closed}
@@ -52,9 +51,9 @@ leads_read (many f) dec p us l z = absurd l
 leads_read (lines fl flags step f xs g s) dec p us (before, l) z =
     let k = list_parts fl flags step f xs g s dec in
     over flags step f xs g p k (λ y n u a w d c. complete (f y) (k.element y) n u a w d c) (λ _ v. Leads g v) z
-      (λ s v m. inl (at_only xs (begins g) (v ++ z) k.closing_only (leads_first g k.closing v m z))) (too_many_at p)
-      (λ s v m h lt. run_close_fails flags step f xs g p m s (v ++ z) (too_many_at p) lt (at_only xs (begins g) (v ++ z) k.closing_only (leads_first g k.closing v h z)) (leads_read g k.closing p v h z))
-      before s us (suc (length (us ++ z))) l (omega arith)
+    (λ s v m. inl (at_only xs (begins g) (v ++ z) k.closing_only (leads_first g k.closing v m z))) (too_many_at p)
+    (λ s v m h lt. run_close_fails flags step f xs g p m s (v ++ z) (too_many_at p) lt (at_only xs (begins g) (v ++ z) k.closing_only (leads_first g k.closing v h z)) (leads_read g k.closing p v h z))
+    before s us (suc (length (us ++ z))) l (omega arith)
 
 pub passes_read : {A : Type 0} (f : Form A) → decides f ≡ true → (p : ℕ) (ts us : List Tok) → Passes f ts us → (z : List Tok) → read_from f p (ts ++ (us ++ z)) ≡ Err (too_many_at (first us).place)
 passes_read (token xs) dec p ts us l z = absurd l
@@ -81,20 +80,20 @@ passes_read (many f) dec p ts us l z = absurd l
 passes_read (lines fl flags step f xs g s) dec p ts us (before, l) z =
     let k = list_parts fl flags step f xs g s dec in
     over flags step f xs g p k (λ y n u a w d c. complete (f y) (k.element y) n u a w d c) (λ s v. ((v ≡ []) × Leads (f (flags s)) us) ⊎ (Passes (f (flags s)) v us ⊎ Passes g v us)) (us ++ z)
-      (λ s v m. elim m [
-        | inl h ↦ inr (subst (λ (w : List Tok). at (begins (f (flags s))) (w ++ (us ++ z)) ≡ true) (sym h.0) (leads_first (f (flags s)) (k.element (flags s)) us h.1 z))
-        | inr (inl h) ↦ inr (passes_first (f (flags s)) (k.element (flags s)) v us h z)
-        | inr (inr h) ↦ inl (at_only xs (begins g) (v ++ (us ++ z)) k.closing_only (passes_first g k.closing v us h z))
-      ]) (too_many_at (first us).place)
-      (λ s v m h lt. elim h [
-        | inl c ↦
-            let starts = leads_first (f (flags s)) (k.element (flags s)) us c.1 z in
-            let place : (first (us ++ z)).place ≡ (first us).place = ap (λ (t : Tok). t.place) (first_front us z (leads_some (f (flags s)) (k.element (flags s)) us c.1)) in
-            let fails : read_from (f (flags s)) (first (us ++ z)).place (us ++ z) ≡ Err (too_many_at (first us).place) = leads_read (f (flags s)) (k.element (flags s)) _ us c.1 z ∙ ap (λ (n : ℕ). Err (too_many_at n)) place in
-            let shorter : length (us ++ z) < m = subst (λ (w : List Tok). length (w ++ (us ++ z)) < m) c.0 lt in
-            subst (λ (w : List Tok). run flags step f xs g p m s (w ++ (us ++ z)) ≡ Err (too_many_at (first us).place)) (sym c.0)
-              (run_fails flags step f xs g p m s (us ++ z) _ shorter (not_closed flags step f xs g p k (flags s) (us ++ z) starts) fails)
-        | inr (inl c) ↦ run_fails flags step f xs g p m s (v ++ (us ++ z)) _ lt (not_closed flags step f xs g p k (flags s) (v ++ (us ++ z)) (passes_first (f (flags s)) (k.element (flags s)) v us c z)) (passes_read (f (flags s)) (k.element (flags s)) _ v us c z)
-        | inr (inr c) ↦ run_close_fails flags step f xs g p m s (v ++ (us ++ z)) _ lt (at_only xs (begins g) (v ++ (us ++ z)) k.closing_only (passes_first g k.closing v us c z)) (passes_read g k.closing p v us c z)
-      ])
-      before s ts (suc (length (ts ++ (us ++ z)))) l (omega arith)
+    (λ s v m. elim m [
+      | inl h ↦ inr (subst (λ (w : List Tok). at (begins (f (flags s))) (w ++ (us ++ z)) ≡ true) (sym h.0) (leads_first (f (flags s)) (k.element (flags s)) us h.1 z))
+      | inr (inl h) ↦ inr (passes_first (f (flags s)) (k.element (flags s)) v us h z)
+      | inr (inr h) ↦ inl (at_only xs (begins g) (v ++ (us ++ z)) k.closing_only (passes_first g k.closing v us h z))
+    ]) (too_many_at (first us).place)
+    (λ s v m h lt. elim h [
+      | inl c ↦
+          let starts = leads_first (f (flags s)) (k.element (flags s)) us c.1 z in
+          let place : (first (us ++ z)).place ≡ (first us).place = ap (λ (t : Tok). t.place) (first_front us z (leads_some (f (flags s)) (k.element (flags s)) us c.1)) in
+          let fails : read_from (f (flags s)) (first (us ++ z)).place (us ++ z) ≡ Err (too_many_at (first us).place) = leads_read (f (flags s)) (k.element (flags s)) _ us c.1 z ∙ ap (λ (n : ℕ). Err (too_many_at n)) place in
+          let shorter : length (us ++ z) < m = subst (λ (w : List Tok). length (w ++ (us ++ z)) < m) c.0 lt in
+          subst (λ (w : List Tok). run flags step f xs g p m s (w ++ (us ++ z)) ≡ Err (too_many_at (first us).place)) (sym c.0)
+          (run_fails flags step f xs g p m s (us ++ z) _ shorter (not_closed flags step f xs g p k (flags s) (us ++ z) starts) fails)
+      | inr (inl c) ↦ run_fails flags step f xs g p m s (v ++ (us ++ z)) _ lt (not_closed flags step f xs g p k (flags s) (v ++ (us ++ z)) (passes_first (f (flags s)) (k.element (flags s)) v us c z)) (passes_read (f (flags s)) (k.element (flags s)) _ v us c z)
+      | inr (inr c) ↦ run_close_fails flags step f xs g p m s (v ++ (us ++ z)) _ lt (at_only xs (begins g) (v ++ (us ++ z)) k.closing_only (passes_first g k.closing v us c z)) (passes_read g k.closing p v us c z)
+    ])
+    before s ts (suc (length (ts ++ (us ++ z)))) l (omega arith)

@@ -1,19 +1,17 @@
 -- What a form derives is read, where what follows does not go on with it; and an element past a limit is found.
-use Rattle.std.proofs.Common.{◌≡◌, ℕ, zero, suc, ◌+◌, ◌<◌, ◌≤◌, Bool, true, false, cond, List, [], ◌∷◌, ◌++◌, length, Result, Ok, Err, refl, sym, ap, subst, ◌∙◌, arith, inl, inr, append_assoc}
-use Rattle.std.specs.Prelude.{◌⊎◌, ◌&&◌, not}
+use Rattle.std.proofs.Common.{◌≡◌, ℕ, zero, suc, ◌<◌, true, false, cond, List, [], ◌∷◌, ◌++◌, length, Ok, Err, refl, sym, ap, subst, ◌∙◌, arith, inl, inr, append_assoc}
+use Rattle.std.specs.Prelude.{◌⊎◌}
 use Rattle.std.proofs.lemmas.List.{length-append}
 use Rattle.text_forms.specs.declared.symbol.Symbol.{Symbol}
 use Rattle.text_forms.specs.declared.fault.Fault.{Fault}
-use Rattle.text_forms.specs.Tokens.{Tok, has, at, first, rest_of, too_many_at}
-use Rattle.text_forms.specs.Forms.{Flags, Form, token, nothing, never, both, on, made, left_out, past, many, lines}
+use Rattle.text_forms.specs.Tokens.{Tok, at, first}
+use Rattle.text_forms.specs.Forms.{Form, token, nothing, never, both, on, made, left_out, past, many, lines}
 use Rattle.text_forms.specs.Derives.{Elements, Derives}
-use Rattle.text_forms.specs.Begins.{apart, only, union, empties, begins, goes_on, derives_some, decides}
-use Rattle.text_forms.specs.Reading.{◌>>=◌, token_at, elements, read_from}
-use Rattle.text_forms.specs.Passing.{Leads, Passes}
-use Rattle.text_forms.proofs.Tests.{and_true, not_true, false_not, apart_has, at_ahead, clear}
+use Rattle.text_forms.specs.Begins.{apart, empties, begins, goes_on, decides}
+use Rattle.text_forms.specs.Reading.{elements, read_from}
+use Rattle.text_forms.proofs.Tests.{and_true, not_true, false_not, clear}
 use Rattle.text_forms.proofs.Beginnings.{nonempty, empty_derived, first_derived, at_derived, at_only, at_apart, at_none, clear_union, clear_chosen, clear_second, list_parts, IsList}
 use Rattle.text_forms.proofs.Reading.{run}
-use Rattle.text_forms.proofs.Passing.{leads_first, passes_first}
 
 module _ {A B S F : Type 0} (flags : S → F) (step : S → A → S) (f : F → Form A) (xs : List Symbol) (g : Form B) (p : ℕ) where
   run_closes : (m : ℕ) (s : S) (ts rest : List Tok) (b : B) → length ts < m → at xs ts ≡ true → read_from g p ts ≡ Ok (b, rest) → run flags step f xs g p m s ts ≡ Ok (([], b), rest)
@@ -62,7 +60,7 @@ module _ {A B S F : Type 0} (flags : S → F) (step : S → A → S) (f : F → 
   follow l R k h [] s w d = h s w d
   follow l R k h (x ∷ before) s w (u, v, q, d, e) =
       inr (subst (λ (ts : List Tok). at (begins (f (flags s))) ts ≡ true) (sym (ap (λ (ts : List Tok). ts ++ k) q ∙ append_assoc u v k))
-        (at_derived (f (flags s)) (l.element (flags s)) u x (v ++ k) (λ none. nonempty (f (flags s)) u x (l.element_some (flags s)) none d) d))
+      (at_derived (f (flags s)) (l.element (flags s)) u x (v ++ k) (λ none. nonempty (f (flags s)) u x (l.element_some (flags s)) none d) d))
 
   -- reading goes over elements to what stands behind them
   pub over : IsList f xs g → ((y : F) (n : ℕ) (u : List Tok) (a : A) (k : List Tok) → Derives (f y) u a → clear (goes_on (f y)) k ≡ true → read_from (f y) n (u ++ k) ≡ Ok (a, k))
@@ -76,8 +74,8 @@ module _ {A B S F : Type 0} (flags : S → F) (step : S → A → S) (f : F → 
       let next = follow l R k h before (step s x) v rest in
       let ends : clear (goes_on (f (flags s))) (v ++ k) ≡ true = elim next [ inl c ↦ clear_closing l (flags s) (v ++ k) c | inr c ↦ clear_before l (flags s) (flags (step s x)) (v ++ k) c ] in
       rw regroup (run_fails_later m s u (v ++ k) x e (subst (λ (ts : List Tok). length ts < m) regroup lt)
-        (not_closed l (flags s) (u ++ (v ++ k)) (at_derived (f (flags s)) (l.element (flags s)) u x (v ++ k) some d))
-        (ih (flags s) _ u x (v ++ k) d ends) some (λ n less. over l ih R k h e last before (step s x) v n rest less))
+      (not_closed l (flags s) (u ++ (v ++ k)) (at_derived (f (flags s)) (l.element (flags s)) u x (v ++ k) some d))
+      (ih (flags s) _ u x (v ++ k) d ends) some (λ n less. over l ih R k h e last before (step s x) v n rest less))
 
   complete_each : IsList f xs g → ((y : F) (n : ℕ) (u : List Tok) (a : A) (k : List Tok) → Derives (f y) u a → clear (goes_on (f y)) k ≡ true → read_from (f y) n (u ++ k) ≡ Ok (a, k))
       → (b : B) (k : List Tok) → ((v : List Tok) → Derives g v b → read_from g p (v ++ k) ≡ Ok (b, k))
@@ -90,8 +88,8 @@ module _ {A B S F : Type 0} (flags : S → F) (step : S → A → S) (f : F → 
       let next = follow l (λ _ v. Derives g v b) k (λ s v dg. inl (at_only xs (begins g) (v ++ k) l.closing_only (at_derived g l.closing v b k (λ none. nonempty g v b l.closing_some none dg) dg))) others (step s x) v rest in
       let ends : clear (goes_on (f (flags s))) (v ++ k) ≡ true = elim next [ inl c ↦ clear_closing l (flags s) (v ++ k) c | inr c ↦ clear_before l (flags s) (flags (step s x)) (v ++ k) c ] in
       rw regroup (run_next m s u (v ++ k) x others b k (subst (λ (ts : List Tok). length ts < m) regroup lt)
-        (not_closed l (flags s) (u ++ (v ++ k)) (at_derived (f (flags s)) (l.element (flags s)) u x (v ++ k) some d))
-        (ih (flags s) _ u x (v ++ k) d ends) some (λ n less. complete_each l ih b k ihg others (step s x) v rest n less))
+      (not_closed l (flags s) (u ++ (v ++ k)) (at_derived (f (flags s)) (l.element (flags s)) u x (v ++ k) some d))
+      (ih (flags s) _ u x (v ++ k) d ends) some (λ n less. complete_each l ih b k ihg others (step s x) v rest n less))
 
 pub complete : {A : Type 0} (f : Form A) → decides f ≡ true → (p : ℕ) (y : List Tok) (b : A) (k : List Tok) → Derives f y b → clear (goes_on f) k ≡ true → read_from f p (y ++ k) ≡ Ok (b, k)
 complete (token xs) dec p y b k d c = rw (d.0, d.1) refl

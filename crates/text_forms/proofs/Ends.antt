@@ -1,10 +1,9 @@
 -- A whole text ends with its one last token, and its places rise.
-use Rattle.std.proofs.Common.{◌≡◌, ℕ, zero, suc, ◌+◌, ◌<◌, ◌≤◌, Bool, true, false, cond, List, [], ◌∷◌, ◌++◌, length, Result, Ok, Err, refl, sym, ap, subst, ◌∙◌, arith, inl, inr, append_assoc}
-use Rattle.std.specs.Prelude.{◌⊎◌, ◌&&◌, not}
+use Rattle.std.proofs.Common.{◌≡◌, ◌<◌, true, false, List, [], ◌∷◌, ◌++◌, length, sym, ap, subst, ◌∙◌, arith, inl, inr, append_assoc}
 use Rattle.text_forms.specs.declared.symbol.Symbol.{Symbol}
 use Rattle.text_forms.specs.Numbers.{same}
-use Rattle.text_forms.specs.Tokens.{Tok, has, first, last_symbols, is_last, IsText}
-use Rattle.text_forms.specs.Forms.{Flags, every, Form, token, nothing, never, both, on, made, left_out, past, many, lines}
+use Rattle.text_forms.specs.Tokens.{Tok, has, last_symbols, is_last, IsText}
+use Rattle.text_forms.specs.Forms.{Form, token, nothing, never, both, on, made, left_out, past, many, lines}
 use Rattle.text_forms.specs.Derives.{Each, Elements, Derives}
 use Rattle.text_forms.specs.Begins.{steady}
 use Rattle.text_forms.specs.Limits.{unlimited}
@@ -122,8 +121,11 @@ pub record Ended (ts : List Tok) : Type 0 where
 
 ended_behind : (ts u v : List Tok) → ts ≡ u ++ v → Ordinary u → Ended v → Ended ts
 ended_behind ts u v p o e = record {
-  front = u ++ e.front; last = e.last; parts = p ∙ ap (λ (l : List Tok). u ++ l) e.parts ∙ sym (append_assoc u e.front (e.last ∷ []));
-  ordinary = ordinary_append u e.front o e.ordinary; is = e.is;
+  front = u ++ e.front;
+  last = e.last;
+  parts = p ∙ ap (λ (l : List Tok). u ++ l) e.parts ∙ sym (append_assoc u e.front (e.last ∷ []));
+  ordinary = ordinary_append u e.front o e.ordinary;
+  is = e.is;
 }
 
 ended_elements : {A S F : Type 0} (flags : S → F) (step : S → A → S) (P : F → List Tok → A → Type 0) (Q : S → List Tok → Type 0) → ((y : F) (ts : List Tok) (a : A) → P y ts a → Ordinary ts) → ((s : S) (v : List Tok) → Q s v → Ended v)
@@ -133,7 +135,7 @@ ended_elements flags step P Q h k (x ∷ xs) s ts (u, v, p, d, e) = ended_behind
 
 pub ended_derived : {A : Type 0} (f : Form A) → ends f ≡ true → (ts : List Tok) (a : A) → Derives f ts a → Ended ts
 unfolding Ordinary
-ended_derived (token xs) o ts a d = record { front = []; last = a; parts = d.0; ordinary = tt; is = all_last_has xs a.symbol o d.1; }
+ended_derived (token xs) o ts a d = record { front = []; last = a; parts = d.0; ordinary = tt; is = all_last_has xs a.symbol o d.1 }
 ended_derived (nothing b) o ts a d = absurd cc
 ended_derived never o ts a d = absurd d
 ended_derived (both f g) o ts a (u, v, p, df, dg) =

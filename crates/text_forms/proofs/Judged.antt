@@ -1,8 +1,8 @@
 -- The laws of every grammar, from the theorems on whole texts.
-use Rattle.std.proofs.Common.{◌≡◌, Result, Ok, Err, List, refl, sym, subst, ◌∙◌, inl, inr}
-use Rattle.std.specs.Prelude.{◌⊎◌, ◌↔◌}
+use Rattle.std.proofs.Common.{◌≡◌, Result, Ok, Err, List, refl, sym, ◌∙◌, inl, inr}
+use Rattle.std.specs.Prelude.{◌⊎◌}
 use Rattle.text_forms.specs.declared.fault.Fault.{Fault}
-use Rattle.text_forms.specs.Tokens.{Tok, IsText}
+use Rattle.text_forms.specs.Tokens.{Tok}
 use Rattle.text_forms.specs.Forms.{Form}
 use Rattle.text_forms.specs.Derives.{Derives}
 use Rattle.text_forms.specs.Reading.{whole}

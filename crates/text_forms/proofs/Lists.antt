@@ -1,15 +1,14 @@
 -- Reading a list one element at a time, as a loop does: lists with a state.
-use Rattle.std.proofs.Common.{◌≡◌, ℕ, zero, suc, ◌+◌, ◌<◌, ◌≤◌, Bool, true, false, cond, List, [], ◌∷◌, ◌++◌, length, Result, Ok, Err, refl, sym, ap, subst, ◌∙◌, arith, append_assoc}
-use Rattle.std.specs.Prelude.{◌&&◌}
-use Rattle.std.proofs.lemmas.List.{append-nil, length-append}
+use Rattle.std.proofs.Common.{◌≡◌, ℕ, zero, suc, ◌<◌, Bool, true, false, cond, List, [], ◌∷◌, ◌++◌, length, Result, Ok, Err, refl, sym, ap, subst, ◌∙◌, arith}
+use Rattle.std.proofs.lemmas.List.{length-append}
 use Rattle.text_forms.specs.declared.symbol.Symbol.{Symbol}
 use Rattle.text_forms.specs.declared.fault.Fault.{Fault}
 use Rattle.text_forms.specs.declared.fault.ReadError.{ReadError}
 use Rattle.text_forms.specs.declared.fault.ReadError.TheVariants as errors
-use Rattle.text_forms.specs.Tokens.{Tok, at, first, rest_of, fault_at, too_many_at}
+use Rattle.text_forms.specs.Tokens.{Tok, at, first, too_many_at}
 use Rattle.text_forms.specs.Forms.{Flags, Form, token, nothing, never, both, on, made, left_out, past, many, lines}
 use Rattle.text_forms.specs.Begins.{empties, begins, decides, steady}
-use Rattle.text_forms.specs.Reading.{◌>>=◌, elements, read_from, read}
+use Rattle.text_forms.specs.Reading.{◌>>=◌, elements, read_from}
 use Rattle.text_forms.specs.Answers.{Gives, kept}
 use Rattle.text_forms.proofs.Tests.{and_true}
 use Rattle.text_forms.proofs.Beginnings.{nonempty, at_derived}
@@ -90,8 +89,8 @@ module _ {A B S F : Type 0} (fl : Flags F) (flags : S → F) (step : S → A →
   enough p (suc n) zero s ts h k = absurd (omega arith)
   enough p (suc n) (suc m) s ts h k =
       cond_same (at xs ts) _ _ _ (bind_same (read_from (f (flags s)) (first ts).place ts) _ _ (λ x e.
-          let lt = shorter (f (flags s)) (el (flags s)) _ ts x.0 x.1 e in
-          ap (λ r. r >>= λ y. Ok ((x.0 ∷ y.0.0, y.0.1), y.1)) (enough p n m (step s x.0) x.1 (omega arith) (omega arith))))
+      let lt = shorter (f (flags s)) (el (flags s)) _ ts x.0 x.1 e in
+      ap (λ r. r >>= λ y. Ok ((x.0 ∷ y.0.0, y.0.1), y.1)) (enough p n m (step s x.0) x.1 (omega arith) (omega arith))))
 
   -- one turn
   pub another : (p : ℕ) (s : S) (ts : List Tok) → at xs ts ≡ false → read_from (lines fl flags step f xs g s) p ts
@@ -99,8 +98,8 @@ module _ {A B S F : Type 0} (fl : Flags F) (flags : S → F) (step : S → A →
   unfolding elements
   another p s ts off =
       rw off (bind_same (read_from (f (flags s)) (first ts).place ts) _ _ (λ x e.
-          let lt = shorter (f (flags s)) (el (flags s)) _ ts x.0 x.1 e in
-          ap (λ r. r >>= λ y. Ok ((x.0 ∷ y.0.0, y.0.1), y.1)) (enough p (length ts) (suc (length x.1)) (step s x.0) x.1 lt (omega arith))))
+      let lt = shorter (f (flags s)) (el (flags s)) _ ts x.0 x.1 e in
+      ap (λ r. r >>= λ y. Ok ((x.0 ∷ y.0.0, y.0.1), y.1)) (enough p (length ts) (suc (length x.1)) (step s x.0) x.1 lt (omega arith))))
 
   pub closed : (p : ℕ) (s : S) (ts : List Tok) → at xs ts ≡ true → read_from (lines fl flags step f xs g s) p ts ≡ (read_from g p ts >>= λ y. Ok (([], y.0), y.1))
   unfolding elements

@@ -1,19 +1,16 @@
 -- What tokens can still become.
-use Rattle.std.proofs.Common.{◌≡◌, ℕ, Bool, true, false, cond, List, [], ◌∷◌, ◌++◌, refl, sym, ap, subst, ◌∙◌, inl, inr, append_assoc}
-use Rattle.std.specs.Prelude.{◌⊎◌, ◌&&◌, ◌||◌}
-use Rattle.std.proofs.lemmas.List.{append-nil}
+use Rattle.std.proofs.Common.{◌≡◌, Bool, true, false, cond, List, [], ◌∷◌, ◌++◌, refl, sym, ◌∙◌, inl, inr, append_assoc}
 use Rattle.std.proofs.Common.{eq-eqb}
 use Rattle.text_forms.specs.declared.symbol.Symbol.{Symbol}
-use Rattle.text_forms.specs.Numbers.{number_of, same}
-use Rattle.text_forms.specs.Tokens.{Tok, has, at}
+use Rattle.text_forms.specs.Numbers.{number_of}
+use Rattle.text_forms.specs.Tokens.{Tok, has}
 use Rattle.text_forms.specs.Forms.{Flags, Form, token, nothing, never, both, on, made, left_out, past, many, lines}
-use Rattle.text_forms.specs.Derives.{Elements, Derives}
+use Rattle.text_forms.specs.Derives.{Derives}
 use Rattle.text_forms.specs.Begins.{empties, begins, derives_some, decides}
 use Rattle.text_forms.specs.Limits.{unlimited, widen, Live, LiveInFull}
-use Rattle.text_forms.specs.Passing.{Leads, Passes}
-use Rattle.text_forms.proofs.Tests.{and_true, or_true, or_left, has_append, has_left, has_right, cons_parts}
-use Rattle.text_forms.proofs.Beginnings.{nonempty, empty_derived, first_derived, at_derived, list_parts, IsList, chosen_has}
-use Rattle.text_forms.proofs.Unlimited.{decides_unlimited, begins_unlimited, derives_unlimited, derives_wide}
+use Rattle.text_forms.proofs.Tests.{and_true, or_true, or_left, has_append}
+use Rattle.text_forms.proofs.Beginnings.{list_parts}
+use Rattle.text_forms.proofs.Unlimited.{derives_wide}
 
 -- ---- some tokens that are derived
 

@@ -1,19 +1,18 @@
 -- What a loop that reads a list needs: `until` and `up_to`.
-use Rattle.std.proofs.Common.{◌≡◌, ℕ, zero, suc, ◌+◌, ◌<◌, ◌≤◌, Bool, true, false, cond, List, [], ◌∷◌, ◌++◌, length, Result, Ok, Err, refl, sym, ap, subst, ◌∙◌, arith, append_assoc}
-use Rattle.std.specs.Prelude.{nat_le}
-use Rattle.std.proofs.lemmas.List.{append-nil}
-use Rattle.std.proofs.lemmas.Bool.{lt-leb, le-leb}
+use Rattle.std.proofs.Common.{◌≡◌, ℕ, suc, Bool, true, false, List, [], ◌∷◌, ◌++◌, length, Result, Ok, Err, refl, sym, ap, subst, ◌∙◌, arith, append_assoc}
+use Rattle.std.specs.Prelude.{nat_le, ◌&&◌}
+use Rattle.std.proofs.lemmas.List.{append-nil, length-append}
 use Rattle.text_forms.specs.declared.symbol.Symbol.{Symbol}
 use Rattle.text_forms.specs.declared.fault.Fault.{Fault}
 use Rattle.text_forms.specs.declared.fault.ReadError.{ReadError}
 use Rattle.text_forms.specs.declared.fault.ReadError.TheVariants as errors
-use Rattle.text_forms.specs.Tokens.{Tok, at, first, rest_of, fault_at, too_many_at}
-use Rattle.text_forms.specs.Forms.{Flags, no_flag, one_flag, Form, token, past, lines, until, within, up_to_from, up_to}
-use Rattle.text_forms.specs.Begins.{empties, begins, decides, steady}
+use Rattle.text_forms.specs.Tokens.{Tok, at, first, rest_of, too_many_at}
+use Rattle.text_forms.specs.Forms.{no_flag, one_flag, Form, token, lines, until, within, up_to_from}
+use Rattle.text_forms.specs.Begins.{begins, steady}
 use Rattle.text_forms.specs.Reading.{◌>>=◌, token_at, read_from, read}
 use Rattle.text_forms.specs.Answers.{Gives, GivesAll, kept, with_front}
 use Rattle.text_forms.proofs.Tests.{both_true, false_not}
-use Rattle.text_forms.proofs.Lists.{kept_twice, steady_read, IsElement, shorter, began, past_read, past_found, goes_on_by, is_done_by, fails_by}
+use Rattle.text_forms.proofs.Lists.{kept_twice, steady_read, IsElement, past_read, past_found, goes_on_by, is_done_by, fails_by}
 
 token_here : (xs : List Symbol) (ts : List Tok) → at xs ts ≡ true → token_at xs ts ≡ Ok (first ts, rest_of ts)
 token_here xs ts here = rw here refl
@@ -36,19 +35,19 @@ module _ {A : Type 0} (xs : List Symbol) (f : Form A) (el : IsPlain f) where
       → with_front front (read (until xs f) ts) ≡ total → with_front (front ++ a ∷ []) (read (until xs f) rest) ≡ total
   goes_on front ts a rest total off one so_far =
       kept_twice (λ (ys : List A). (front ++ a ∷ []) ++ ys) (λ (x : List A × Tok). x.0) (read plain rest)
-        ∙ goes_on_by no_flag (λ (_ : Unit {0}). tt {0}) (λ s _. s) (λ _. f) xs (token xs) (λ _. el.element) 0 (tt {0}) (λ (x : List A × Tok). front ++ x.0) (λ (x : List A × Tok). (front ++ a ∷ []) ++ x.0) ts a rest total
-            (λ ys b. sym (append_assoc front (a ∷ []) ys)) off (steady_read f el.own (first ts).place 0 ts ∙ one) (unfolded front ts total so_far)
+      ∙ goes_on_by no_flag (λ (_ : Unit {0}). tt {0}) (λ s _. s) (λ _. f) xs (token xs) (λ _. el.element) 0 (tt {0}) (λ (x : List A × Tok). front ++ x.0) (λ (x : List A × Tok). (front ++ a ∷ []) ++ x.0) ts a rest total
+      (λ ys b. sym (append_assoc front (a ∷ []) ys)) off (steady_read f el.own (first ts).place 0 ts ∙ one) (unfolded front ts total so_far)
 
   pub is_done : (front : List A) (ts : List Tok) (total : Result (List A × List Tok) Fault) → at xs ts ≡ true → with_front front (read (until xs f) ts) ≡ total → total ≡ Ok (front, rest_of ts)
   is_done front ts total here so_far =
       is_done_by no_flag (λ (_ : Unit {0}). tt {0}) (λ s _. s) (λ _. f) xs (token xs) (λ _. el.element) 0 (tt {0}) (λ (x : List A × Tok). front ++ x.0) ts (first ts) (rest_of ts) total here (token_here xs ts here) (unfolded front ts total so_far)
-        ∙ ap (λ (l : List A). Ok (l, rest_of ts)) (append-nil front)
+      ∙ ap (λ (l : List A). Ok (l, rest_of ts)) (append-nil front)
 
   pub fails_with : (front : List A) (ts rest : List Tok) (total : Result (List A × List Tok) Fault) (e : ReadError) → at xs ts ≡ false → Gives {A = A} (Err e) rest (read f ts)
       → with_front front (read (until xs f) ts) ≡ total → Gives {A = List A} (Err e) rest total
   fails_with front ts rest total e off one so_far =
       fails_by no_flag (λ (_ : Unit {0}). tt {0}) (λ s _. s) (λ _. f) xs (token xs) (λ _. el.element) 0 (tt {0}) (λ (x : List A × Tok). front ++ x.0) ts rest total e off
-        (subst (λ (r : Result (A × List Tok) Fault). Gives {A = A} (Err e) rest r) (steady_read f el.own 0 (first ts).place ts) one) (unfolded front ts total so_far)
+      (subst (λ (r : Result (A × List Tok) Fault). Gives {A = A} (Err e) rest r) (steady_read f el.own 0 (first ts).place ts) one) (unfolded front ts total so_far)
 
   pub fails_whole : (front : List A) (ts rest : List Tok) (total : Result (List A × List Tok) Fault) (e : ReadError) → at xs ts ≡ false → Gives {A = A} (Err e) rest (read f ts)
       → with_front front (read (until xs f) ts) ≡ total → GivesAll {A = List A} (Err e) (total >>= λ x. Ok x.0)
@@ -70,48 +69,44 @@ module _ {A : Type 0} (n : ℕ) (xs : List Symbol) (f : Form A) (el : IsPlain f)
   unfolded_up_to : (k : ℕ) (front : List A) (ts : List Tok) (total : Result (List A × List Tok) Fault) → with_front front (read (up_to_from k n xs f) ts) ≡ total → kept (λ (x : List A × Tok). front ++ x.0) (read (limited k) ts) ≡ total
   unfolded_up_to k front ts total so_far = sym (kept_twice (λ (ys : List A). front ++ ys) (λ (x : List A × Tok). x.0) (read (limited k) ts)) ∙ so_far
 
-  -- an element within the limit
-  within_limit : (k : ℕ) (ts : List Tok) → k < n → read_from (within f (nat_le n k)) (first ts).place ts ≡ read f ts
-  within_limit k ts lt = rw (lt-leb n k lt) (steady_read f el.own (first ts).place 0 ts)
+  -- an element that does not pass the limit: within it, or past it where none begins
+  element_is : (full : Bool) (p : ℕ) (ts : List Tok) → full && at (begins f) ts ≡ false → read_from (within f full) p ts ≡ read f ts
+  element_is false p ts e = steady_read f el.own p 0 ts
+  element_is true p ts e = past_read f p ts e ∙ steady_read f el.own p 0 ts
 
-  -- an element past the limit, where none begins
-  past_limit : (k : ℕ) (ts : List Tok) → n ≤ k → at (begins f) ts ≡ false → read_from (within f (nat_le n k)) (first ts).place ts ≡ read f ts
-  past_limit k ts le off = rw (le-leb n k le) (past_read f (first ts).place ts off ∙ steady_read f el.own (first ts).place 0 ts)
-
-  pub goes_on_up_to : (k : ℕ) (front : List A) (ts : List Tok) (a : A) (rest : List Tok) (total : Result (List A × List Tok) Fault) → k < n → at xs ts ≡ false → read f ts ≡ Ok (a, rest)
+  pub goes_on_up_to : (k : ℕ) (front : List A) (ts : List Tok) (a : A) (rest : List Tok) (total : Result (List A × List Tok) Fault) → nat_le n k && at (begins f) ts ≡ false → at xs ts ≡ false → read f ts ≡ Ok (a, rest)
       → with_front front (read (up_to_from k n xs f) ts) ≡ total → with_front (front ++ a ∷ []) (read (up_to_from (suc k) n xs f) rest) ≡ total
-  goes_on_up_to k front ts a rest total lt off one so_far =
+  goes_on_up_to k front ts a rest total fits off one so_far =
       kept_twice (λ (ys : List A). (front ++ a ∷ []) ++ ys) (λ (x : List A × Tok). x.0) (read (limited (suc k)) rest)
-        ∙ goes_on_by one_flag (λ k. nat_le n k) (λ k (_ : A). suc k) (within f) xs (token xs) (within_element f el.element) 0 k (λ (x : List A × Tok). front ++ x.0) (λ (x : List A × Tok). (front ++ a ∷ []) ++ x.0) ts a rest total
-            (λ ys b. sym (append_assoc front (a ∷ []) ys)) off (within_limit k ts lt ∙ one) (unfolded_up_to k front ts total so_far)
+      ∙ goes_on_by one_flag (λ k. nat_le n k) (λ k (_ : A). suc k) (within f) xs (token xs) (within_element f el.element) 0 k (λ (x : List A × Tok). front ++ x.0) (λ (x : List A × Tok). (front ++ a ∷ []) ++ x.0) ts a rest total
+      (λ ys b. sym (append_assoc front (a ∷ []) ys)) off (element_is (nat_le n k) (first ts).place ts fits ∙ one) (unfolded_up_to k front ts total so_far)
+
+  -- the same where as many stand before as were read
+  pub goes_on_counted : (front : List A) (ts : List Tok) (a : A) (rest : List Tok) (total : Result (List A × List Tok) Fault) → nat_le n (length front) && at (begins f) ts ≡ false → at xs ts ≡ false → read f ts ≡ Ok (a, rest)
+      → with_front front (read (up_to_from (length front) n xs f) ts) ≡ total → with_front (front ++ a ∷ []) (read (up_to_from (length (front ++ a ∷ [])) n xs f) rest) ≡ total
+  goes_on_counted front ts a rest total fits off one so_far =
+      let more : suc (length front) ≡ length (front ++ a ∷ []) = omega (arith, length-append front (a ∷ [])) in
+      subst (λ (k : ℕ). with_front (front ++ a ∷ []) (read (up_to_from k n xs f) rest) ≡ total) more (goes_on_up_to (length front) front ts a rest total fits off one so_far)
 
   pub is_done_up_to : (k : ℕ) (front : List A) (ts : List Tok) (total : Result (List A × List Tok) Fault) → at xs ts ≡ true → with_front front (read (up_to_from k n xs f) ts) ≡ total → total ≡ Ok (front, rest_of ts)
   is_done_up_to k front ts total here so_far =
       is_done_by one_flag (λ k. nat_le n k) (λ k (_ : A). suc k) (within f) xs (token xs) (within_element f el.element) 0 k (λ (x : List A × Tok). front ++ x.0) ts (first ts) (rest_of ts) total here (token_here xs ts here) (unfolded_up_to k front ts total so_far)
-        ∙ ap (λ (l : List A). Ok (l, rest_of ts)) (append-nil front)
+      ∙ ap (λ (l : List A). Ok (l, rest_of ts)) (append-nil front)
 
   fails_at : (k : ℕ) (front : List A) (ts rest : List Tok) (total : Result (List A × List Tok) Fault) (e : ReadError) → at xs ts ≡ false → Gives {A = A} (Err e) rest (read_from (within f (nat_le n k)) (first ts).place ts)
       → with_front front (read (up_to_from k n xs f) ts) ≡ total → Gives {A = List A} (Err e) rest total
   fails_at k front ts rest total e off one so_far =
       fails_by one_flag (λ k. nat_le n k) (λ k (_ : A). suc k) (within f) xs (token xs) (within_element f el.element) 0 k (λ (x : List A × Tok). front ++ x.0) ts rest total e off one (unfolded_up_to k front ts total so_far)
 
-  pub fails_up_to : (k : ℕ) (front : List A) (ts rest : List Tok) (total : Result (List A × List Tok) Fault) (e : ReadError) → k < n → at xs ts ≡ false → Gives {A = A} (Err e) rest (read f ts)
+  pub fails_up_to : (k : ℕ) (front : List A) (ts rest : List Tok) (total : Result (List A × List Tok) Fault) (e : ReadError) → nat_le n k && at (begins f) ts ≡ false → at xs ts ≡ false → Gives {A = A} (Err e) rest (read f ts)
       → with_front front (read (up_to_from k n xs f) ts) ≡ total → Gives {A = List A} (Err e) rest total
-  fails_up_to k front ts rest total e lt off one so_far =
-      fails_at k front ts rest total e off (subst (λ (r : Result (A × List Tok) Fault). Gives {A = A} (Err e) rest r) (sym (within_limit k ts lt)) one) so_far
+  fails_up_to k front ts rest total e fits off one so_far =
+      fails_at k front ts rest total e off (subst (λ (r : Result (A × List Tok) Fault). Gives {A = A} (Err e) rest r) (sym (element_is (nat_le n k) (first ts).place ts fits)) one) so_far
 
-  -- past the limit: no element begins, and the reader of an element fails
-  pub fails_past : (k : ℕ) (front : List A) (ts rest : List Tok) (total : Result (List A × List Tok) Fault) (e : ReadError) → n ≤ k → at (begins f) ts ≡ false → at xs ts ≡ false → Gives {A = A} (Err e) rest (read f ts)
-      → with_front front (read (up_to_from k n xs f) ts) ≡ total → Gives {A = List A} (Err e) rest total
-  fails_past k front ts rest total e le none off one so_far =
-      fails_at k front ts rest total e off (subst (λ (r : Result (A × List Tok) Fault). Gives {A = A} (Err e) rest r) (sym (past_limit k ts le none)) one) so_far
-
-  -- past the limit: an element begins
-  pub too_many : (k : ℕ) (front : List A) (ts : List Tok) (total : Result (List A × List Tok) Fault) → n ≤ k → at (begins f) ts ≡ true → at xs ts ≡ false → with_front front (read (up_to_from k n xs f) ts) ≡ total → total ≡ Err (too_many_at (first ts).place)
-  too_many k front ts total le here off so_far =
-      let one : read_from (within f (nat_le n k)) (first ts).place ts ≡ Err (too_many_at (first ts).place) = rw (le-leb n k le) (past_found f (first ts).place ts here) in
-      fails_at k front ts ts total (errors.Fault (too_many_at (first ts).place)) off one so_far
-
-  -- past the limit the reader of an element does not answer one where none begins
-  pub none_read : (ts : List Tok) (a : A) (rest : List Tok) → at (begins f) ts ≡ false → read f ts ≡ Ok (a, rest) → ⊥
-  none_read ts a rest off one = absurd (let here : at (begins f) ts ≡ true = began f el.element 0 ts a rest one in let bad : true ≡ false = sym here ∙ off in cc)
+  -- an element begins past the limit
+  pub too_many : (k : ℕ) (front : List A) (ts : List Tok) (total : Result (List A × List Tok) Fault) → nat_le n k && at (begins f) ts ≡ true → at xs ts ≡ false → with_front front (read (up_to_from k n xs f) ts) ≡ total → total ≡ Err (too_many_at (first ts).place)
+  too_many k front ts total past off so_far = fails_at k front ts ts total (errors.Fault (too_many_at (first ts).place)) off (found (nat_le n k) past) so_far
+    where
+      found : (full : Bool) → full && at (begins f) ts ≡ true → read_from (within f full) (first ts).place ts ≡ Err (too_many_at (first ts).place)
+      found false e = absurd cc
+      found true e = past_found f (first ts).place ts e

@@ -1,16 +1,16 @@
 -- Elements past a limit: they begin as the form does, and their tokens are live.
-use Rattle.std.proofs.Common.{◌≡◌, ℕ, Bool, true, false, cond, List, [], ◌∷◌, ◌++◌, refl, sym, ap, subst, ◌∙◌, inl, inr, append_assoc}
-use Rattle.std.specs.Prelude.{◌⊎◌, ◌&&◌, ◌||◌}
+use Rattle.std.proofs.Common.{◌≡◌, Bool, true, false, cond, List, [], ◌∷◌, ◌++◌, refl, sym, ap, subst, ◌∙◌, inl, inr, append_assoc}
+use Rattle.std.specs.Prelude.{◌⊎◌}
 use Rattle.std.proofs.lemmas.List.{append-nil}
 use Rattle.text_forms.specs.declared.symbol.Symbol.{Symbol}
 use Rattle.text_forms.specs.Tokens.{Tok, has, at}
 use Rattle.text_forms.specs.Forms.{Flags, Form, token, nothing, never, both, on, made, left_out, past, many, lines}
 use Rattle.text_forms.specs.Derives.{Elements, Derives}
-use Rattle.text_forms.specs.Begins.{empties, begins, derives_some, decides}
+use Rattle.text_forms.specs.Begins.{empties, begins, decides}
 use Rattle.text_forms.specs.Limits.{unlimited, Live}
 use Rattle.text_forms.specs.Passing.{Leads, Passes}
 use Rattle.text_forms.proofs.Tests.{and_true, has_left, has_right}
-use Rattle.text_forms.proofs.Beginnings.{nonempty, empty_derived, first_derived, at_derived, list_parts, IsList}
+use Rattle.text_forms.proofs.Beginnings.{nonempty, empty_derived, first_derived, at_derived, list_parts}
 use Rattle.text_forms.proofs.Unlimited.{decides_unlimited, begins_unlimited, derives_unlimited}
 use Rattle.text_forms.proofs.Living.{Derived, Completes, some_derived, both_goes_on, both_begun, lines_go_on, lines_begun, lines_closing, made_goes_on}
 
@@ -57,7 +57,7 @@ leads_first (lines fl flags step f xs g s) dec us ([], l) k = at_left (begins g)
 leads_first (lines fl flags step f xs g s) dec us (x ∷ others, (u, v, q, d, l)) k =
     let p = list_parts fl flags step f xs g s dec in
     regroup (λ ts. at (begins g ++ begins (f (flags s))) ts ≡ true) us u v k q
-      (at_right (begins g) _ (u ++ (v ++ k)) (at_derived (f (flags s)) (p.element (flags s)) u x (v ++ k) (λ none. nonempty (f (flags s)) u x (p.element_some (flags s)) none d) d))
+    (at_right (begins g) _ (u ++ (v ++ k)) (at_derived (f (flags s)) (p.element (flags s)) u x (v ++ k) (λ none. nonempty (f (flags s)) u x (p.element_some (flags s)) none d) d))
 
 pub passes_first : {A : Type 0} (f : Form A) → decides f ≡ true → (ts us : List Tok) → Passes f ts us → (k : List Tok) → at (begins f) (ts ++ (us ++ k)) ≡ true
 passes_first (token xs) dec ts us l k = absurd l
@@ -84,7 +84,7 @@ passes_first (lines fl flags step f xs g s) dec ts us ([], inr (inr l)) k =
 passes_first (lines fl flags step f xs g s) dec ts us (x ∷ others, (u, v, q, d, l)) k =
     let p = list_parts fl flags step f xs g s dec in
     regroup (λ z. at (begins g ++ begins (f (flags s))) z ≡ true) ts u v (us ++ k) q
-      (at_right (begins g) _ (u ++ (v ++ (us ++ k))) (at_derived (f (flags s)) (p.element (flags s)) u x (v ++ (us ++ k)) (λ none. nonempty (f (flags s)) u x (p.element_some (flags s)) none d) d))
+    (at_right (begins g) _ (u ++ (v ++ (us ++ k))) (at_derived (f (flags s)) (p.element (flags s)) u x (v ++ (us ++ k)) (λ none. nonempty (f (flags s)) u x (p.element_some (flags s)) none d) d))
 
 -- some token tells that an element passes a limit
 pub leads_some : {A : Type 0} (f : Form A) → decides f ≡ true → (us : List Tok) → Leads f us → us ≡ [] → ⊥
@@ -109,11 +109,11 @@ passes_some (many f) dec ts us l none = l
 passes_some (lines fl flags step f xs g s) dec ts us (before, l) none =
     let p = list_parts fl flags step f xs g s dec in
     some_behind flags step (λ y. Derives (f y)) (λ s v. ((v ≡ []) × Leads (f (flags s)) us) ⊎ (Passes (f (flags s)) v us ⊎ Passes g v us))
-      (λ s v k. elim k [
-        | inl m ↦ leads_some (f (flags s)) (p.element (flags s)) us m.1 none
-        | inr (inl m) ↦ passes_some (f (flags s)) (p.element (flags s)) v us m none
-        | inr (inr m) ↦ passes_some g p.closing v us m none
-      ]) before s ts l
+    (λ s v k. elim k [
+      | inl m ↦ leads_some (f (flags s)) (p.element (flags s)) us m.1 none
+      | inr (inl m) ↦ passes_some (f (flags s)) (p.element (flags s)) v us m none
+      | inr (inr m) ↦ passes_some g p.closing v us m none
+    ]) before s ts l
 
 -- ---- their tokens are live
 
@@ -126,7 +126,7 @@ elements_live : {A B S F : Type 0} (fl : Flags F) (flags : S → F) (step : S �
 elements_live fl flags step P f xs g Q more h k [] s ts d = k s ts d
 elements_live fl flags step P f xs g Q more h k (x ∷ before) s ts (u, v, q, d, e) =
     live_group (lines fl flags step f xs g s) (ts ++ more) u (v ++ more) (ap (λ (l : List Tok). l ++ more) q ∙ append_assoc u v more)
-      (lines_go_on fl flags step f xs g s u (v ++ more) x (h (flags s) u x d) (elements_live fl flags step P f xs g Q more h k before (step s x) v e))
+    (lines_go_on fl flags step f xs g s u (v ++ more) x (h (flags s) u x d) (elements_live fl flags step P f xs g Q more h k before (step s x) v e))
 
 pub leads_live : {A : Type 0} (f : Form A) → decides f ≡ true → (us : List Tok) → Leads f us → Live f us
 unfolding Completes Derived
@@ -148,8 +148,8 @@ leads_live (lines {S = S} fl flags step f xs g s) dec us (before, l) =
     let p = list_parts fl flags step f xs g s dec in
     let list = λ (s : S). lines fl flags step (λ y. unlimited (f y)) xs (unlimited g) s in
     subst (Completes (list s)) (append-nil us)
-      (elements_live fl flags step (λ y. Derives (f y)) (λ y. unlimited (f y)) xs (unlimited g) (λ _ v. Leads g v) [] (λ y. derives_unlimited (f y))
-        (λ s v k. subst (Completes (list s)) (sym (append-nil v)) (lines_closing fl flags step (λ y. unlimited (f y)) xs (unlimited g) s v (leads_live g p.closing v k))) before s us l)
+    (elements_live fl flags step (λ y. Derives (f y)) (λ y. unlimited (f y)) xs (unlimited g) (λ _ v. Leads g v) [] (λ y. derives_unlimited (f y))
+    (λ s v k. subst (Completes (list s)) (sym (append-nil v)) (lines_closing fl flags step (λ y. unlimited (f y)) xs (unlimited g) s v (leads_live g p.closing v k))) before s us l)
 
 pub passes_live : {A : Type 0} (f : Form A) → decides f ≡ true → (ts us : List Tok) → Passes f ts us → Live f (ts ++ us)
 unfolding Completes Derived
@@ -171,8 +171,8 @@ passes_live (lines {S = S} fl flags step f xs g s) dec ts us (before, l) =
     let p = list_parts fl flags step f xs g s dec in
     let list = λ (s : S). lines fl flags step (λ y. unlimited (f y)) xs (unlimited g) s in
     elements_live fl flags step (λ y. Derives (f y)) (λ y. unlimited (f y)) xs (unlimited g) (λ s v. ((v ≡ []) × Leads (f (flags s)) us) ⊎ (Passes (f (flags s)) v us ⊎ Passes g v us)) us (λ y. derives_unlimited (f y))
-      (λ s v k. elim k [
-        | inl m ↦ subst (λ (w : List Tok). Completes (list s) (w ++ us)) (sym m.0) (lines_begun fl flags step (λ y. unlimited (f y)) xs (unlimited g) s us (some_derived g p.closes) (leads_live (f (flags s)) (p.element (flags s)) us m.1))
-        | inr (inl m) ↦ lines_begun fl flags step (λ y. unlimited (f y)) xs (unlimited g) s (v ++ us) (some_derived g p.closes) (passes_live (f (flags s)) (p.element (flags s)) v us m)
-        | inr (inr m) ↦ lines_closing fl flags step (λ y. unlimited (f y)) xs (unlimited g) s (v ++ us) (passes_live g p.closing v us m)
-      ]) before s ts l
+    (λ s v k. elim k [
+      | inl m ↦ subst (λ (w : List Tok). Completes (list s) (w ++ us)) (sym m.0) (lines_begun fl flags step (λ y. unlimited (f y)) xs (unlimited g) s us (some_derived g p.closes) (leads_live (f (flags s)) (p.element (flags s)) us m.1))
+      | inr (inl m) ↦ lines_begun fl flags step (λ y. unlimited (f y)) xs (unlimited g) s (v ++ us) (some_derived g p.closes) (passes_live (f (flags s)) (p.element (flags s)) v us m)
+      | inr (inr m) ↦ lines_closing fl flags step (λ y. unlimited (f y)) xs (unlimited g) s (v ++ us) (passes_live g p.closing v us m)
+    ]) before s ts l

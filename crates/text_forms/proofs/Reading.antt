@@ -1,14 +1,13 @@
 -- What reading gave stands at the front, and reading looked no further than the next token.
-use Rattle.std.proofs.Common.{◌≡◌, ℕ, zero, suc, ◌+◌, ◌<◌, ◌≤◌, Bool, true, false, cond, List, [], ◌∷◌, ◌++◌, length, Result, Ok, Err, refl, sym, ap, subst, ◌∙◌, arith, inl, inr, append_assoc}
-use Rattle.std.specs.Prelude.{◌⊎◌, ◌&&◌}
+use Rattle.std.proofs.Common.{◌≡◌, ℕ, zero, suc, ◌≤◌, true, false, List, [], ◌∷◌, ◌++◌, length, Result, Ok, Err, refl, sym, ap, subst, ◌∙◌, arith, inl, inr, append_assoc}
 use Rattle.std.proofs.lemmas.List.{length-append}
 use Rattle.text_forms.specs.declared.symbol.Symbol.{Symbol}
 use Rattle.text_forms.specs.declared.fault.Fault.{Fault}
-use Rattle.text_forms.specs.Tokens.{Tok, has, at, first, rest_of, fault_at, too_many_at}
-use Rattle.text_forms.specs.Forms.{Flags, Form, token, nothing, never, both, on, made, left_out, past, many, lines}
+use Rattle.text_forms.specs.Tokens.{Tok, has, at, first, fault_at, too_many_at}
+use Rattle.text_forms.specs.Forms.{Form, token, nothing, never, both, on, made, left_out, past, many, lines}
 use Rattle.text_forms.specs.Derives.{Elements, Derives}
 use Rattle.text_forms.specs.Begins.{empties, begins, decides}
-use Rattle.text_forms.specs.Reading.{◌>>=◌, token_at, elements, read_from}
+use Rattle.text_forms.specs.Reading.{◌>>=◌, elements, read_from}
 use Rattle.text_forms.proofs.Tests.{and_true, not_true, ahead, at_ahead, ahead_append, bind_ok, chosen, ok_is}
 use Rattle.text_forms.proofs.Beginnings.{nonempty, list_parts, IsList, at_derived}
 
@@ -53,7 +52,7 @@ module _ {A B S F : Type 0} (flags : S → F) (step : S → A → S) (f : F → 
     parts = r.parts;
     derives = r.derives;
     again = λ q m z le eq. turn_closes q m s r.front z b (λ none. nonempty g r.front b ne none r.derives) le
-      (at_ahead xs (r.front ++ z) ts (ahead_append r.front z rest eq ∙ ap ahead (sym r.parts)) ∙ here) (r.again q z eq);
+        (at_ahead xs (r.front ++ z) ts (ahead_append r.front z rest eq ∙ ap ahead (sym r.parts)) ∙ here) (r.again q z eq);
   }
 
   another_run : (s : S) (ts : List Tok) (a : A) (mid : List Tok) (others : List A) (b : B) (rest : List Tok) → empties (f (flags s)) ≡ false → at xs ts ≡ false
@@ -78,13 +77,13 @@ module _ {A B S F : Type 0} (flags : S → F) (step : S → A → S) (f : F → 
         | inl c ↦
             let d = bind_ok (read_from g p ts) (λ y. Ok (([], y.0), y.1)) ((ys, b), rest) c.1 in
             subst (λ (v : (List A × B) × List Tok). ReadsElements s ts v.0.0 v.0.1 v.1) (ok_is (([], d.0.0), d.0.1) ((ys, b), rest) d.2)
-              (closes_run s ts d.0.0 d.0.1 l.closing_some c.0 (ihg p ts d.0.0 d.0.1 d.1))
+            (closes_run s ts d.0.0 d.0.1 l.closing_some c.0 (ihg p ts d.0.0 d.0.1 d.1))
         | inr c ↦
             let d = bind_ok (read_from (f (flags s)) (first ts).place ts) (λ x. run p n (step s x.0) x.1 >>= λ y. Ok ((x.0 ∷ y.0.0, y.0.1), y.1)) ((ys, b), rest) c.1 in
             let k = bind_ok (run p n (step s d.0.0) d.0.1) (λ y. Ok ((d.0.0 ∷ y.0.0, y.0.1), y.1)) ((ys, b), rest) d.2 in
             subst (λ (v : (List A × B) × List Tok). ReadsElements s ts v.0.0 v.0.1 v.1) (ok_is ((d.0.0 ∷ k.0.0.0, k.0.0.1), k.0.1) ((ys, b), rest) k.2)
-              (another_run s ts d.0.0 d.0.1 k.0.0.0 k.0.0.1 k.0.1 (l.element_some (flags s)) c.0 (ihf (flags s) _ ts d.0.0 d.0.1 d.1)
-                (reads_each l ihf ihg p n (step s d.0.0) d.0.1 k.0.0.0 k.0.0.1 k.0.1 k.1))
+            (another_run s ts d.0.0 d.0.1 k.0.0.0 k.0.0.1 k.0.1 (l.element_some (flags s)) c.0 (ihf (flags s) _ ts d.0.0 d.0.1 d.1)
+            (reads_each l ihf ihg p n (step s d.0.0) d.0.1 k.0.0.0 k.0.0.1 k.0.1 k.1))
       ]
 
 pub reads : {A : Type 0} (f : Form A) → decides f ≡ true → (p : ℕ) (ts : List Tok) (a : A) (rest : List Tok) → read_from f p ts ≡ Ok (a, rest) → Reads f ts a rest
@@ -92,11 +91,19 @@ reads (token xs) dec p [] a rest e = absurd cc
 reads (token xs) dec p (t ∷ ts) a rest e =
     elim (chosen (has xs t.symbol) (Ok (t, ts)) (Err (fault_at (t ∷ ts))) (Ok (a, rest)) e) [
       | inl c ↦ subst (λ (v : Tok × List Tok). Reads (token xs) (t ∷ ts) v.0 v.1) (ok_is (t, ts) (a, rest) c.1) (record {
-            front = t ∷ []; parts = refl; derives = (refl, c.0); again = λ q z eq. rw c.0 refl; })
+        front = t ∷ [];
+        parts = refl;
+        derives = (refl, c.0);
+        again = λ q z eq. rw c.0 refl;
+      })
       | inr c ↦ absurd (let k = c.1 in cc)
     ]
 reads {A} (nothing b) dec p ts a rest e = subst (λ (v : A × List Tok). Reads (nothing b) ts v.0 v.1) (ok_is (b, ts) (a, rest) e) (record {
-      front = []; parts = refl; derives = (refl, refl); again = λ q z eq. refl; })
+  front = [];
+  parts = refl;
+  derives = (refl, refl);
+  again = λ q z eq. refl;
+})
 reads never dec p ts a rest e = absurd cc
 reads (both {A} {B} f g) dec p ts a rest e =
     let k = and_true _ _ (and_true _ _ dec).0 in
@@ -117,18 +124,30 @@ reads (on xs f g) dec p ts a rest e =
     elim (chosen (at xs ts) (read_from f p ts) (read_from g p ts) (Ok (a, rest)) e) [
       | inl c ↦
           let r = reads f k.0 p ts a rest c.1 in
-          record { front = r.front; parts = r.parts; derives = inl r.derives;
-            again = λ q z eq. let here : at xs (r.front ++ z) ≡ true = at_ahead xs (r.front ++ z) ts (ahead_append r.front z rest eq ∙ ap ahead (sym r.parts)) ∙ c.0 in rw here (r.again q z eq); }
+          record {
+            front = r.front;
+            parts = r.parts;
+            derives = inl r.derives;
+            again = λ q z eq. let here : at xs (r.front ++ z) ≡ true = at_ahead xs (r.front ++ z) ts (ahead_append r.front z rest eq ∙ ap ahead (sym r.parts)) ∙ c.0 in rw here (r.again q z eq);
+          }
       | inr c ↦
           let r = reads g k.1 p ts a rest c.1 in
-          record { front = r.front; parts = r.parts; derives = inr r.derives;
-            again = λ q z eq. let here : at xs (r.front ++ z) ≡ false = at_ahead xs (r.front ++ z) ts (ahead_append r.front z rest eq ∙ ap ahead (sym r.parts)) ∙ c.0 in rw here (r.again q z eq); }
+          record {
+            front = r.front;
+            parts = r.parts;
+            derives = inr r.derives;
+            again = λ q z eq. let here : at xs (r.front ++ z) ≡ false = at_ahead xs (r.front ++ z) ts (ahead_append r.front z rest eq ∙ ap ahead (sym r.parts)) ∙ c.0 in rw here (r.again q z eq);
+          }
     ]
 reads (made {A} {B} h f) dec p ts a rest e =
     let b = bind_ok (read_from f p ts) (λ x. Ok (h x.0, x.1)) (a, rest) e in
     let r = reads f dec p ts b.0.0 b.0.1 b.1 in
     subst (λ (v : B × List Tok). Reads (made h f) ts v.0 v.1) (ok_is (h b.0.0, b.0.1) (a, rest) b.2) (record {
-      front = r.front; parts = r.parts; derives = (b.0.0, r.derives, refl); again = λ q z eq. rw (r.again q z eq) refl; })
+      front = r.front;
+      parts = r.parts;
+      derives = (b.0.0, r.derives, refl);
+      again = λ q z eq. rw (r.again q z eq) refl;
+    })
 reads (left_out xs b) dec p ts a rest e = absurd cc
 reads {A} (past f) dec p ts a rest e =
     let k = and_true _ _ dec in
@@ -143,5 +162,9 @@ reads (many f) dec p ts a rest e = absurd cc
 reads (lines fl flags step f xs g s) dec p ts (ys, b) rest e =
     let l = list_parts fl flags step f xs g s dec in
     let r = reads_each flags step f xs g l (λ y. reads (f y) (l.element y)) (reads g l.closing) p (suc (length ts)) s ts ys b rest e in
-    record { front = r.front; parts = r.parts; derives = r.derives;
-      again = λ q z eq. r.again q (suc (length (r.front ++ z))) z (omega (arith, length-append r.front z)) eq; }
+    record {
+      front = r.front;
+      parts = r.parts;
+      derives = r.derives;
+      again = λ q z eq. r.again q (suc (length (r.front ++ z))) z (omega (arith, length-append r.front z)) eq;
+    }

@@ -1,21 +1,19 @@
 -- The ways in which reading stops: at a token that does not go on, or at an element past a limit.
-use Rattle.std.proofs.Common.{◌≡◌, ℕ, zero, suc, ◌+◌, ◌<◌, ◌≤◌, Bool, true, false, cond, List, [], ◌∷◌, ◌++◌, length, Result, Ok, Err, refl, sym, ap, subst, ◌∙◌, arith, inl, inr, append_assoc}
-use Rattle.std.specs.Prelude.{◌⊎◌, ◌&&◌}
-use Rattle.std.proofs.lemmas.List.{append-nil, length-append}
+use Rattle.std.proofs.Common.{◌≡◌, ℕ, ◌<◌, true, false, List, [], ◌∷◌, ◌++◌, length, Err, refl, sym, ap, subst, ◌∙◌, inl, inr, append_assoc}
+use Rattle.std.specs.Prelude.{◌⊎◌}
 use Rattle.text_forms.specs.declared.symbol.Symbol.{Symbol}
 use Rattle.text_forms.specs.declared.fault.Fault.{Fault}
-use Rattle.text_forms.specs.Tokens.{Tok, has, at, first, fault_at, left_out_at, too_many_at}
-use Rattle.text_forms.specs.Forms.{Flags, Form, token, nothing, never, both, on, made, left_out, past, many, lines}
-use Rattle.text_forms.specs.Derives.{Elements, Derives}
-use Rattle.text_forms.specs.Begins.{empties, begins, derives_some, decides}
-use Rattle.text_forms.specs.Reading.{◌>>=◌, elements, read_from}
+use Rattle.text_forms.specs.Tokens.{Tok, at, first, fault_at, left_out_at, too_many_at}
+use Rattle.text_forms.specs.Forms.{Flags, Form, both, lines}
+use Rattle.text_forms.specs.Begins.{derives_some}
+use Rattle.text_forms.specs.Reading.{read_from}
 use Rattle.text_forms.specs.Limits.{unlimited, widen}
 use Rattle.text_forms.specs.Passing.{Leads, Passes}
 use Rattle.text_forms.proofs.Tests.{ahead, at_ahead, ahead_append}
 use Rattle.text_forms.proofs.Beginnings.{nonempty, IsList}
 use Rattle.text_forms.proofs.Reading.{Reads, run}
 use Rattle.text_forms.proofs.Unlimited.{derives_unlimited, derives_wide}
-use Rattle.text_forms.proofs.Living.{Derived, Completes, some_derived, some_left, some_wide, both_goes_on, both_begun, lines_go_on, lines_begun, lines_closing}
+use Rattle.text_forms.proofs.Living.{Completes, some_derived, some_left, some_wide, both_goes_on, lines_go_on, lines_begun, lines_closing}
 use Rattle.text_forms.proofs.Passing.{leads_some}
 use Rattle.text_forms.proofs.Completing.{run_fails, run_close_fails, run_fails_later}
 
@@ -67,7 +65,7 @@ dies_second f g ts mid a e some r q = record {
   rest = q.rest;
   parts = regroup ts r.front mid q.front q.rest r.parts q.parts;
   blame = blames_map g (both f g) q.front (r.front ++ q.front) q.rest e (λ t l. subst (Completes (both (widen f) (widen g))) (sym (append_assoc r.front q.front (t ∷ [])))
-    (both_goes_on (widen f) (widen g) r.front (q.front ++ t ∷ []) a (derives_wide f r.front a (derives_unlimited f r.front a r.derives)) l)) q.blame;
+      (both_goes_on (widen f) (widen g) r.front (q.front ++ t ∷ []) a (derives_wide f r.front a (derives_unlimited f r.front a r.derives)) l)) q.blame;
   live = inl (both_goes_on (unlimited f) (unlimited g) r.front q.front a (derives_unlimited f r.front a r.derives) (elim q.live [ inl l ↦ l | inr n ↦ subst (Completes (unlimited g)) (sym n) (some_left g some) ]));
   again = λ n z eq.
       let same_next : ahead (q.front ++ z) ≡ ahead mid = ahead_append q.front z q.rest eq ∙ ap ahead (sym q.parts) in
@@ -76,14 +74,21 @@ dies_second f g ts mid a e some r q = record {
 
 pub tells_second : {A B : Type 0} (f : Form A) (g : Form B) (p : ℕ) (ts mid : List Tok) (a : A) (e : Fault) → Reads f ts a mid → Tells g p mid e → Tells (both f g) p ts e
 tells_second f g p ts mid a e r q = record {
-  lead = r.front ++ q.lead; rest = q.rest; parts = regroup ts r.front mid q.lead q.rest r.parts q.parts;
-  leads = inr (r.front, q.lead, a, refl, r.derives, q.leads); is = q.is;
+  lead = r.front ++ q.lead;
+  rest = q.rest;
+  parts = regroup ts r.front mid q.lead q.rest r.parts q.parts;
+  leads = inr (r.front, q.lead, a, refl, r.derives, q.leads);
+  is = q.is;
 }
 
 pub overruns_second : {A B : Type 0} (f : Form A) (g : Form B) (ts mid : List Tok) (a : A) (e : Fault) → Reads f ts a mid → Overruns g mid e → Overruns (both f g) ts e
 overruns_second f g ts mid a e r q = record {
-  before = r.front ++ q.before; lead = q.lead; rest = q.rest; parts = regroup ts r.front mid q.before (q.lead ++ q.rest) r.parts q.parts;
-  passes = inr (r.front, q.before, a, refl, r.derives, q.passes); is = q.is;
+  before = r.front ++ q.before;
+  lead = q.lead;
+  rest = q.rest;
+  parts = regroup ts r.front mid q.before (q.lead ++ q.rest) r.parts q.parts;
+  passes = inr (r.front, q.before, a, refl, r.derives, q.passes);
+  is = q.is;
 }
 
 -- ---- in a list
@@ -136,22 +141,25 @@ module _ {A B S F : Type 0} (fl : Flags F) (flags : S → F) (step : S → A →
     rest = q.rest;
     parts = regroup ts r.front mid q.front q.rest r.parts q.parts;
     blame = blames_map (list (step s a)) (list s) q.front (r.front ++ q.front) q.rest e (λ t k. subst (Completes (widen (list s))) (sym (append_assoc r.front q.front (t ∷ [])))
-      (lines_go_on fl flags step (λ y. widen (f y)) xs (widen g) s r.front (q.front ++ t ∷ []) a (derives_wide (f (flags s)) r.front a (derives_unlimited (f (flags s)) r.front a r.derives)) k)) q.blame;
+        (lines_go_on fl flags step (λ y. widen (f y)) xs (widen g) s r.front (q.front ++ t ∷ []) a (derives_wide (f (flags s)) r.front a (derives_unlimited (f (flags s)) r.front a r.derives)) k)) q.blame;
     live = lines_go_on fl flags step (λ y. unlimited (f y)) xs (unlimited g) s r.front q.front a (derives_unlimited (f (flags s)) r.front a r.derives) q.live;
     again = λ n m z lt eq.
         let same_next : ahead (q.front ++ z) ≡ ahead mid = ahead_append q.front z q.rest eq ∙ ap ahead (sym q.parts) in
         let still : at xs (r.front ++ (q.front ++ z)) ≡ false = at_ahead xs (r.front ++ (q.front ++ z)) ts (ahead_append r.front (q.front ++ z) mid same_next ∙ ap ahead (sym r.parts)) ∙ off in
         rw append_assoc (run_fails_later flags step f xs g n m s r.front (q.front ++ z) a e (subst (λ (w : List Tok). length w < m) (append_assoc r.front q.front z) lt) still
-          (r.again _ (q.front ++ z) same_next) (λ none. nonempty (f (flags s)) r.front a (l.element_some (flags s)) none r.derives) (λ k less. q.again n k z less eq));
+        (r.again _ (q.front ++ z) same_next) (λ none. nonempty (f (flags s)) r.front a (l.element_some (flags s)) none r.derives) (λ k less. q.again n k z less eq));
   }
 
   pub tells_close : (s : S) (p : ℕ) (ts : List Tok) (e : Fault) → Tells g p ts e → Tells (lines fl flags step f xs g s) p ts e
-  tells_close s p ts e q = record { lead = q.lead; rest = q.rest; parts = q.parts; leads = ([], q.leads); is = q.is; }
+  tells_close s p ts e q = record { lead = q.lead; rest = q.rest; parts = q.parts; leads = ([], q.leads); is = q.is }
 
   pub tells_later : (s : S) (p : ℕ) (ts mid : List Tok) (a : A) (e : Fault) → Reads (f (flags s)) ts a mid → Tells (lines fl flags step f xs g (step s a)) p mid e → Tells (lines fl flags step f xs g s) p ts e
   tells_later s p ts mid a e r q = record {
-    lead = r.front ++ q.lead; rest = q.rest; parts = regroup ts r.front mid q.lead q.rest r.parts q.parts;
-    leads = (a ∷ q.leads.0, (r.front, q.lead, refl, r.derives, q.leads.1)); is = q.is;
+    lead = r.front ++ q.lead;
+    rest = q.rest;
+    parts = regroup ts r.front mid q.lead q.rest r.parts q.parts;
+    leads = (a ∷ q.leads.0, (r.front, q.lead, refl, r.derives, q.leads.1));
+    is = q.is;
   }
 
   first_front : (ts us z : List Tok) → (us ≡ [] → ⊥) → ts ≡ us ++ z → (first ts).place ≡ (first us).place
@@ -160,18 +168,26 @@ module _ {A B S F : Type 0} (fl : Flags F) (flags : S → F) (step : S → A →
 
   pub overruns_element : (s : S) (ts : List Tok) (e : Fault) → Tells (f (flags s)) (first ts).place ts e → Overruns (lines fl flags step f xs g s) ts e
   overruns_element s ts e q = record {
-    before = []; lead = q.lead; rest = q.rest; parts = q.parts; passes = ([], inl (refl, q.leads));
+    before = [];
+    lead = q.lead;
+    rest = q.rest;
+    parts = q.parts;
+    passes = ([], inl (refl, q.leads));
     is = q.is ∙ ap too_many_at (first_front ts q.lead q.rest (leads_some (f (flags s)) (l.element (flags s)) q.lead q.leads) q.parts);
   }
 
   pub overruns_within : (s : S) (ts : List Tok) (e : Fault) → Overruns (f (flags s)) ts e → Overruns (lines fl flags step f xs g s) ts e
-  overruns_within s ts e q = record { before = q.before; lead = q.lead; rest = q.rest; parts = q.parts; passes = ([], inr (inl q.passes)); is = q.is; }
+  overruns_within s ts e q = record { before = q.before; lead = q.lead; rest = q.rest; parts = q.parts; passes = ([], inr (inl q.passes)); is = q.is }
 
   pub overruns_close : (s : S) (ts : List Tok) (e : Fault) → Overruns g ts e → Overruns (lines fl flags step f xs g s) ts e
-  overruns_close s ts e q = record { before = q.before; lead = q.lead; rest = q.rest; parts = q.parts; passes = ([], inr (inr q.passes)); is = q.is; }
+  overruns_close s ts e q = record { before = q.before; lead = q.lead; rest = q.rest; parts = q.parts; passes = ([], inr (inr q.passes)); is = q.is }
 
   pub overruns_later : (s : S) (ts mid : List Tok) (a : A) (e : Fault) → Reads (f (flags s)) ts a mid → Overruns (lines fl flags step f xs g (step s a)) mid e → Overruns (lines fl flags step f xs g s) ts e
   overruns_later s ts mid a e r q = record {
-    before = r.front ++ q.before; lead = q.lead; rest = q.rest; parts = regroup ts r.front mid q.before (q.lead ++ q.rest) r.parts q.parts;
-    passes = (a ∷ q.passes.0, (r.front, q.before, refl, r.derives, q.passes.1)); is = q.is;
+    before = r.front ++ q.before;
+    lead = q.lead;
+    rest = q.rest;
+    parts = regroup ts r.front mid q.before (q.lead ++ q.rest) r.parts q.parts;
+    passes = (a ∷ q.passes.0, (r.front, q.before, refl, r.derives, q.passes.1));
+    is = q.is;
   }

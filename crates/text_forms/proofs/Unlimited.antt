@@ -1,17 +1,12 @@
 -- The grammar without limits passes the same tests, and is read alike save where an element passes a limit.
-use Rattle.std.proofs.Common.{◌≡◌, ℕ, zero, suc, Bool, true, false, cond, List, [], ◌∷◌, ◌++◌, length, Result, Ok, Err, refl, sym, ap, subst, ◌∙◌, inl, inr}
-use Rattle.std.specs.Prelude.{◌⊎◌, ◌&&◌, not}
-use Rattle.text_forms.specs.declared.symbol.Symbol.{Symbol}
-use Rattle.text_forms.specs.declared.fault.FaultKind.TheVariants as kinds
-use Rattle.text_forms.specs.declared.fault.Fault.{Fault}
-use Rattle.text_forms.specs.Tokens.{Tok, has, at, first, too_many_at}
-use Rattle.text_forms.specs.Forms.{Flags, every, Form, token, nothing, never, both, on, made, left_out, past, many, lines}
+use Rattle.std.proofs.Common.{◌≡◌, true, List, [], ◌∷◌, refl, ◌∙◌, inl, inr}
+use Rattle.std.specs.Prelude.{◌&&◌, not}
+use Rattle.text_forms.specs.Tokens.{Tok}
+use Rattle.text_forms.specs.Forms.{Form, token, nothing, never, both, on, made, left_out, past, many, lines}
 use Rattle.text_forms.specs.Derives.{Each, Elements, Derives}
-use Rattle.text_forms.specs.Begins.{apart, only, gather, empties, begins, goes_on, derives_some, decides}
-use Rattle.text_forms.specs.Reading.{◌>>=◌, elements, read_from}
+use Rattle.text_forms.specs.Begins.{apart, gather, empties, begins, goes_on, derives_some, decides}
 use Rattle.text_forms.specs.Limits.{unlimited, widen}
-use Rattle.text_forms.proofs.Tests.{and_true, both_true, every_at, all_hold, gather_same, bind_ok, bind_err, chosen, err_is}
-use Rattle.text_forms.proofs.Beginnings.{list_parts}
+use Rattle.text_forms.proofs.Tests.{and_true, both_true, every_at, all_hold, gather_same}
 
 -- ---- the same tests
 
@@ -88,10 +83,10 @@ decides_unlimited (lines fl flags step f xs g s) e =
     let ends : gather fl (λ y. goes_on (unlimited (f y))) ≡ gather fl (λ y. goes_on (f y)) = gather_same fl _ _ (λ y. goes_on_unlimited (f y)) in
     let starts : gather fl (λ y. begins (unlimited (f y))) ≡ gather fl (λ y. begins (f y)) = gather_same fl _ _ (λ y. begins_unlimited (f y)) in
     both_true _ _ (both_true _ _ (both_true _ _ (decides_unlimited g r.0) (some_unlimited g ∙ r.1)) (rw (empties_unlimited g, begins_unlimited g) q.1))
-      (both_true _ _ (all_hold fl _ (λ y.
-          let k = and_true _ _ (every_at fl (λ y. (decides (f y) && not (empties (f y))) && apart xs (begins (f y))) y m.0) in
-          let n = and_true _ _ k.0 in
-          both_true _ _ (both_true _ _ (decides_unlimited (f y) n.0) (rw (empties_unlimited (f y)) n.1)) (rw (begins_unlimited (f y)) k.1))) (rw (ends, starts) m.1))
+    (both_true _ _ (all_hold fl _ (λ y.
+    let k = and_true _ _ (every_at fl (λ y. (decides (f y) && not (empties (f y))) && apart xs (begins (f y))) y m.0) in
+    let n = and_true _ _ k.0 in
+    both_true _ _ (both_true _ _ (decides_unlimited (f y) n.0) (rw (empties_unlimited (f y)) n.1)) (rw (begins_unlimited (f y)) k.1))) (rw (ends, starts) m.1))
 
 -- ---- what is derived is derived without limits, and where more words are words
 

@@ -1,14 +1,13 @@
 -- What the two usual lists derive.
-use Rattle.std.proofs.Common.{◌≡◌, ℕ, zero, suc, ◌+◌, ◌<◌, ◌≤◌, Bool, true, false, List, [], ◌∷◌, ◌++◌, length, refl, sym, ap, subst, ◌∙◌, arith, append_assoc, inl, inr}
-use Rattle.std.specs.Prelude.{nat_le, ◌⊎◌, ◌↔◌}
+use Rattle.std.proofs.Common.{◌≡◌, ℕ, suc, ◌+◌, ◌<◌, ◌≤◌, Bool, true, false, List, [], ◌∷◌, ◌++◌, length, refl, sym, ap, subst, ◌∙◌, arith, append_assoc, inl, inr}
+use Rattle.std.specs.Prelude.{nat_le, ◌↔◌}
 use Rattle.std.proofs.lemmas.Bool.{lt-leb, le-leb, cases_lt}
 use Rattle.text_forms.specs.declared.symbol.Symbol.{Symbol}
 use Rattle.text_forms.specs.Tokens.{Tok, has}
-use Rattle.text_forms.specs.Forms.{Form, until, within, up_to, up_to_from}
+use Rattle.text_forms.specs.Forms.{Form, until, within, up_to}
 use Rattle.text_forms.specs.Derives.{Each, Elements, Derives}
 use Rattle.text_forms.specs.Limits.{unlimited}
 use Rattle.text_forms.specs.Laws.{UntilIsEach, UpToIsShort, UpToUnlimited}
-use Rattle.text_forms.proofs.Unlimited.{elements_map}
 
 -- elements of a form that no state changes, and then the closing token
 module _ {A S F : Type 0} (flags : S → F) (step : S → A → S) (P : F → List Tok → A → Type 0) (R : List Tok → A → Type 0) (xs : List Symbol) where
@@ -90,11 +89,17 @@ pub up_to_unlimited : {A : Type 0} (f : Form A) → UpToUnlimited f
 up_to_unlimited {A} f n xs ts items = (there, back)
   where
     there : Derives (unlimited (up_to n xs f)) ts items → Derives (until xs (unlimited f)) ts items
-    there (x, d, p) =
-        (x, elements_change (λ k. nat_le n k) (λ (_ : Unit {0}). tt {0}) (λ k (_ : A). suc k) (λ s (_ : A). s) (λ y. Derives (unlimited (within f y))) (λ _. Derives (unlimited f)) (λ v. (v ≡ x.1 ∷ []) × (has xs x.1.symbol ≡ true))
-          (λ y z u a e. (unlimited_element f y u a).0 e) x.0 0 (tt {0}) ts d, p)
+    there (x, d, p) = (
+      x,
+      elements_change (λ k. nat_le n k) (λ (_ : Unit {0}). tt {0}) (λ k (_ : A). suc k) (λ s (_ : A). s) (λ y. Derives (unlimited (within f y))) (λ _. Derives (unlimited f)) (λ v. (v ≡ x.1 ∷ []) × (has xs x.1.symbol ≡ true))
+          (λ y z u a e. (unlimited_element f y u a).0 e) x.0 0 (tt {0}) ts d,
+      p,
+    )
 
     back : Derives (until xs (unlimited f)) ts items → Derives (unlimited (up_to n xs f)) ts items
-    back (x, d, p) =
-        (x, elements_change (λ (_ : Unit {0}). tt {0}) (λ k. nat_le n k) (λ s (_ : A). s) (λ k (_ : A). suc k) (λ _. Derives (unlimited f)) (λ y. Derives (unlimited (within f y))) (λ v. (v ≡ x.1 ∷ []) × (has xs x.1.symbol ≡ true))
-          (λ z y u a e. (unlimited_element f y u a).1 e) x.0 (tt {0}) 0 ts d, p)
+    back (x, d, p) = (
+      x,
+      elements_change (λ (_ : Unit {0}). tt {0}) (λ k. nat_le n k) (λ s (_ : A). s) (λ k (_ : A). suc k) (λ _. Derives (unlimited f)) (λ y. Derives (unlimited (within f y))) (λ v. (v ≡ x.1 ∷ []) × (has xs x.1.symbol ≡ true))
+          (λ z y u a e. (unlimited_element f y u a).1 e) x.0 (tt {0}) 0 ts d,
+      p,
+    )

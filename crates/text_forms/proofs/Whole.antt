@@ -1,23 +1,21 @@
 -- Reading a whole text gives what the grammar derives, or else the first fault; and each is the only one.
-use Rattle.std.proofs.Common.{◌≡◌, ℕ, zero, suc, ◌+◌, ◌<◌, ◌≤◌, Bool, true, false, cond, List, [], ◌∷◌, ◌++◌, length, Result, Ok, Err, refl, sym, ap, subst, ◌∙◌, arith, inl, inr, append_assoc}
+use Rattle.std.proofs.Common.{◌≡◌, ℕ, ◌<◌, ◌≤◌, List, [], ◌∷◌, ◌++◌, length, Result, Ok, Err, refl, sym, ap, subst, ◌∙◌, arith, inl, inr, append_assoc}
 use Rattle.std.specs.Prelude.{◌⊎◌}
 use Rattle.std.proofs.lemmas.List.{append-nil, length-append}
 use Rattle.std.proofs.lemmas.Bool.{cases_lt, cases_order}
 use Rattle.text_forms.specs.declared.symbol.Symbol.{Symbol}
 use Rattle.text_forms.specs.declared.symbol.Symbol.TheVariants as symbols
-use Rattle.text_forms.specs.declared.fault.FaultKind.{FaultKind}
 use Rattle.text_forms.specs.declared.fault.FaultKind.TheVariants as kinds
 use Rattle.text_forms.specs.declared.fault.Fault.{Fault}
-use Rattle.text_forms.specs.Tokens.{Tok, first, is_last, IsText, kind_of, fault_at, left_out_at, too_many_at}
+use Rattle.text_forms.specs.Tokens.{Tok, first, IsText, kind_of, fault_at, left_out_at, too_many_at}
 use Rattle.text_forms.specs.Forms.{Form}
 use Rattle.text_forms.specs.Derives.{Derives}
-use Rattle.text_forms.specs.Begins.{decides}
-use Rattle.text_forms.specs.Reading.{◌>>=◌, read_from, read, whole}
+use Rattle.text_forms.specs.Reading.{read, whole}
 use Rattle.text_forms.specs.Limits.{unlimited, widen, Live, LiveInFull}
-use Rattle.text_forms.specs.Passing.{Leads, Passes}
+use Rattle.text_forms.specs.Passing.{Passes}
 use Rattle.text_forms.specs.First.{IsDead, IsPast, IsFirstFault}
 use Rattle.text_forms.specs.Texts.{IsGrammar}
-use Rattle.text_forms.proofs.Tests.{ahead, bind_ok, bind_err, ok_is, err_is, never_both}
+use Rattle.text_forms.proofs.Tests.{ahead, bind_ok, bind_err, err_is, never_both}
 use Rattle.text_forms.proofs.Reading.{reads}
 use Rattle.text_forms.proofs.Unlimited.{decides_unlimited, derives_unlimited}
 use Rattle.text_forms.proofs.Alike.{fails_unlimited, fails_wide, IsNarrow}
@@ -25,7 +23,7 @@ use Rattle.text_forms.proofs.Living.{Completes, live_is, some_left, full_is}
 use Rattle.text_forms.proofs.Passing.{passes_live, passes_some}
 use Rattle.text_forms.proofs.Completing.{complete}
 use Rattle.text_forms.proofs.Beyond.{passes_read}
-use Rattle.text_forms.proofs.Stops.{Blames, Dies, Tells, Overruns, Stops}
+use Rattle.text_forms.proofs.Stops.{Blames, Dies, Overruns}
 use Rattle.text_forms.proofs.Stopping.{stops}
 use Rattle.text_forms.proofs.Ends.{last_is_last, places_rise, ended_derived, ends_unlimited, text_whole, steady_leads}
 
@@ -104,13 +102,16 @@ module _ {A : Type 0} (f : Form A) (is : IsGrammar f) where
     where
       judged : Blames f front (r ∷ after) e → ((e ≡ left_out_at r) × LiveInFull f (front ++ r ∷ [])) ⊎ ((e ≡ fault_at (r ∷ [])) × (LiveInFull f (front ++ r ∷ []) → ⊥))
       judged (inr (t, more, same_rest, q, l)) = (let tr : t ≡ r = cc in inl (q ∙ ap left_out_at tr, full_is f (front ++ r ∷ []) (subst (λ (x : Tok). Completes (widen f) (front ++ x ∷ [])) tr l)))
-      judged (inl q) = inr (q, λ (more, a, d).
-          let wide : Derives (widen f) (front ++ r ∷ more) a = subst (λ (l : List Tok). Derives (widen f) l a) (one_more front r more) d in
-          let c : read (widen f) (front ++ r ∷ more) ≡ Ok (a, []) = ap (read (widen f)) (sym (append-nil (front ++ r ∷ more))) ∙ complete (widen f) is.decided_in_full 0 (front ++ r ∷ more) a [] wide refl in
-          elim (fails_wide f 0 (front ++ r ∷ more) e (again (r ∷ more) refl)) [
-            | inl k ↦ never_both _ _ e c k
-            | inr k ↦ not_narrow r.symbol (subst IsNarrow (ap (λ (x : Fault). x.kind) q) k)
-          ])
+      judged (inl q) = inr (
+        q,
+        λ (more, a, d).
+            let wide : Derives (widen f) (front ++ r ∷ more) a = subst (λ (l : List Tok). Derives (widen f) l a) (one_more front r more) d in
+            let c : read (widen f) (front ++ r ∷ more) ≡ Ok (a, []) = ap (read (widen f)) (sym (append-nil (front ++ r ∷ more))) ∙ complete (widen f) is.decided_in_full 0 (front ++ r ∷ more) a [] wide refl in
+            elim (fails_wide f 0 (front ++ r ∷ more) e (again (r ∷ more) refl)) [
+              | inl k ↦ never_both _ _ e c k
+              | inr k ↦ not_narrow r.symbol (subst IsNarrow (ap (λ (x : Fault). x.kind) q) k)
+            ],
+      )
 
   -- ---- the first fault
 
@@ -130,7 +131,10 @@ module _ {A : Type 0} (f : Form A) (is : IsGrammar f) where
           let done : l.0 ≡ [] = text_whole front l.0 d.front d.last (subst IsText all text) d.ordinary d.parts in
           absurd (not_derived front [] [] e l.1 blame (again [] refl) (subst (λ (m : List Tok). Derives (unlimited f) (front ++ m) l.1) done l.2))
       at_rest front (r ∷ after) p blame live again = record {
-        before = front; here = r; after = after; parts = p;
+        before = front;
+        here = r;
+        after = after;
+        parts = p;
         fault = inl (dead_here front r after e blame again);
         live = live_is f front live;
         none_past = no_limit_before ts e (length front) (dies_not_too_many f front (r ∷ after) e blame) fails;
@@ -156,7 +160,10 @@ module _ {A : Type 0} (f : Form A) (is : IsGrammar f) where
       from before (here ∷ lead) rest p passes place =
           let live = passes_live f is.decided before (here ∷ lead) passes in
           record {
-            before = before; here = here; after = lead ++ rest; parts = p;
+            before = before;
+            here = here;
+            after = lead ++ rest;
+            parts = p;
             fault = inr (lead, rest, refl, live, passes, place);
             live = live_front f before (here ∷ lead) live;
             none_past = λ b us more r passed. earlier ts before (lead ++ rest) b us more here text p (fails ∙ ap Err place) r passed (cases_lt (length before) (length b));
@@ -166,10 +173,10 @@ module _ {A : Type 0} (f : Form A) (is : IsGrammar f) where
   whole_fault ts e text h =
       elim (bind_err (read f ts) (λ x. Ok x.0) e h) [
         | inl fails ↦ elim (stops f is.decided 0 ts e fails) [
-            | inl q ↦ dies_first ts e text fails q
-            | inr (inl q) ↦ absurd (steady_leads f is.own q.lead q.leads)
-            | inr (inr q) ↦ overruns_first ts e text fails q
-          ]
+          | inl q ↦ dies_first ts e text fails q
+          | inr (inl q) ↦ absurd (steady_leads f is.own q.lead q.leads)
+          | inr (inr q) ↦ overruns_first ts e text fails q
+        ]
         | inr (x, ok, wrong) ↦ absurd cc
       ]
 

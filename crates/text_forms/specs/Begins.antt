@@ -95,8 +95,8 @@ decides (past f) = decides f && not (empties f)
 decides (many f) = false
 decides (lines fl flags step f xs g s) =
     ((decides g && derives_some g) && (not (empties g) && only xs (begins g)))
-      && (every fl (λ y. (decides (f y) && not (empties (f y))) && apart xs (begins (f y)))
-        && apart (gather fl (λ y. goes_on (f y))) (xs ++ gather fl (λ y. begins (f y))))
+    && (every fl (λ y. (decides (f y) && not (empties (f y))) && apart xs (begins (f y)))
+    && apart (gather fl (λ y. goes_on (f y))) (xs ++ gather fl (λ y. begins (f y))))
 
 -- whether an element of a list passes a limit is told by that list alone, not by where the form itself stands
 abbrev pub steady : {A : Type 0} → Form A → Bool

@@ -1,6 +1,6 @@
 //! Lists that contracts see as lists.
 
-ghost use Rattle.std.specs.Prelude.{◌≡◌, ◌<◌, List, [], ◌∷◌, ◌++◌, length, slice_get, Some, OnOk, IfOk, IfSome, IfNone};
+ghost use Rattle.std.specs.Prelude.{◌≡◌, ◌≤◌, ◌↔◌, IsTrue, List, [], ◌∷◌, ◌++◌, length, slice_get, Some, OnOk, IfOk, IfSome, IfNone};
 
 use std::alloc::{AllocError, Global};
 use std::marker::Model;
@@ -51,11 +51,26 @@ impl<T: Drop> Listing<T> {
         self.items.as_slice()
     }
 
+    /// The member with that number, counted from 0, where there is one.
+    pub fn get(&self, n: usize) -> Option<&T>
+        ensures some { IfSome result (λ x. slice_get self.now n ≡ Some x.now) }
+        ensures none { IfNone result (length self.now ≤ n) }
+    {
+        self.items.get(n)
+    }
+
     /// How many members there are.
     pub fn len(&self) -> usize
         ensures { result ≡ length self.now }
     {
         self.items.len()
+    }
+
+    /// Whether there is no member.
+    pub fn is_empty(&self) -> bool
+        ensures { IsTrue result ↔ self.now ≡ [] }
+    {
+        self.items.is_empty()
     }
 }
 
@@ -67,5 +82,27 @@ impl Listing<u8> {
         Ok(Listing {
             items: Vec::from_slice(alloc, bytes)?,
         })
+    }
+}
+
+#[cfg(test)]
+mod tests {
+    use super::*;
+    use std::test::Fail;
+
+    #[test]
+    fn keeps_members_in_order(rt: HostRuntime) -> Result<(), Fail> {
+        let mut list = Listing::new(rt.alloc());
+        assert!(rt; list.is_empty());
+        list.push(4u8)?;
+        list.push(5u8)?;
+        assert_eq!(rt; list.as_slice(), [4, 5].as_slice());
+        assert_eq!(rt; list.get(1).copied(), Some(5));
+        assert_eq!(rt; list.get(2).copied(), None);
+        assert_eq!(rt; list.pop(), Some(5));
+        assert_eq!(rt; list.len(), 1);
+        let copy = Listing::from_slice(rt.alloc(), b"ab")?;
+        assert_eq!(rt; copy.as_slice(), b"ab".as_slice());
+        Ok(())
     }
 }
