@@ -1,8 +1,8 @@
 -- The scanner finds the whole gap at the front of some bytes.
-use Rattle.std.proofs.Common.{◌≡◌, ℕ, zero, suc, ◌+◌, ◌<◌, ◌≤◌, Bool, true, false, cond, eqb, List, [], ◌∷◌, ◌++◌, length, take, drop, Option, Some, None, refl, sym, ap, subst, ◌∙◌, arith, inl, inr, append_assoc}
-use Rattle.std.specs.Prelude.{◌⊎◌, ◌==◌, ◌||◌, ◌&&◌, not}
+use Rattle.std.proofs.Common.{◌≡◌, ℕ, zero, suc, ◌+◌, ◌≤◌, Bool, true, false, List, [], ◌∷◌, ◌++◌, length, take, drop, Some, None, refl, sym, ap, subst, ◌∙◌, arith, inl, inr, append_assoc}
+use Rattle.std.specs.Prelude.{◌==◌, ◌&&◌, not}
 use Rattle.std.specs.List.{list_all}
-use Rattle.std.proofs.lemmas.Bool.{eqb-true, and_parts, or_cases, or_parts, cases_Bool, and_left}
+use Rattle.std.proofs.lemmas.Bool.{eqb-true, and_parts, or_parts, cases_Bool, and_left}
 use Rattle.std.proofs.lemmas.Bool.Decides.{nat_tests}
 use Rattle.std.proofs.lemmas.List.{length-append}
 use Rattle.ir_lex.specs.Bytes.{is_blank, is_line_feed}
@@ -45,9 +45,9 @@ step false b bs =
     elim (cases_Bool (b == 47 && slash_next bs)) [
       | inl e ↦ let parts = and_parts (b == 47) (slash_next bs) e in begun refl (eqb-true b 47 parts.0) parts.1 (step_more false true b bs (rw e refl))
       | inr e ↦ elim (cases_Bool (is_blank b)) [
-          | inl f ↦ skipped refl f (step_more false false b bs (rw (e, f) refl))
-          | inr f ↦ stopped refl (rw (f, e) refl) (step_none false b bs (rw (e, f) refl))
-        ]
+        | inl f ↦ skipped refl f (step_more false false b bs (rw (e, f) refl))
+        | inr f ↦ stopped refl (rw (f, e) refl) (step_none false b bs (rw (e, f) refl))
+      ]
     ]
 
 -- ---- what is found is a gap, and the whole of it
@@ -96,7 +96,7 @@ skips_comment (b ∷ cs) s f =
     let slash = eqb-true b 47 s in
     let here = f cs (ap (λ (x : ℕ). x ∷ cs) slash) in
     subst (λ (x : ℕ). IsGap (drop (gap_len true (x ∷ cs)) (x ∷ cs)) (47 ∷ take (gap_len true (x ∷ cs)) (x ∷ cs))) (sym slash)
-      (rw (step_more true true 47 cs refl) (commented _ _ here))
+    (rw (step_more true true 47 cs refl) (commented _ _ here))
 
 skips : (n : ℕ) (c : Bool) (bytes : List ℕ) → length bytes ≤ n → Skipped c (take (gap_len c bytes) bytes) (drop (gap_len c bytes) bytes)
 skips n false [] le = rw (len_nothing false) none

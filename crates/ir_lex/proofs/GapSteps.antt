@@ -1,5 +1,5 @@
 -- One byte more of blanks and comments.
-use Rattle.std.proofs.Common.{◌≡◌, ℕ, zero, suc, ◌+◌, ◌<◌, ◌≤◌, Bool, true, false, List, [], ◌∷◌, length, get_or, drop, Option, Some, None, refl, sym, ap, ◌∙◌, arith, add-one, drop-cons}
+use Rattle.std.proofs.Common.{◌≡◌, ℕ, zero, suc, ◌+◌, ◌<◌, ◌≤◌, Bool, List, [], ◌∷◌, length, get_or, drop, Some, None, refl, ◌∙◌, arith, add-one}
 use Rattle.ir_lex.specs.Gaps.{slash_next}
 use Rattle.ir_lex.specs.Scanner.{gap_step, gap_len}
 

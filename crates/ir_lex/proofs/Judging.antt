@@ -1,16 +1,12 @@
 -- The scanner finds the token at the front of some bytes, or its fault.
-use Rattle.std.proofs.Common.{◌≡◌, ℕ, zero, suc, ◌+◌, ◌^◌, ◌<◌, ◌≤◌, Bool, true, false, cond, eqb, List, [], ◌∷◌, ◌++◌, length, take, drop, Option, Some, None, Result, Ok, Err, refl, sym, ap, subst, ◌∙◌, arith, inl, inr}
-use Rattle.std.specs.Prelude.{◌⊎◌, ◌==◌, ◌||◌, ◌&&◌, not, nat_lt}
+use Rattle.std.proofs.Common.{◌≡◌, ℕ, ◌<◌, ◌≤◌, List, [], ◌∷◌, ◌++◌, length, take, drop, Some, None, Result, Ok, Err, refl, sym, ap, subst, ◌∙◌, inl, inr}
+use Rattle.std.specs.Prelude.{nat_lt}
 use Rattle.std.proofs.lemmas.Bool.{ltb-true, ltb-false, le-ltb, lt-ltb, cases_Bool}
-use Rattle.std.proofs.lemmas.List.{take-append-drop, length-take-le, length-append}
 use Rattle.ir_lex.specs.declared.token.TokenKind.{TokenKind}
 use Rattle.ir_lex.specs.declared.token.TokenKind.TheVariants as kinds
-use Rattle.ir_lex.specs.declared.token.Mark.{Mark}
 use Rattle.ir_lex.specs.declared.token.LexKind.{LexKind}
 use Rattle.ir_lex.specs.declared.token.LexKind.TheVariants as faults
-use Rattle.ir_lex.specs.declared.token.Number.{Number}
 use Rattle.ir_lex.specs.Bytes.{is_sigil}
-use Rattle.ir_lex.specs.Numerals.{Means}
 use Rattle.ir_lex.specs.Lexemes.{IsLongest, NoneBegins, longest_token, IsToken, IsFault, too_long, bad_byte, bad_run, bad_name, too_large}
 use Rattle.ir_lex.specs.Scanner.{numeral, numbered, meant, judged, none_begun, sized, lexeme_of, lexeme, Found, number_at}
 use Rattle.ir_lex.proofs.Longest.{found, found_sound, found_longest, longest_found, none_found, found_none, none_is_none, some_is}
@@ -143,6 +139,7 @@ lexeme_none (b ∷ bs) e = absurd (go (found (b ∷ bs)) e)
     of_sized : (n : ℕ) (r : Result TokenKind LexKind) → sized n r ≡ Ok None → ⊥
     of_sized n (Ok k) g = none_is_none {A = TokenKind × ℕ} (k, n) (let same : Some (k, n) ≡ None = cc in sym same)
     of_sized n (Err d) g = cc
+
     go : (o : Found) → lexeme_of b bs o ≡ Ok None → ⊥
     go None g = cc
     go (Some x) g = of_sized x.1 (judged x.0 (take x.1 (b ∷ bs))) g
@@ -154,11 +151,13 @@ lexeme_fault (b ∷ bs) e h = go (found (b ∷ bs)) refl h
     of_sized : (n : ℕ) (r : Result TokenKind LexKind) → sized n r ≡ Err e → r ≡ Err e
     of_sized n (Ok k) g = absurd (cc)
     of_sized n (Err d) g = let same : d ≡ e = cc in ap (λ (x : LexKind). Err x) same
+
     none_case : NoneBegins (b ∷ bs) → none_begun b ≡ e → IsFault (b ∷ bs) e
     none_case none g = elim (cases_Bool (is_sigil b)) [
       | inl sigil ↦ let kind : faults.BadName ≡ e = rw sigil at g in subst (IsFault (b ∷ bs)) kind (bad_name b bs none sigil)
       | inr other ↦ let kind : faults.BadByte ≡ e = rw other at g in subst (IsFault (b ∷ bs)) kind (bad_byte b bs none other)
-      ]
+    ]
+
     go : (o : Found) → found (b ∷ bs) ≡ o → lexeme_of b bs o ≡ Err e → IsFault (b ∷ bs) e
     go None f g = none_case (found_none (b ∷ bs) f) (let same : none_begun b ≡ e = cc in same)
     go (Some x) f g = judged_bad (b ∷ bs) x.0 (take x.1 (b ∷ bs)) (drop x.1 (b ∷ bs)) e (found_longest (b ∷ bs) x f) (of_sized x.1 (judged x.0 (take x.1 (b ∷ bs))) g)

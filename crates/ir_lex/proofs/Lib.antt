@@ -8,3 +8,6 @@ pub mod Judging
 pub mod Nexts
 pub mod Lists
 pub mod Worked
+pub mod WordLemmas
+pub mod Cursors
+pub mod SeenWorked

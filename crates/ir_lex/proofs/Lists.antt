@@ -1,50 +1,32 @@
 -- The list of the tokens of a text.
-use Rattle.std.proofs.Common.{◌≡◌, ℕ, zero, suc, ◌+◌, ◌<◌, ◌≤◌, Bool, true, false, cond, eqb, List, [], ◌∷◌, ◌++◌, length, take, drop, map, Option, Some, None, Result, Ok, Err, refl, sym, ap, subst, ◌∙◌, arith, inl, inr, append_assoc}
-use Rattle.std.specs.Prelude.{◌&&◌, ◌||◌, ◌==◌, ◌-◌}
+use Rattle.std.proofs.Common.{◌≡◌, ℕ, zero, suc, ◌+◌, ◌<◌, ◌≤◌, true, false, List, [], ◌∷◌, ◌++◌, length, drop, map, Option, Some, None, Result, Ok, Err, refl, sym, ap, ◌∙◌, arith, inl, inr}
 use Rattle.std.specs.List.{list_all}
 use Rattle.std.proofs.lemmas.Bool.{and_parts, eqb-true, or_cases}
-use Rattle.std.proofs.lemmas.List.{take-append-drop, length-take-le, length-append, length-drop, drop-drop}
 use Rattle.ir_lex.specs.declared.token.TokenKind.{TokenKind}
 use Rattle.ir_lex.specs.declared.token.TokenKind.TheVariants as kinds
 use Rattle.ir_lex.specs.declared.token.Token.{Token}
 use Rattle.ir_lex.specs.declared.token.LexFault.{LexFault}
 use Rattle.ir_lex.specs.Bytes.{is_blank, goes_on, stops_at}
-use Rattle.ir_lex.specs.Spellings.{Spells}
 use Rattle.ir_lex.specs.Gaps.{IsGap, none, blank}
-use Rattle.ir_lex.specs.Lexemes.{IsLongest, IsToken}
-use Rattle.ir_lex.specs.Texts.{OnlyGap, IsNext, IsNextFault, Lexes, ends, stops, reads, spelling_of}
+use Rattle.ir_lex.specs.Texts.{IsNext, Lexes, ends, stops, reads, spelling_of}
 use Rattle.ir_lex.specs.Printed.{Piece, text_of, tokens_of, IsPiece, StandApart, AreSpaced}
-use Rattle.ir_lex.specs.Laws.{TokensAreOneList, SpellingsReadBack, PiecesReadBack, SpacedStandApart, NumbersAreSmall}
-use Rattle.ir_lex.specs.Scanner.{next_of}
+use Rattle.ir_lex.specs.Laws.{TokensAreOneList, SpellingsReadBack, PiecesReadBack, SpacedStandApart}
+use Rattle.ir_lex.specs.Scanner.{next_of, Tokens, with_token, tokens_within}
 use Rattle.ir_lex.proofs.Longest.{found_again, found_longest}
 use Rattle.ir_lex.proofs.Judging.{take_front}
 use Rattle.ir_lex.proofs.Nexts.{next_is, fault_is, end_is, next_found, fault_found, end_found, next_within, behind_next, next_spelling, drop_front}
 
 -- ---- there is one list
 
-abbrev pub Tokens : Type 0
-Tokens = List Token × Option LexFault
-
-abbrev pub with_token : Token → Tokens → Tokens
-with_token t r = (t ∷ r.0, r.1)
-
--- the tokens from a place on; the number bounds how many
-unfoldable pub tokens_within : ℕ → List ℕ → ℕ → Tokens
-tokens_within zero text at = ([], None)
-tokens_within (suc n) text at = elim (next_of text at) [
-    | Err e ↦ ([], Some e)
-    | Ok o ↦ elim o [ None ↦ ([], None) | Some t ↦ with_token t (tokens_within n text t.to) ]
-    ]
-
-within_token : (n : ℕ) (text : List ℕ) (at : ℕ) (t : Token) → next_of text at ≡ Ok (Some t) → tokens_within (suc n) text at ≡ with_token t (tokens_within n text t.to)
+pub within_token : (n : ℕ) (text : List ℕ) (at : ℕ) (t : Token) → next_of text at ≡ Ok (Some t) → tokens_within (suc n) text at ≡ with_token t (tokens_within n text t.to)
 unfolding tokens_within
 within_token n text at t e = rw (e, tokens_within) refl
 
-within_end : (n : ℕ) (text : List ℕ) (at : ℕ) → next_of text at ≡ Ok None → tokens_within (suc n) text at ≡ ([], None)
+pub within_end : (n : ℕ) (text : List ℕ) (at : ℕ) → next_of text at ≡ Ok None → tokens_within (suc n) text at ≡ ([], None)
 unfolding tokens_within
 within_end n text at e = rw (e, tokens_within) refl
 
-within_fault : (n : ℕ) (text : List ℕ) (at : ℕ) (f : LexFault) → next_of text at ≡ Err f → tokens_within (suc n) text at ≡ ([], Some f)
+pub within_fault : (n : ℕ) (text : List ℕ) (at : ℕ) (f : LexFault) → next_of text at ≡ Err f → tokens_within (suc n) text at ≡ ([], Some f)
 unfolding tokens_within
 within_fault n text at f e = rw (e, tokens_within) refl
 
@@ -74,10 +56,14 @@ lexes_are text _ _ _ (reads at t more end is later) (suc n) le =
 
 pub one_list : TokensAreOneList
 one_list text =
-    let here = tokens_within (suc (length text)) text 0 in
-    (here.0, here.1, lexed (length text) text 0 (omega arith), λ others other is.
-      let same : here ≡ (others, other) = lexes_are text 0 others other is (length text) (omega arith) in
-      (ap (λ (r : Tokens). r.0) (sym same), ap (λ (r : Tokens). r.1) (sym same)))
+    let here = tokens_within (suc (length text)) text 0 in (
+      here.0,
+      here.1,
+      lexed (length text) text 0 (omega arith),
+      λ others other is.
+          let same : here ≡ (others, other) = lexes_are text 0 others other is (length text) (omega arith) in
+          (ap (λ (r : Tokens). r.0) (sym same), ap (λ (r : Tokens). r.1) (sym same)),
+    )
 
 -- ---- printed tokens read back
 
@@ -92,16 +78,16 @@ blanks_gap (b ∷ space) after all = let parts = and_parts (is_blank b) (list_al
 
 abbrev piece_next : (text : List ℕ) (at : ℕ) (p : Piece) (after : List ℕ) → drop at text ≡ p.space ++ (p.spelling ++ after) → IsPiece p → stops_at (goes_on p.kind) after → IsNext text at (record { kind = p.kind; from = at + length p.space; to = at + length p.space + length p.spelling })
 piece_next text at p after parts is stop = record {
-    gap = p.space;
-    spelling = p.spelling;
-    after = after;
-    parts = parts;
-    is_gap = blanks_gap p.space (p.spelling ++ after) is.blanks;
-    longest = spellings_read_back p.kind p.spelling after is.spells stop;
-    is_token = is.is_token;
-    from = refl;
-    to = refl
-  }
+  gap = p.space;
+  spelling = p.spelling;
+  after = after;
+  parts = parts;
+  is_gap = blanks_gap p.space (p.spelling ++ after) is.blanks;
+  longest = spellings_read_back p.kind p.spelling after is.spells stop;
+  is_token = is.is_token;
+  from = refl;
+  to = refl;
+}
 
 pieces_lex : (text : List ℕ) (at : ℕ) (ps : List Piece) (last : List ℕ) → drop at text ≡ text_of ps last → StandApart ps last → Lexes text at (tokens_of at ps) None
 pieces_lex text at [] last parts all = ends at (rw parts (blanks_gap last [] all))
@@ -159,6 +145,3 @@ spaced_stop kind (p ∷ ps) last (is, some, later) all = space_stops kind p.spac
 pub spaced_stand_apart : SpacedStandApart
 spaced_stand_apart [] last spaced all = all
 spaced_stand_apart (p ∷ ps) last (is, some, later) all = (is, spaced_stop p.kind ps last later all, spaced_stand_apart ps last later all)
-
-pub numbers_are_small : NumbersAreSmall
-numbers_are_small text at t is e = rw (next_spelling text at t is) (is.is_token.number e)

@@ -1,12 +1,12 @@
 -- The scanner finds the longest spelling at the front of some bytes.
-use Rattle.std.proofs.Common.{◌≡◌, ℕ, zero, suc, ◌+◌, ◌<◌, ◌≤◌, Bool, true, false, cond, eqb, List, [], ◌∷◌, ◌++◌, length, take, drop, Option, Some, None, refl, sym, ap, subst, ◌∙◌, arith, add-one, inl, inr}
-use Rattle.std.specs.Prelude.{◌==◌, ◌||◌, ◌&&◌, option_map}
+use Rattle.std.proofs.Common.{◌≡◌, ℕ, suc, ◌+◌, ◌<◌, ◌≤◌, Bool, true, false, cond, eqb, List, [], ◌∷◌, ◌++◌, length, take, drop, Option, Some, None, refl, sym, ap, subst, ◌∙◌, arith, add-one, inl, inr}
+use Rattle.std.specs.Prelude.{◌==◌, ◌&&◌, option_map}
 use Rattle.std.specs.List.{prefix_len, list_all}
 use Rattle.std.specs.Char.{is_ascii_digit, is_ascii_alphabetic, is_ascii_alphanumeric}
 use Rattle.std.specs.Int.{is_in_range}
-use Rattle.std.proofs.lemmas.Bool.{eqb-true, and_parts, or_cases, or_left, or_right}
+use Rattle.std.proofs.lemmas.Bool.{eqb-true, and_parts, or_cases, or_left}
 use Rattle.std.proofs.lemmas.Bool.Decides.{nat_tests}
-use Rattle.std.proofs.lemmas.List.{take-append-drop, length-take-le, length-append}
+use Rattle.std.proofs.lemmas.List.{take-append-drop, length-take-le}
 use Rattle.std.proofs.lemmas.List.Sums.{prefix_len-le-length}
 use Rattle.ir_lex.specs.declared.token.TokenKind.{TokenKind}
 use Rattle.ir_lex.specs.declared.token.TokenKind.TheVariants as kinds
@@ -52,8 +52,8 @@ named_sound : (k : TokenKind) (b : ℕ) (bs : List ℕ) → ((body : List ℕ) �
 named_sound k b bs f z e =
     let n = prefix_len (goes_on k) bs in
     pick (n == 0) None (Some (k, n + 1)) z e
-      (λ zero_len h. none_is_none z h)
-      (λ some_len h. grown k b bs (λ body all len. let some : 0 < length body = grind (arith, nat_tests) in f body some all) z h)
+    (λ zero_len h. none_is_none z h)
+    (λ some_len h. grown k b bs (λ body all len. let some : 0 < length body = grind (arith, nat_tests) in f body some all) z h)
 
 alnum_from_digit : (b : ℕ) → is_ascii_digit b ≡ true → is_ascii_alphanumeric b ≡ true
 alnum_from_digit b e = or_left _ (is_in_range 97 122 b) (or_left _ (is_in_range 65 90 b) e)
@@ -81,8 +81,8 @@ signed_sound : (b : ℕ) (bs : List ℕ) → is_sign b ≡ true → (z : TokenKi
 signed_sound b [] sign z e = pick (b == 45 && false) (Some (kinds.Mark marks.Arrow, 2)) None z e (λ h1 h2. arrow_sound b [] h1 z h2) (λ h1 h2. none_is_none z h2)
 signed_sound b (c ∷ cs) sign z e =
     pick (is_ascii_digit c) (Some (kinds.Number, prefix_len is_ascii_alphanumeric (c ∷ cs) + 1)) (cond (b == 45 && c == 62) (Some (kinds.Mark marks.Arrow, 2)) None) z e
-      (λ digit h. signed_run b c cs sign digit z h)
-      (λ other h. pick (b == 45 && c == 62) (Some (kinds.Mark marks.Arrow, 2)) None z h (λ h1 h2. arrow_sound b (c ∷ cs) h1 z h2) (λ h1 h2. none_is_none z h2))
+    (λ digit h. signed_run b c cs sign digit z h)
+    (λ other h. pick (b == 45 && c == 62) (Some (kinds.Mark marks.Arrow, 2)) None z h (λ h1 h2. arrow_sound b (c ∷ cs) h1 z h2) (λ h1 h2. none_is_none z h2))
 
 mark_here : (c : ℕ) (w : Mark) (b : ℕ) (m : Mark) → mark_bytes w ≡ c ∷ [] → (b == c) ≡ true → Some w ≡ Some m → mark_bytes m ≡ b ∷ []
 mark_here c w b m e h k = rw (eqb-true b c h, ← e) (ap mark_bytes (sym (some_is w m k)))
@@ -169,7 +169,7 @@ grows _ _ (signed sign first body is digit all) rest =
       len = prefix_len (goes_on kinds.Number) (first ∷ (body ++ rest)) + 1;
       here = elim (or_cases _ _ is) [ inl e ↦ rw (eqb-true sign 43 e, digit) refl | inr e ↦ rw (eqb-true sign 45 e, digit) refl ];
       reaches = omega arith;
-      exact = λ stop. let again = prefix_again (goes_on kinds.Number) body rest all stop in omega arith
+      exact = λ stop. let again = prefix_again (goes_on kinds.Number) body rest all stop in omega arith;
     }
 grows _ _ (mark marks.Open) rest = record { len = 1; here = refl; reaches = omega arith; exact = λ _. refl }
 grows _ _ (mark marks.Close) rest = record { len = 1; here = refl; reaches = omega arith; exact = λ _. refl }
@@ -193,12 +193,12 @@ found_longest bytes z e =
       parts = sym (take-append-drop z.1 bytes);
       spells = sound.0;
       longest = λ other front rest parts spells.
-        let more = grows other front spells rest in
-        let same : (other, more.len) ≡ z = some_is _ _ (sym more.here ∙ ap found (sym parts) ∙ e) in
-        let len : more.len ≡ z.1 = ap (λ (p : TokenKind × ℕ). p.1) same in
-        let le = more.reaches in
-        let whole = length-take-le z.1 bytes sound.1 in
-        omega arith
+          let more = grows other front spells rest in
+          let same : (other, more.len) ≡ z = some_is _ _ (sym more.here ∙ ap found (sym parts) ∙ e) in
+          let len : more.len ≡ z.1 = ap (λ (p : TokenKind × ℕ). p.1) same in
+          let le = more.reaches in
+          let whole = length-take-le z.1 bytes sound.1 in
+          omega arith;
     }
 
 pub longest_found : (bytes : List ℕ) (kind : TokenKind) (spelling after : List ℕ) → IsLongest bytes kind spelling after → found bytes ≡ Some (kind, length spelling)

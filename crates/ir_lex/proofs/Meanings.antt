@@ -1,13 +1,11 @@
 -- The scanner finds the number that a spelling stands for.
-use Rattle.std.proofs.Common.{◌≡◌, ℕ, zero, suc, ◌+◌, ◌^◌, ◌<◌, ◌≤◌, Bool, true, false, cond, eqb, List, [], ◌∷◌, ◌++◌, length, drop, get_or, Option, Some, None, Result, Ok, Err, refl, sym, ap, subst, ◌∙◌, arith, inl, inr}
-use Rattle.std.specs.Prelude.{◌⊎◌, ◌==◌, ◌||◌, ◌&&◌, not, nat_lt, slice_index}
+use Rattle.std.proofs.Common.{◌≡◌, ℕ, suc, ◌^◌, ◌<◌, ◌≤◌, Bool, true, false, cond, eqb, List, [], ◌∷◌, length, Option, Some, None, Ok, Err, refl, sym, ap, subst, ◌∙◌, arith, inl, inr}
+use Rattle.std.specs.Prelude.{◌⊎◌, ◌==◌, not, nat_lt}
 use Rattle.std.specs.List.{list_all}
-use Rattle.std.specs.Char.{is_digit, digit_value}
+use Rattle.std.specs.Char.{is_digit}
 use Rattle.std.specs.Str.Parse.{digits_value}
 use Rattle.std.proofs.lemmas.Bool.{eqb-true, and_parts, or_cases, cases_Bool, le-ltb, lt-ltb, ltb-true, ltb-false}
 use Rattle.std.proofs.lemmas.Bool.Decides.{nat_tests}
-use Rattle.ir_lex.specs.declared.token.TokenKind.{TokenKind}
-use Rattle.ir_lex.specs.declared.token.TokenKind.TheVariants as kinds
 use Rattle.ir_lex.specs.declared.token.LexKind.{LexKind}
 use Rattle.ir_lex.specs.declared.token.LexKind.TheVariants as faults
 use Rattle.ir_lex.specs.declared.token.Number.{Number}
@@ -49,10 +47,10 @@ zero_denotes : (bs : List ℕ) (n : ℕ) → magnitude (48 ∷ bs) ≡ Some n �
 zero_denotes [] n e = subst (Denotes (48 ∷ [])) (some_is 0 n e) nought
 zero_denotes (d ∷ ds) n e =
     pick (suc (length ds) == 0) (Some 0) (cond (d == 120) (digits 16 ds) (digits 8 (d ∷ ds))) n e
-      (λ none h. absurd (let some = some_length (length ds) in cc))
-      (λ some f. pick (d == 120) (digits 16 ds) (digits 8 (d ∷ ds)) n f
-        (λ is h. digits_denote 16 ds (48 ∷ d ∷ ds) n h (λ all. rw (eqb-true d 120 is) (hexadecimal ds all)))
-        (λ other h. digits_denote 8 (d ∷ ds) (48 ∷ d ∷ ds) n h (λ all. octal (d ∷ ds) all)))
+    (λ none h. absurd (let some = some_length (length ds) in cc))
+    (λ some f. pick (d == 120) (digits 16 ds) (digits 8 (d ∷ ds)) n f
+    (λ is h. digits_denote 16 ds (48 ∷ d ∷ ds) n h (λ all. rw (eqb-true d 120 is) (hexadecimal ds all)))
+    (λ other h. digits_denote 8 (d ∷ ds) (48 ∷ d ∷ ds) n h (λ all. octal (d ∷ ds) all)))
 
 pub magnitude_denotes : (run : List ℕ) (n : ℕ) → magnitude run ≡ Some n → Denotes run n
 magnitude_denotes [] n e = none_is_none n e
@@ -69,9 +67,9 @@ not_sign base b bs le h =
     let digit_here = digit_first base b bs h in
     elim (cases_Bool (is_sign b)) as (λ _. is_sign b ≡ false) [
       | inl e ↦ absurd (elim (or_cases (b == 43) (b == 45) e) [
-          | inl is ↦ let digit : nat_lt 36 base ≡ true = subst (λ (c : ℕ). is_digit c base ≡ true) (eqb-true b 43 is) digit_here in grind (arith, nat_tests)
-          | inr is ↦ let digit : nat_lt 36 base ≡ true = subst (λ (c : ℕ). is_digit c base ≡ true) (eqb-true b 45 is) digit_here in grind (arith, nat_tests)
-        ])
+        | inl is ↦ let digit : nat_lt 36 base ≡ true = subst (λ (c : ℕ). is_digit c base ≡ true) (eqb-true b 43 is) digit_here in grind (arith, nat_tests)
+        | inr is ↦ let digit : nat_lt 36 base ≡ true = subst (λ (c : ℕ). is_digit c base ≡ true) (eqb-true b 45 is) digit_here in grind (arith, nat_tests)
+      ])
       | inr e ↦ e
     ]
 

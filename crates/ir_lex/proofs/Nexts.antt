@@ -1,9 +1,11 @@
 -- The scanner finds the next token of a text, or its fault, or that there is none.
-use Rattle.std.proofs.Common.{◌≡◌, ℕ, zero, suc, ◌+◌, ◌<◌, ◌≤◌, Bool, true, false, cond, eqb, List, [], ◌∷◌, ◌++◌, length, take, drop, Option, Some, None, Result, Ok, Err, refl, sym, ap, subst, ◌∙◌, arith, inl, inr, append_assoc}
-use Rattle.std.specs.Prelude.{◌⊎◌, ◌==◌, ◌||◌, ◌&&◌, not, ◌-◌, IfOk, IfSome}
+use Rattle.std.proofs.Common.{◌≡◌, ℕ, ◌+◌, ◌<◌, ◌≤◌, true, false, List, [], ◌∷◌, ◌++◌, length, take, drop, Option, Some, None, Result, Ok, Err, refl, sym, ap, subst, ◌∙◌, arith, inl, inr, append_assoc}
+use Rattle.std.specs.Prelude.{◌==◌, ◌&&◌, ◌-◌, IfOk, IfSome}
 use Rattle.std.proofs.lemmas.Bool.{eqb-true, and_parts, or_cases, cases_Bool}
 use Rattle.std.proofs.lemmas.List.{take-append-drop, length-take-le, length-append, length-drop, append-nil, drop-drop}
 use Rattle.ir_lex.specs.declared.token.TokenKind.{TokenKind}
+use Rattle.ir_lex.specs.declared.token.TokenKind.TheVariants as kinds
+use Rattle.ir_lex.specs.Numerals.{IsNumber}
 use Rattle.ir_lex.specs.declared.token.Token.{Token}
 use Rattle.ir_lex.specs.declared.token.LexKind.{LexKind}
 use Rattle.ir_lex.specs.declared.token.LexFault.{LexFault}
@@ -11,7 +13,7 @@ use Rattle.ir_lex.specs.Bytes.{is_blank}
 use Rattle.ir_lex.specs.Gaps.{IsGap, begins_gap, slash_next}
 use Rattle.ir_lex.specs.declared.token.Mark.TheVariants as marks
 use Rattle.ir_lex.specs.Spellings.{Spells, global, local, object, directive, word, plain, signed, mark}
-use Rattle.ir_lex.specs.Lexemes.{IsLongest, IsToken, IsFault}
+use Rattle.ir_lex.specs.Lexemes.{IsLongest, IsToken}
 use Rattle.ir_lex.specs.Texts.{OnlyGap, IsNext, IsNextFault, spelling_of}
 use Rattle.ir_lex.specs.Scanner.{gap_len, lexeme, placed, next_of}
 use Rattle.ir_lex.proofs.Longest.{found, longest_found, none_is_none, some_is}
@@ -124,7 +126,7 @@ next_found text at t e =
       longest = subst (λ (l : List ℕ). IsLongest l t.kind (take size bytes) (drop size bytes)) joined (subst (λ (k : TokenKind). IsLongest bytes k (take size bytes) (drop size bytes)) (sym p.2) lex.longest);
       is_token = subst (λ (k : TokenKind). IsToken k (take size bytes)) (sym p.2) lex.is_token;
       from = p.3 ∙ ap (λ (m : ℕ). at + m) (sym gap_size);
-      to = p.4 ∙ (let from = p.3 in omega arith)
+      to = p.4 ∙ (let from = p.3 in omega arith);
     }
 
 pub fault_found : (text : List ℕ) (at : ℕ) (e : LexFault) → next_of text at ≡ Err e → IsNextFault text at e
@@ -141,7 +143,7 @@ fault_found text at e h =
       is_gap = gap_found rest;
       whole = gap_whole false rest;
       is_fault = lexeme_fault (drop n rest) e.kind p.0;
-      place = p.1 ∙ ap (λ (m : ℕ). at + m) (sym gap_size)
+      place = p.1 ∙ ap (λ (m : ℕ). at + m) (sym gap_size);
     }
 
 pub end_found : (text : List ℕ) (at : ℕ) → next_of text at ≡ Ok None → OnlyGap text at
@@ -197,16 +199,16 @@ pub behind_next : (text : List ℕ) (at : ℕ) (t : Token) → (is : IsNext text
 behind_next text at t is =
     let size : t.to ≡ at + (length is.gap + length is.spelling) = is.to ∙ (let from = is.from in omega arith) in
     rw size (sym (drop-drop (length is.gap + length is.spelling) at text) ∙ ap (drop (length is.gap + length is.spelling)) is.parts
-      ∙ ap (λ (n : ℕ). drop n (is.gap ++ (is.spelling ++ is.after))) (sym (length-append is.gap is.spelling))
-      ∙ ap (drop (length (is.gap ++ is.spelling))) (sym (append_assoc is.gap is.spelling is.after))
-      ∙ drop_front (is.gap ++ is.spelling) is.after)
+    ∙ ap (λ (n : ℕ). drop n (is.gap ++ (is.spelling ++ is.after))) (sym (length-append is.gap is.spelling))
+    ∙ ap (drop (length (is.gap ++ is.spelling))) (sym (append_assoc is.gap is.spelling is.after))
+    ∙ drop_front (is.gap ++ is.spelling) is.after)
 
 -- the bytes of the next token
 pub next_spelling : (text : List ℕ) (at : ℕ) (t : Token) → (is : IsNext text at t) → spelling_of text t ≡ is.spelling
 next_spelling text at t is =
     let size : t.to - t.from ≡ length is.spelling = (let to = is.to in omega arith) in
     let front : drop t.from text ≡ is.spelling ++ is.after =
-        ap (λ (n : ℕ). drop n text) is.from ∙ sym (drop-drop (length is.gap) at text) ∙ ap (drop (length is.gap)) is.parts ∙ drop_front is.gap (is.spelling ++ is.after) in
+    ap (λ (n : ℕ). drop n text) is.from ∙ sym (drop-drop (length is.gap) at text) ∙ ap (drop (length is.gap)) is.parts ∙ drop_front is.gap (is.spelling ++ is.after) in
     rw (size, front) (take_front is.spelling is.after)
 
 -- ---- as the contract has it
@@ -225,3 +227,8 @@ pub found_within : (text : List ℕ) (at : ℕ) (r : Result (Option Token) LexFa
 found_within text at (Err f) e = tt
 found_within text at (Ok None) e = tt
 found_within text at (Ok (Some t)) e = (next_within text at t (next_found text at t e)).within
+
+pub found_number : (text : List ℕ) (at : ℕ) (r : Result (Option Token) LexFault) → next_of text at ≡ r → IfOk r (λ o. IfSome o (λ t. t.kind ≡ kinds.Number → IsNumber (spelling_of text t)))
+found_number text at (Err f) e = tt
+found_number text at (Ok None) e = tt
+found_number text at (Ok (Some t)) e = λ kind. let is = next_found text at t e in rw (next_spelling text at t is) (is.is_token.number kind)

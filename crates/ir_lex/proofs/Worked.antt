@@ -1,10 +1,10 @@
 -- The worked examples.
-use Rattle.std.proofs.Common.{◌≡◌, ℕ, zero, suc, List, [], ◌∷◌, length, Option, Some, None, refl, arith, true, false}
+use Rattle.std.proofs.Common.{ℕ, suc, List, [], ◌∷◌, length, refl, arith}
 use Rattle.std.specs.Prelude.{codes}
 use Rattle.ir_lex.specs.Numerals.{nought, decimal, octal, hexadecimal, plain, plus, minus}
-use Rattle.ir_lex.specs.Examples.{Has, Kinds, Gaps, Refused, Numbers}
-use Rattle.ir_lex.specs.Scanner.{gap_len, next_of}
-use Rattle.ir_lex.proofs.Lists.{Tokens, LexesAs, tokens_within, lexed}
+use Rattle.ir_lex.specs.Examples.{Kinds, Gaps, Refused, Numbers}
+use Rattle.ir_lex.specs.Scanner.{gap_len, next_of, tokens_within}
+use Rattle.ir_lex.proofs.Lists.{LexesAs, lexed}
 
 -- the tokens of a text
 here : (text : List ℕ) → LexesAs text 0 (tokens_within (suc (length text)) text 0)
@@ -24,15 +24,15 @@ refused = (here (codes "@"), here (codes " .9"), here (codes "0x"), here (codes 
 
 pub numbers : Numbers
 numbers = (
-    plain (codes "0") 0 nought,
-    minus (codes "0") 0 nought,
-    plain (codes "00") 0 (octal (codes "0") refl),
-    minus (codes "1") 1 (decimal 49 [] refl refl),
-    plus (codes "5") 5 (decimal 53 [] refl refl),
-    plain (codes "120") 120 (decimal 49 (codes "20") refl refl),
-    plain (codes "012") 10 (octal (codes "12") refl),
-    minus (codes "0x1f") 31 (hexadecimal (codes "1f") refl),
-    plain (codes "0xA0") 160 (hexadecimal (codes "A0") refl),
-    plain (codes "340282366920938463463374607431768211455") 340282366920938463463374607431768211455 (decimal 51 (codes "40282366920938463463374607431768211455") refl refl),
-    plain (codes "340282366920938463463374607431768211456") 340282366920938463463374607431768211456 (decimal 51 (codes "40282366920938463463374607431768211456") refl refl)
-  )
+  plain (codes "0") 0 nought,
+  minus (codes "0") 0 nought,
+  plain (codes "00") 0 (octal (codes "0") refl),
+  minus (codes "1") 1 (decimal 49 [] refl refl),
+  plus (codes "5") 5 (decimal 53 [] refl refl),
+  plain (codes "120") 120 (decimal 49 (codes "20") refl refl),
+  plain (codes "012") 10 (octal (codes "12") refl),
+  minus (codes "0x1f") 31 (hexadecimal (codes "1f") refl),
+  plain (codes "0xA0") 160 (hexadecimal (codes "A0") refl),
+  plain (codes "340282366920938463463374607431768211455") 340282366920938463463374607431768211455 (decimal 51 (codes "40282366920938463463374607431768211455") refl refl),
+  plain (codes "340282366920938463463374607431768211456") 340282366920938463463374607431768211456 (decimal 51 (codes "40282366920938463463374607431768211456") refl refl),
+)

@@ -1,15 +1,13 @@
 -- Laws of the tokens of a text.
-use Rattle.std.specs.Prelude.{◌≡◌, ◌<◌, ◌^◌, ℕ, true, List, [], ◌∷◌, ◌++◌, Option, Some, None, map}
+use Rattle.std.specs.Prelude.{◌≡◌, ℕ, true, List, ◌++◌, Option, None, map}
 use Rattle.std.specs.List.{list_all}
 use Rattle.ir_lex.specs.declared.token.TokenKind.{TokenKind}
-use Rattle.ir_lex.specs.declared.token.TokenKind.TheVariants as kinds
 use Rattle.ir_lex.specs.declared.token.Token.{Token}
 use Rattle.ir_lex.specs.declared.token.LexFault.{LexFault}
 use Rattle.ir_lex.specs.Bytes.{is_blank, goes_on, stops_at}
 use Rattle.ir_lex.specs.Spellings.{Spells}
 use Rattle.ir_lex.specs.Lexemes.{IsLongest}
-use Rattle.ir_lex.specs.Numerals.{IsNumber}
-use Rattle.ir_lex.specs.Texts.{Lexes, IsNext, spelling_of}
+use Rattle.ir_lex.specs.Texts.{Lexes, spelling_of}
 use Rattle.ir_lex.specs.Printed.{Piece, text_of, tokens_of, StandApart, AreSpaced}
 
 -- each text has one list of tokens, which goes to its end or to one lexical fault
@@ -30,7 +28,3 @@ PiecesReadBack = (pieces : List Piece) (last : List ℕ) → StandApart pieces l
 -- pieces with a blank at least between them stand apart
 abbrev pub SpacedStandApart : Type 0
 SpacedStandApart = (pieces : List Piece) (last : List ℕ) → AreSpaced pieces → list_all is_blank last ≡ true → StandApart pieces last
-
--- a token of the kind of numbers is a number below 2^128
-abbrev pub NumbersAreSmall : Type 0
-NumbersAreSmall = (text : List ℕ) (at : ℕ) (t : Token) → IsNext text at t → t.kind ≡ kinds.Number → IsNumber (spelling_of text t)

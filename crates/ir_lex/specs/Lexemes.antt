@@ -1,5 +1,5 @@
 -- What begins at the front of some bytes: a token, or a lexical fault.
-use Rattle.std.specs.Prelude.{◌≡◌, ◌≤◌, ◌<◌, ◌^◌, ℕ, true, false, List, [], ◌∷◌, ◌++◌, length}
+use Rattle.std.specs.Prelude.{◌≡◌, ◌≤◌, ◌<◌, ◌^◌, ℕ, true, false, List, ◌∷◌, ◌++◌, length}
 use Rattle.ir_lex.specs.declared.token.TokenKind.{TokenKind}
 use Rattle.ir_lex.specs.declared.token.TokenKind.TheVariants as kinds
 use Rattle.ir_lex.specs.declared.token.LexKind.{LexKind}

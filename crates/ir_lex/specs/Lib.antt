@@ -6,5 +6,11 @@ pub mod Gaps
 pub mod Texts
 pub mod Printed
 pub mod Laws
+pub mod WordTable
+pub mod Seen
+pub mod WordGroups
 pub mod Scanner
+pub mod TokenForms
 pub mod Examples
+pub mod SeenLaws
+pub mod SeenExamples

@@ -1,5 +1,5 @@
 -- How each kind of token is spelled. Of a number this tells the run alone; what a run stands for is told by Numerals.
-use Rattle.std.specs.Prelude.{◌≡◌, ◌<◌, ℕ, true, List, [], ◌∷◌, length, codes}
+use Rattle.std.specs.Prelude.{◌≡◌, ◌<◌, ℕ, true, List, ◌∷◌, length, codes}
 use Rattle.std.specs.List.{list_all}
 use Rattle.std.specs.Char.{is_ascii_digit, is_ascii_alphabetic, is_ascii_alphanumeric}
 use Rattle.ir_lex.specs.declared.token.TokenKind.{TokenKind}

@@ -58,7 +58,10 @@ fn signed(bytes: &[u8]) -> Option<(TokenKind, usize)>
     ensures within { IfSome result (λ x. x.1 ≤ length bytes.now) }
 {
     match bytes {
-        [_, b'0'..=b'9', ..] => Some((TokenKind::Number, run_len(&bytes[1..], TokenKind::Number) + 1)),
+        [_, b'0'..=b'9', ..] => Some((
+            TokenKind::Number,
+            run_len(&bytes[1..], TokenKind::Number) + 1,
+        )),
         [b'-', b'>', ..] => Some((TokenKind::Mark(Mark::Arrow), 2)),
         _ => None,
     }
@@ -100,7 +103,10 @@ fn begun(bytes: &[u8]) -> Option<(TokenKind, usize)>
         b'a'..=b'z' | b'A'..=b'Z' => {
             Some((TokenKind::Word, run_len(&bytes[1..], TokenKind::Word) + 1))
         }
-        b'0'..=b'9' => Some((TokenKind::Number, run_len(&bytes[1..], TokenKind::Number) + 1)),
+        b'0'..=b'9' => Some((
+            TokenKind::Number,
+            run_len(&bytes[1..], TokenKind::Number) + 1,
+        )),
         b'@' => named(bytes, TokenKind::Global),
         b'%' => named(bytes, TokenKind::Local),
         b'$' => named(bytes, TokenKind::Object),

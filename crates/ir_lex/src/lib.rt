@@ -1,16 +1,24 @@
 //! The tokens of a text.
 #![tactic(auto)]
 
+mod cursor;
 mod gap;
-mod laws;
 mod lexeme;
+mod name;
 mod next;
 mod numeral;
+mod theorems;
 mod token;
+mod words;
 
-pub use laws::{
-    numbers_are_small, pieces_read_back, spaced_stand_apart, spellings_read_back,
-    tokens_are_one_list, worked_examples,
-};
+pub use cursor::{Cursor, symbol};
+pub use name::{Name, Numeral};
 pub use next::{next_token, number};
+pub use theorems::{
+    each_word_is_found, numbers_are_meant, pieces_read_back, seen_examples, spaced_stand_apart,
+    spellings_read_back, texts_end, tokens_are_one_list, tokens_are_seen, worked_examples,
+};
 pub use token::{LexFault, LexKind, Mark, Number, Token, TokenKind};
+
+#[cfg(test)]
+mod tests;

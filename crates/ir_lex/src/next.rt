@@ -1,8 +1,9 @@
 // The next token of a text.
-ghost use Rattle.std.specs.Prelude.{◌≡◌, ◌≤◌, ◌<◌, ◌↔◌, length, Ok, Err, Some, None, IfOk, IfSome};
+ghost use Rattle.std.specs.Prelude.{◌≡◌, ◌≤◌, ◌<◌, ◌↔◌, length, Ok, Err, Some, None, IfOk, IfErr, IfSome};
 ghost use Rattle.ir_lex.specs.declared.token.Token.{Token};
 ghost use Rattle.ir_lex.specs.declared.token.LexFault.{LexFault};
 ghost use Rattle.ir_lex.specs.declared.token.Number.{Number};
+ghost use Rattle.ir_lex.specs.declared.token.TokenKind.TheVariants as kinds;
 ghost use Rattle.ir_lex.specs.Numerals.{Means, IsNumber};
 ghost use Rattle.ir_lex.specs.Texts.{OnlyGap, IsNext, IsNextFault, spelling_of};
 ghost use Rattle.ir_lex.specs.Scanner.{next_of};
@@ -13,9 +14,13 @@ use crate::numeral::number_of;
 use crate::token::{LexFault, Number, Token};
 
 #[tactic(auto, unfolding(crate::specs::Scanner::next_of))]
-fn scan(text: &[u8], at: usize) -> Result<Option<Token>, LexFault>
+pub(crate) fn scan(text: &[u8], at: usize) -> Result<Option<Token>, LexFault>
     requires { at ≤ length text.now }
-    ensures { result ≡ next_of text.now at }
+    ensures found { result ≡ next_of text.now at }
+    ensures behind { IfOk result (λ o. IfSome o (λ t. at ≤ t.from)) }
+    ensures in_order { IfOk result (λ o. IfSome o (λ t. t.from ≤ t.to)) }
+    ensures within { IfOk result (λ o. IfSome o (λ t. t.to ≤ length text.now)) }
+    ensures place { IfErr result (λ f. f.place ≤ length text.now) }
 {
     let from = at + gap_len(&text[at..]);
     match lexeme(&text[from..]) {
@@ -42,6 +47,10 @@ pub fn next_token(text: &[u8], at: usize) -> Result<Option<Token>, LexFault>
     ensures behind { IfOk result (λ o. IfSome o (λ t. at ≤ t.from)) }
     ensures some { IfOk result (λ o. IfSome o (λ t. t.from < t.to)) }
     ensures within { IfOk result (λ o. IfSome o (λ t. t.to ≤ length text.now)) }
+    ensures place { IfErr result (λ f. f.place ≤ length text.now) }
+
+    // `number` may be called with a number token.
+    ensures number { IfOk result (λ o. IfSome o (λ t. t.kind ≡ kinds.Number → IsNumber (spelling_of text.now t))) }
 {
     scan(text, at)
 }

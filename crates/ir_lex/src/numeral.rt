@@ -4,7 +4,7 @@ ghost use Rattle.std.specs.List.{list_all};
 ghost use Rattle.std.specs.Char.{digit_value, is_digit};
 ghost use Rattle.std.specs.Str.Parse.{digits_value};
 ghost use Rattle.ir_lex.specs.Numerals.{are_digits};
-ghost use Rattle.ir_lex.specs.Scanner.{digits, magnitude, small, unsigned, numeral, number_at};
+ghost use Rattle.ir_lex.specs.Scanner.{digits, magnitude, small, unsigned, numeral, number_at, number_of};
 
 use crate::token::{LexKind, Number};
 
@@ -82,15 +82,27 @@ pub(crate) fn numeral(spelling: &[u8]) -> Result<u128, LexKind>
     }
 }
 
+fn number_at(spelling: &[u8], magnitude: u128) -> Number
+    ensures { result ≡ number_at spelling.now magnitude }
+{
+    Number {
+        negative: matches!(spelling, [b'-', ..]) && magnitude != 0,
+        magnitude,
+    }
+}
+
 /// The number that a spelling stands for.
 pub(crate) fn number_of(spelling: &[u8]) -> Number
     requires { is_ok (numeral spelling.now) ≡ true }
     ensures magnitude { numeral spelling.now ≡ Ok result.magnitude }
     ensures signed { result ≡ number_at spelling.now result.magnitude }
 {
-    let magnitude = numeral(spelling).unwrap();
-    Number {
-        negative: matches!(spelling, [b'-', ..]) && magnitude != 0,
-        magnitude,
-    }
+    number_at(spelling, numeral(spelling).unwrap())
+}
+
+/// The number that a spelling stands for, 0 where it stands for none below 2^128.
+pub(crate) fn number_or_nought(spelling: &[u8]) -> Number
+    ensures { result ≡ number_of spelling.now }
+{
+    number_at(spelling, numeral(spelling).unwrap_or(0))
 }

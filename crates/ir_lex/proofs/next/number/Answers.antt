@@ -1,4 +1,4 @@
-use Rattle.std.proofs.Common.{◌≡◌, sym, ap, subst, true}
+use Rattle.std.proofs.Common.{◌≡◌, sym, ap, subst}
 use Rattle.std.specs.Prelude.{is_ok}
 use Rattle.ir_lex.specs.declared.token.Number.{Number}
 use Rattle.ir_lex.specs.Numerals.{Means}

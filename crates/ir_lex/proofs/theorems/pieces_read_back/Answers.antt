@@ -1,5 +1,5 @@
 use Rattle.ir_lex.proofs.Lists.{pieces_read_back as law}
-use Rattle.ir_lex.proofs.laws.pieces_read_back.Goals as goal
+use Rattle.ir_lex.proofs.theorems.pieces_read_back.Goals as goal
 
 pub returns : goal.returns
 returns c = law

@@ -1,5 +1,5 @@
 use Rattle.ir_lex.proofs.Lists.{one_list as law}
-use Rattle.ir_lex.proofs.laws.tokens_are_one_list.Goals as goal
+use Rattle.ir_lex.proofs.theorems.tokens_are_one_list.Goals as goal
 
 pub returns : goal.returns
 returns c = law

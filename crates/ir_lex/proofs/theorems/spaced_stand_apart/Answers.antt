@@ -1,5 +1,5 @@
 use Rattle.ir_lex.proofs.Lists.{spaced_stand_apart as law}
-use Rattle.ir_lex.proofs.laws.spaced_stand_apart.Goals as goal
+use Rattle.ir_lex.proofs.theorems.spaced_stand_apart.Goals as goal
 
 pub returns : goal.returns
 returns c = law

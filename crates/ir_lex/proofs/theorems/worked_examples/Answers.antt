@@ -1,5 +1,5 @@
 use Rattle.ir_lex.proofs.Worked as worked
-use Rattle.ir_lex.proofs.laws.worked_examples.Goals as goal
+use Rattle.ir_lex.proofs.theorems.worked_examples.Goals as goal
 
 pub returns-clause-kinds : goal.returns-clause-kinds
 returns-clause-kinds c = worked.kinds
