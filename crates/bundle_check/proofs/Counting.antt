@@ -9,8 +9,8 @@ use Rattle.ir_text.specs.declared.tree.Funcdef.{Funcdef}
 use Rattle.bundle_check.specs.declared.meaning.Meaning.{Meaning}
 use Rattle.bundle_check.specs.declared.meaning.Meaning.TheVariants as meanings
 use Rattle.bundle_check.specs.Demands.{first_unmet}
-use Rattle.bundle_check.specs.Names.{Names, found, name_of, named, counted, names_from, names_of}
-use Rattle.bundle_check.specs.Checking.{item_demands, items_demands, check_demands}
+use Rattle.bundle_check.specs.Names.{Names, found, named, counted, names_from}
+use Rattle.bundle_check.specs.Checking.{items_demands, check_demands}
 use Rattle.bundle_check.specs.Functions.{functions_of, function_numbered, function_number, as_function}
 use Rattle.bundle_check.specs.Numbering.{numbered_from}
 use Rattle.bundle_check.proofs.Meeting.{both_met, test_met, none_there}

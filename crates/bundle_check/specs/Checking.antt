@@ -16,7 +16,7 @@ use Rattle.bundle_check.specs.declared.fault.CheckKind.TheVariants.{NotBuilt}
 use Rattle.bundle_check.specs.declared.meaning.Meaning.{Meaning}
 use Rattle.bundle_check.specs.declared.meaning.Meaning.TheVariants as meanings
 use Rattle.bundle_check.specs.Demands.{Demands, none, demand, ◌⨾◌}
-use Rattle.bundle_check.specs.Names.{Names, found, name_of, named, counted}
+use Rattle.bundle_check.specs.Names.{Names, found, named, counted}
 
 -- the results of a block so far, each with its number
 abbrev pub Results : Type 0

@@ -1,11 +1,10 @@
 -- Worked examples.
-use Rattle.std.specs.Prelude.{◌≡◌, ℕ, ◌-◌, ◌^◌, true, false, List, [], ◌∷◌, Option, Some, None, codes, refl}
+use Rattle.std.specs.Prelude.{◌≡◌, ◌-◌, ◌^◌, true, [], ◌∷◌, Some, None, codes, refl}
 use Rattle.ir_text.specs.declared.tree.TypeForm.TheVariants as forms
 use Rattle.ir_text.specs.declared.tree.Literal.TheVariants as literals
 use Rattle.ir_text.specs.declared.tree.Item.TheVariants as items
 use Rattle.ir_text.specs.Examples.{named, plain, adds}
 use Rattle.bundle_check.specs.declared.fault.CheckKind.TheVariants.{NotBuilt}
-use Rattle.bundle_check.specs.declared.fault.CheckFault.{CheckFault}
 use Rattle.bundle_check.specs.declared.fault.CheckFault.TheVariants.{At}
 use Rattle.bundle_check.specs.Constants.{value_of_number}
 use Rattle.bundle_check.specs.Demands.{first_unmet}

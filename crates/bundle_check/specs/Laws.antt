@@ -1,5 +1,5 @@
 -- Laws of checked bundles and their functions.
-use Rattle.std.specs.Prelude.{◌≡◌, ℕ, List, Option, Some, None, IsSomeAnd}
+use Rattle.std.specs.Prelude.{◌≡◌, ℕ, List, Some, None, IsSomeAnd}
 use Rattle.ir_text.specs.declared.tree.Item.{Item}
 use Rattle.ir_text.specs.declared.tree.Funcdef.{Funcdef}
 use Rattle.bundle_check.specs.Demands.{Demands, first_unmet, first_of, listed}

@@ -1,6 +1,6 @@
 -- The code of a bundle's functions, with numbers in place of names. It is made of any bundle, and means something where the
 -- demands on the bundle are met: a name that is missing counts as 0.
-use Rattle.std.specs.Prelude.{ℕ, List, [], ◌∷◌, ◌++◌, Option, unwrap_or}
+use Rattle.std.specs.Prelude.{ℕ, List, [], ◌∷◌, ◌++◌, unwrap_or}
 use Rattle.ir_text.specs.declared.tree.Operand.{Operand}
 use Rattle.ir_text.specs.declared.tree.Operand.TheVariants as operands
 use Rattle.ir_text.specs.declared.tree.Op.{Op}

@@ -1,12 +1,12 @@
 -- The elements of the grammar's lists.
-use Rattle.std.proofs.Common.{◌≡◌, Bool, true, false, List, [], ◌∷◌, ◌++◌, Result, Ok, Err, refl, sym, ap, subst, ◌∙◌, append_assoc}
+use Rattle.std.proofs.Common.{◌≡◌, true, false, List, [], ◌∷◌, ◌++◌, Result, Ok, Err, refl, sym, ap, subst, ◌∙◌, append_assoc}
 use Rattle.std.proofs.lemmas.List.{append-nil}
 use Rattle.text_forms.specs.declared.symbol.Symbol.TheVariants as symbols
 use Rattle.text_forms.specs.declared.fault.Fault.{Fault}
 use Rattle.text_forms.specs.declared.fault.ReadError.{ReadError}
 use Rattle.text_forms.specs.Tokens.{Tok, at, first}
 use Rattle.text_forms.specs.Forms.{no_flag}
-use Rattle.text_forms.specs.Reading.{read, read_from}
+use Rattle.text_forms.specs.Reading.{read}
 use Rattle.text_forms.specs.Answers.{Gives, kept}
 use Rattle.text_forms.proofs.Lists.{steady_read, goes_on_by, is_done_by, fails_by, close_fails_by}
 use Rattle.text_forms.proofs.Loops.{IsPlain}

@@ -1,5 +1,5 @@
 -- Worked examples: texts with their answers.
-use Rattle.std.specs.Prelude.{◌≡◌, ℕ, true, false, List, [], ◌∷◌, Result, Ok, Err, codes, refl}
+use Rattle.std.specs.Prelude.{◌≡◌, ℕ, false, List, [], ◌∷◌, Ok, Err, codes, refl}
 use Rattle.text_forms.specs.Reading.{elements}
 use Rattle.ir_lex.specs.declared.token.LexKind.TheVariants.{BadName}
 use Rattle.ir_lex.specs.declared.name.Name.{Name}

@@ -1,5 +1,5 @@
 -- Slots that hold the values of names.
-use Rattle.std.proofs.Common.{◌≡◌, ℕ, ◌+◌, ◌<◌, zero, suc, Bool, true, false, List, [], ◌∷◌, ◌++◌, length, Option, Some, None, is_some, unwrap_or, if◌then◌else◌, get_or, refl, sym, ap, subst, ◌∙◌, arith, length-append}
+use Rattle.std.proofs.Common.{◌≡◌, ℕ, ◌+◌, ◌<◌, Bool, true, false, List, [], ◌∷◌, ◌++◌, length, Option, Some, None, is_some, if◌then◌else◌, get_or, refl, sym, ap, subst, ◌∙◌, arith, length-append}
 use Rattle.std.specs.Str.{bytes_eq}
 use Rattle.std.proofs.lemmas.Slice.Eq.{bytes_eq-Decides}
 use Rattle.std.proofs.lemmas.List.{get_or_append_left}
@@ -15,11 +15,10 @@ use Rattle.bundle_check.specs.declared.meaning.Meaning.TheVariants as meanings
 use Rattle.bundle_check.specs.Demands.{first_unmet}
 use Rattle.bundle_check.specs.Names.{Names, found, names_of}
 use Rattle.bundle_check.specs.Checking.{Results, with_result, is_constant, operand_demands, op_demands}
-use Rattle.bundle_check.specs.Functions.{as_constant}
 use Rattle.bundle_check.specs.Numbering.{source_of, code_of}
 use Rattle.bundle_check.proofs.Meeting.{both_met, test_met}
 use Rattle.bundle_check.proofs.Counting.{found_behind}
-use Rattle.mu_step.specs.Values.{Values, bound, value_of, result_of, sum_of, with_some}
+use Rattle.mu_step.specs.Values.{Values, bound, value_of, result_of}
 use Rattle.mu_step.specs.Slots.{source_value, code_value, SourceFits, CodeFits}
 use Rattle.mu_step.proofs.Lookups.{found_front}
 

@@ -1,5 +1,5 @@
 -- The run of a checked bundle, by names and by numbers.
-use Rattle.std.proofs.Common.{◌≡◌, ℕ, ◌+◌, ◌<◌, zero, suc, List, [], ◌∷◌, ◌++◌, length, Option, Some, None, Result, Ok, Err, IfOk, IsSome, slice_get, refl, sym, ap, subst, ◌∙◌, arith, append_assoc, add-one}
+use Rattle.std.proofs.Common.{◌≡◌, ℕ, ◌+◌, ◌<◌, zero, suc, List, [], ◌∷◌, ◌++◌, length, Option, Some, None, Result, Ok, Err, IfOk, IsSome, slice_get, refl, sym, ap, subst, ◌∙◌, arith, append_assoc}
 use Rattle.std.specs.declared.alloc.AllocError.{AllocError}
 use Rattle.std.proofs.lemmas.List.{length-append, append-nil}
 use Rattle.ir_text.specs.declared.tree.Operand.{Operand}
@@ -10,9 +10,9 @@ use Rattle.ir_text.specs.declared.tree.Item.{Item}
 use Rattle.ir_text.specs.declared.tree.Item.TheVariants as items
 use Rattle.bundle_check.specs.declared.code.Function.{Function}
 use Rattle.bundle_check.specs.Demands.{first_unmet}
-use Rattle.bundle_check.specs.Names.{Names, found, named, counted, names_from, names_of}
+use Rattle.bundle_check.specs.Names.{Names, found, named, counted, names_from}
 use Rattle.bundle_check.specs.Checking.{Results, with_result, insts_demands, block_demands, items_demands, check_demands}
-use Rattle.bundle_check.specs.Functions.{functions_of, function_numbered}
+use Rattle.bundle_check.specs.Functions.{functions_of}
 use Rattle.bundle_check.specs.Numbering.{source_of, code_of, codes_of, with_results, function_of, numbered_from, numbered}
 use Rattle.bundle_check.proofs.Meeting.{both_met, test_met, none_there}
 use Rattle.mu_step.specs.declared.line.Line.{Line}
@@ -20,8 +20,8 @@ use Rattle.mu_step.specs.declared.line.Line.TheVariants as lines
 use Rattle.mu_step.specs.declared.line.Note.TheVariants.{Returned}
 use Rattle.mu_step.specs.declared.line.Ending.TheVariants.{Done}
 use Rattle.mu_step.specs.Values.{Values, bound, value_of, result_of}
-use Rattle.mu_step.specs.Step.{Config, start, step, stepped, given, returned}
-use Rattle.mu_step.specs.Run.{Run, behind, continued, run_from, run_of_block, run}
+use Rattle.mu_step.specs.Step.{Config, stepped, given, returned}
+use Rattle.mu_step.specs.Run.{Run, behind, continued, run_from, run}
 use Rattle.mu_step.specs.Slots.{source_value, code_value, slots_after, value_returned, SourceFits, CodesFit, FunctionFits}
 use Rattle.mu_step.proofs.Lookups.{at_seam, at_end}
 use Rattle.mu_step.proofs.Holding.{Holds, holds_none, holds_more, Begins, operand_value, op_value}

@@ -1,17 +1,16 @@
 -- Worked examples.
-use Rattle.std.specs.Prelude.{◌≡◌, ℕ, ◌+◌, ◌-◌, ◌^◌, List, [], ◌∷◌, Option, Some, None, codes, refl}
+use Rattle.std.specs.Prelude.{◌≡◌, ℕ, ◌+◌, ◌-◌, ◌^◌, List, [], ◌∷◌, Some, None, codes, refl}
 use Rattle.ir_lex.specs.declared.name.Name.{Name}
 use Rattle.ir_text.specs.declared.tree.Operand.TheVariants as operands
 use Rattle.ir_text.specs.declared.tree.Op.TheVariants as ops
-use Rattle.ir_text.specs.declared.tree.Inst.{Inst}
 use Rattle.ir_text.specs.declared.tree.Block.{Block}
 use Rattle.ir_text.specs.Examples.{adds}
 use Rattle.mu_step.specs.declared.line.Note.TheVariants.{Returned}
 use Rattle.mu_step.specs.declared.line.Line.TheVariants as lines
 use Rattle.mu_step.specs.declared.line.Ending.TheVariants.{Done}
 use Rattle.mu_step.specs.Values.{sum_of}
-use Rattle.mu_step.specs.Step.{Config, start, Next, Stuck, step}
-use Rattle.mu_step.specs.Run.{Run, run}
+use Rattle.mu_step.specs.Step.{start, Next, Stuck, step}
+use Rattle.mu_step.specs.Run.{run}
 
 wraps : sum_of (2 ^ 64 - 1) 3 ≡ 2
 wraps = refl

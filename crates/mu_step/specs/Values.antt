@@ -1,5 +1,5 @@
 -- What the names of a block have as values while it runs. A value is a number below 2^64.
-use Rattle.std.specs.Prelude.{ℕ, ◌+◌, ◌%◌, ◌^◌, List, [], ◌∷◌, Option, Some, None}
+use Rattle.std.specs.Prelude.{ℕ, ◌+◌, ◌%◌, ◌^◌, List, ◌∷◌, Option, Some, None}
 use Rattle.ir_lex.specs.declared.name.Name.{Name}
 use Rattle.ir_text.specs.declared.tree.Operand.{Operand}
 use Rattle.ir_text.specs.declared.tree.Operand.TheVariants as operands

@@ -1,4 +1,4 @@
-use Rattle.std.proofs.Common.{◌≡◌, [], ◌++◌, length}
+use Rattle.std.proofs.Common.{◌≡◌, ◌++◌, length}
 use Rattle.bundle_check.specs.Demands.{first_unmet}
 use Rattle.bundle_check.specs.Names.{names_from, names_of}
 use Rattle.bundle_check.specs.Checking.{items_demands, check_demands}

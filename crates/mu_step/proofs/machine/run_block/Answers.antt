@@ -1,5 +1,5 @@
 use Rattle.std.proofs.Common.{◌≡◌, ◌∙◌, ap, sym}
-use Rattle.mu_step.proofs.Running.{Agrees, agrees, returns_value, lines_are}
+use Rattle.mu_step.proofs.Running.{agrees, returns_value, lines_are}
 use Rattle.mu_step.specs.Run.{run}
 use Rattle.mu_step.proofs.machine.run_block.Goals as goal
 

@@ -1,4 +1,4 @@
-use Rattle.std.proofs.Common.{◌≡◌, List, [], ◌∷◌, ◌++◌, ℕ, sym, ◌∙◌, ap, map, None, refl}
+use Rattle.std.proofs.Common.{◌≡◌, ◌∙◌, ap, map, None, refl}
 use Rattle.bundle_check.specs.Names.{found}
 use Rattle.bundle_check.proofs.Entries.{names_pushed, entry_of}
 use Rattle.bundle_check.proofs.scope.Scope.add.Goals as goal
