@@ -21,7 +21,8 @@ use Rattle.ir_lex.specs.declared.cursor.Held.{Held}
 use Rattle.ir_lex.specs.Texts.{Lexes, ends, stops, reads, spelling_of}
 use Rattle.ir_lex.specs.Seen.{mark_symbol, symbol_of, fault_symbol, tok_of, seen}
 use Rattle.ir_lex.specs.WordTable.{Row, look_up, words, directives, common_names}
-use Rattle.ir_lex.specs.Scanner.{next_of, Tokens, tokens_within, tokens_from, held, held_tokens}
+use Rattle.ir_lex.specs.Scanner.{next_of}
+use Rattle.ir_lex.specs.Walk.{Tokens, tokens_within, tokens_from, held, held_tokens}
 use Rattle.ir_lex.proofs.Nexts.{next_within, next_found}
 use Rattle.ir_lex.specs.SeenLaws.{TokensAreSeen, TextsEnd, NumbersAreMeant, EachWordIsFound}
 use Rattle.ir_lex.proofs.Meanings.{means_numeral, one_number}

@@ -11,7 +11,8 @@ use Rattle.ir_lex.specs.Gaps.{IsGap, none, blank}
 use Rattle.ir_lex.specs.Texts.{IsNext, Lexes, ends, stops, reads, spelling_of}
 use Rattle.ir_lex.specs.Printed.{Piece, text_of, tokens_of, IsPiece, StandApart, AreSpaced}
 use Rattle.ir_lex.specs.Laws.{TokensAreOneList, SpellingsReadBack, PiecesReadBack, SpacedStandApart}
-use Rattle.ir_lex.specs.Scanner.{next_of, Tokens, with_token, tokens_within}
+use Rattle.ir_lex.specs.Scanner.{next_of}
+use Rattle.ir_lex.specs.Walk.{Tokens, with_token, tokens_within}
 use Rattle.ir_lex.proofs.Longest.{found_again, found_longest}
 use Rattle.ir_lex.proofs.Judging.{take_front}
 use Rattle.ir_lex.proofs.Nexts.{next_is, fault_is, end_is, next_found, fault_found, end_found, next_within, behind_next, next_spelling, drop_front}

@@ -3,7 +3,8 @@ use Rattle.std.proofs.Common.{ℕ, suc, List, [], ◌∷◌, length, refl, arith
 use Rattle.std.specs.Prelude.{codes}
 use Rattle.ir_lex.specs.Numerals.{nought, decimal, octal, hexadecimal, plain, plus, minus}
 use Rattle.ir_lex.specs.Examples.{Kinds, Gaps, Refused, Numbers}
-use Rattle.ir_lex.specs.Scanner.{gap_len, next_of, tokens_within}
+use Rattle.ir_lex.specs.Scanner.{gap_len, next_of}
+use Rattle.ir_lex.specs.Walk.{tokens_within}
 use Rattle.ir_lex.proofs.Lists.{LexesAs, lexed}
 
 -- the tokens of a text

@@ -10,6 +10,7 @@ pub mod WordTable
 pub mod Seen
 pub mod WordGroups
 pub mod Scanner
+pub mod Walk
 pub mod TokenForms
 pub mod Examples
 pub mod SeenLaws

@@ -1,5 +1,6 @@
--- What the private functions of the scanner compute, in the order of the code. No public contract cites this file.
-use Rattle.std.specs.Prelude.{◌+◌, ◌^◌, ℕ, suc, Bool, true, false, Option, Some, None, Result, Ok, Err, List, [], ◌∷◌, ◌-◌, length, take, drop, if◌then◌else◌, ◌&&◌, ◌==◌, not, nat_lt, slice_index, option_map, zero}
+-- What the functions of the scanner compute, in the order of the code. Public contracts cite `number_of` alone, and a law says
+-- what it is.
+use Rattle.std.specs.Prelude.{◌+◌, ◌^◌, ℕ, suc, Bool, true, false, Option, Some, None, Result, Ok, Err, List, [], ◌∷◌, length, take, drop, if◌then◌else◌, ◌&&◌, ◌==◌, not, nat_lt, slice_index, option_map}
 use Rattle.std.specs.List.{prefix_len}
 use Rattle.std.specs.Result.{result_unwrap_or}
 use Rattle.std.specs.Char.{is_ascii_digit, is_ascii_alphabetic}
@@ -13,16 +14,10 @@ use Rattle.ir_lex.specs.declared.token.LexKind.{LexKind}
 use Rattle.ir_lex.specs.declared.token.LexKind.TheVariants as faults
 use Rattle.ir_lex.specs.declared.token.LexFault.{LexFault}
 use Rattle.ir_lex.specs.declared.token.Number.{Number}
-use Rattle.ir_lex.specs.declared.cursor.Held.{Held}
 use Rattle.ir_lex.specs.Bytes.{is_blank, is_line_feed, is_sign, is_sigil, goes_on}
 use Rattle.ir_lex.specs.Numerals.{are_digits}
 use Rattle.ir_lex.specs.Lexemes.{longest_token}
 use Rattle.ir_lex.specs.Gaps.{slash_next}
-use Rattle.ir_lex.specs.Texts.{spelling_of}
-use Rattle.ir_lex.specs.Seen.{symbol_of, fault_symbol, seen}
-use Rattle.text_forms.specs.declared.symbol.Symbol.{Symbol}
-use Rattle.text_forms.specs.declared.symbol.Symbol.TheVariants as symbols
-use Rattle.text_forms.specs.Tokens.{Tok, is_last}
 
 -- ---- gaps
 
@@ -118,7 +113,7 @@ mark_of b =
 abbrev pub marked : ℕ → Found
 marked b = option_map (λ m. (kinds.Mark m, 1)) (mark_of b)
 
--- the sigil that a byte is
+-- the longest spelling that begins with that byte
 abbrev pub begun : ℕ → List ℕ → Found
 begun b bs =
     if is_ascii_alphabetic b then Some (kinds.Word, prefix_len (goes_on kinds.Word) bs + 1)
@@ -177,34 +172,3 @@ unfoldable pub next_of : List ℕ → ℕ → Result (Option Token) LexFault
 next_of text at =
     let n = gap_len false (drop at text) in
     placed (at + n) (lexeme (drop n (drop at text)))
-
--- ---- the tokens of a text
-
-abbrev pub Tokens : Type 0
-Tokens = List Token × Option LexFault
-
-abbrev pub with_token : Token → Tokens → Tokens
-with_token t r = (t ∷ r.0, r.1)
-
--- the tokens from a place on; the number bounds how many
-unfoldable pub tokens_within : ℕ → List ℕ → ℕ → Tokens
-tokens_within zero text at = ([], None)
-tokens_within (suc n) text at = elim (next_of text at) [
-  | Err e ↦ ([], Some e)
-  | Ok o ↦ elim o [ None ↦ ([], None) | Some t ↦ with_token t (tokens_within n text t.to) ]
-]
-
--- the same as the grammars see them
-unfoldable pub tokens_from : List ℕ → ℕ → List Tok
-tokens_from text at = let r = tokens_within (suc (length text)) text at in seen text r.0 r.1
-
--- ---- what a cursor holds: what its token is to the grammars, and where it begins and ends
-
-abbrev pub held : List ℕ → Result (Option Token) LexFault → Held
-held text (Err f) = record { symbol = fault_symbol f.kind; from = f.place; to = f.place }
-held text (Ok None) = record { symbol = symbols.End; from = length text; to = length text }
-held text (Ok (Some t)) = record { symbol = symbol_of t.kind (spelling_of text t); from = t.from; to = t.to }
-
--- the tokens from that one on
-abbrev pub held_tokens : List ℕ → Symbol → ℕ → ℕ → List Tok
-held_tokens text symbol from to = record { symbol = symbol; place = from; spelling = take (to - from) (drop from text) } ∷ (if is_last symbol then [] else tokens_from text to)

@@ -3,7 +3,7 @@ use Rattle.std.specs.Prelude.{◌≡◌, ℕ, List, [], ◌∷◌, codes}
 use Rattle.text_forms.specs.declared.symbol.Symbol.{Symbol}
 use Rattle.text_forms.specs.declared.symbol.Symbol.TheVariants as symbols
 use Rattle.text_forms.specs.Tokens.{Tok}
-use Rattle.ir_lex.specs.Scanner.{tokens_from}
+use Rattle.ir_lex.specs.Walk.{tokens_from}
 
 abbrev pub tok : Symbol → ℕ → List ℕ → Tok
 tok symbol place spelling = record { symbol = symbol; place = place; spelling = spelling }

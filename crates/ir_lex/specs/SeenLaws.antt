@@ -12,7 +12,8 @@ use Rattle.ir_lex.specs.Numerals.{Means}
 use Rattle.ir_lex.specs.Texts.{Lexes}
 use Rattle.ir_lex.specs.WordTable.{Row, look_up, words, directives, common_names}
 use Rattle.ir_lex.specs.Seen.{seen}
-use Rattle.ir_lex.specs.Scanner.{tokens_from, number_of}
+use Rattle.ir_lex.specs.Scanner.{number_of}
+use Rattle.ir_lex.specs.Walk.{tokens_from}
 
 -- `tokens_from` is the one list of the tokens of a text from a place on
 abbrev pub TokensAreSeen : Type 0

@@ -1,5 +1,5 @@
 // A place in a text, with the token there.
-ghost use Rattle.std.specs.Prelude.{◌≡◌, ◌≤◌, ◌<◌, ℕ, List, [], ◌∷◌, length, true, false, Some};
+ghost use Rattle.std.specs.Prelude.{◌≡◌, ◌≤◌, ◌<◌, ℕ, List, [], ◌∷◌, length, true, false, Some, OnErr};
 ghost use Rattle.std.specs.List.{list_any};
 ghost use Rattle.text_forms.specs.Numbers.{same};
 ghost use Rattle.text_forms.specs.Tokens.{Tok, at, symbol_ahead, first, rest_of, fault_at, refusal, is_last, goes_on_behind};
@@ -9,7 +9,8 @@ ghost use Rattle.text_forms.specs.Texts.{none_last};
 ghost use Rattle.text_forms.specs.Reading.{read};
 ghost use Rattle.text_forms.specs.Answers.{Gives};
 ghost use Rattle.ir_lex.specs.TokenForms.{mark, choice, name, numeral};
-ghost use Rattle.ir_lex.specs.Scanner.{next_of, held, held_tokens, tokens_from};
+ghost use Rattle.ir_lex.specs.Scanner.{next_of};
+ghost use Rattle.ir_lex.specs.Walk.{held, held_tokens, tokens_from};
 
 use crate::name::{Name, Numeral};
 use crate::next::scan;
@@ -225,7 +226,8 @@ impl<'a> Cursor<'a> {
     #[tactic(auto, using(crate::proofs::Cursors::one_goes_on), unfolding(crate::specs::TokenForms::mark))]
     pub fn mark(&mut self, symbol: Symbol) -> Result<usize, ReadError>
         requires { is_last symbol ≡ false }
-        ensures { Gives result self.new (read (mark symbol) self.old) }
+        ensures read { Gives result self.new (read (mark symbol) self.old) }
+        ensures stays { OnErr result (self.new ≡ self.old) }
     {
         if !self.at(symbol) {
             return Err(ReadError::Fault(self.fault()));
@@ -239,7 +241,8 @@ impl<'a> Cursor<'a> {
     #[tactic(auto, using(crate::proofs::Cursors::among_goes_on), unfolding(crate::specs::TokenForms::choice))]
     pub fn choice(&mut self, symbols: &[Symbol]) -> Result<Symbol, ReadError>
         requires { none_last symbols.now ≡ true }
-        ensures { Gives result self.new (read (choice symbols.now) self.old) }
+        ensures read { Gives result self.new (read (choice symbols.now) self.old) }
+        ensures stays { OnErr result (self.new ≡ self.old) }
     {
         if !self.at_any(symbols) {
             return Err(ReadError::Fault(self.fault()));
@@ -249,11 +252,12 @@ impl<'a> Cursor<'a> {
         Ok(symbol)
     }
 
-    /// Takes a name of one of these kinds. After `Memory` the cursor stays where it is.
+    /// Takes a name of one of these kinds. It is refused for want of memory too.
     #[tactic(auto, using(crate::proofs::Cursors::among_goes_on), unfolding(crate::specs::TokenForms::name))]
     pub fn name(&mut self, alloc: Global, symbols: &[Symbol]) -> Result<Name, ReadError>
         requires { none_last symbols.now ≡ true }
-        ensures { Gives result self.new (read (name symbols.now) self.old) }
+        ensures read { Gives result self.new (read (name symbols.now) self.old) }
+        ensures stays { OnErr result (self.new ≡ self.old) }
     {
         if !self.at_any(symbols) {
             return Err(ReadError::Fault(self.fault()));
@@ -267,7 +271,8 @@ impl<'a> Cursor<'a> {
     /// Takes a number.
     #[tactic(auto, unfolding(crate::specs::TokenForms::numeral))]
     pub fn numeral(&mut self) -> Result<Numeral, ReadError>
-        ensures { Gives result self.new (read numeral self.old) }
+        ensures read { Gives result self.new (read numeral self.old) }
+        ensures stays { OnErr result (self.new ≡ self.old) }
     {
         if !self.at(Symbol::Number) {
             return Err(ReadError::Fault(self.fault()));

@@ -1,14 +1,14 @@
 -- Reading a list one element at a time, as a loop does: lists with a state.
-use Rattle.std.proofs.Common.{◌≡◌, ℕ, zero, suc, ◌<◌, Bool, true, false, cond, List, [], ◌∷◌, ◌++◌, length, Result, Ok, Err, refl, sym, ap, subst, ◌∙◌, arith}
+use Rattle.std.proofs.Common.{◌≡◌, ℕ, zero, suc, ◌<◌, Bool, true, false, cond, List, [], ◌∷◌, ◌++◌, length, Result, Ok, Err, refl, sym, ap, subst, ◌∙◌, arith, ◌&&◌}
 use Rattle.std.proofs.lemmas.List.{length-append}
 use Rattle.text_forms.specs.declared.symbol.Symbol.{Symbol}
 use Rattle.text_forms.specs.declared.fault.Fault.{Fault}
 use Rattle.text_forms.specs.declared.fault.ReadError.{ReadError}
 use Rattle.text_forms.specs.declared.fault.ReadError.TheVariants as errors
 use Rattle.text_forms.specs.Tokens.{Tok, at, first, too_many_at}
-use Rattle.text_forms.specs.Forms.{Flags, Form, token, nothing, never, both, on, made, left_out, past, many, lines}
+use Rattle.text_forms.specs.Forms.{Flags, Form, token, nothing, never, both, on, made, left_out, past, many, lines, within}
 use Rattle.text_forms.specs.Begins.{empties, begins, decides, steady}
-use Rattle.text_forms.specs.Reading.{◌>>=◌, elements, read_from}
+use Rattle.text_forms.specs.Reading.{◌>>=◌, elements, read_from, read}
 use Rattle.text_forms.specs.Answers.{Gives, kept}
 use Rattle.text_forms.proofs.Tests.{and_true}
 use Rattle.text_forms.proofs.Beginnings.{nonempty, at_derived}
@@ -79,6 +79,16 @@ past_read f p ts off = rw off refl
 
 pub past_found : {A : Type 0} (f : Form A) (p : ℕ) (ts : List Tok) → at (begins f) ts ≡ true → read_from (past f) p ts ≡ Err (too_many_at p)
 past_found f p ts here = rw here refl
+
+-- where a limit may be reached: the form is read as ever where it does not pass it, or where it does not begin
+pub fits_read : {A : Type 0} (f : Form A) → steady f ≡ true → (full : Bool) (p : ℕ) (ts : List Tok) → full && at (begins f) ts ≡ false → read_from (within f full) p ts ≡ read f ts
+fits_read f own false p ts e = steady_read f own p 0 ts
+fits_read f own true p ts e = past_read f p ts e ∙ steady_read f own p 0 ts
+
+-- and else TooMany stands where the innermost element begins
+pub passes_read : {A : Type 0} (f : Form A) (full : Bool) (p : ℕ) (ts : List Tok) → full && at (begins f) ts ≡ true → read_from (within f full) p ts ≡ Err (too_many_at p)
+passes_read f false p ts e = absurd cc
+passes_read f true p ts e = past_found f p ts e
 
 -- ---- lists with a state
 

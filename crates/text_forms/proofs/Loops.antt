@@ -1,4 +1,49 @@
 -- What a loop that reads a list needs: `until` and `up_to`.
+--
+-- A reader of `until (symbols.Close ∷ []) f`, where `element` reads one f, is this function and two proof files, in which
+-- `f_element : IsPlain f` is `record { element = record { some = refl; decided = refl }; own = refl }` under `unfolding` f.
+--
+--   fn list(cursor: &mut Cursor, alloc: Global) -> Result<Listing<T>, ReadError>
+--       ensures { Gives result cursor.new (read (until (symbols.Close ∷ []) f) cursor.old) }
+--   {
+--       let mut members = Listing::new(alloc);
+--       'each: while !cursor.at(Symbol::Close) {
+--           members.push(element(cursor, alloc)?)?;
+--       }
+--       cursor.bump();
+--       Ok(members)
+--   }
+--
+--   invariant-each l = with_front l.members (read (until (symbols.Close ∷ []) f) l.cursor) ≡ read (until (symbols.Close ∷ []) f) l.fn.cursor
+--   decreases-each l = length l.cursor
+--
+--   returns-in_err-element c =
+--       let p = err_from_is_err_and c.from_residual.result c.from_residual.ensures.1 in
+--       rw (p.1, p.2) (fails_with (symbols.Close ∷ []) f f_element c.each.members c.each.cursor c.element.new.cursor (read (until (symbols.Close ∷ []) f) c.args.cursor.now) c.in_err-element.field-0.0 (sym c.each-test.ensures) c.in_err-element.ensures c.each.invariant)
+--   each-smaller c = shorter f f_element.element 0 c.each.cursor c.in_ok-element.field-0 c.element.new.cursor c.in_ok-element.ensures
+--   each-preserved c = rw c.in_ok-push.ensures (goes_on (symbols.Close ∷ []) f f_element c.each.members c.each.cursor c.in_ok-element.field-0 c.element.new.cursor (read (until (symbols.Close ∷ []) f) c.args.cursor.now) (sym c.each-test.ensures) c.in_ok-element.ensures c.each.invariant)
+--   returns c = rw c.bump.ensures (is_done (symbols.Close ∷ []) f f_element c.each.members c.each.cursor (read (until (symbols.Close ∷ []) f) c.args.cursor.now) (sym c.each-test.ensures) c.each.invariant)
+--
+-- Of `up_to 256 (symbols.Close ∷ []) f` the loop begins with a test, where `begins` is whether an f begins here, and the
+-- invariant counts the members; `unfolding` f stands above the answers that speak of `begins f`.
+--
+--           if passes_limit(members.len(), 256, begins(cursor)) {
+--               return Err(ReadError::Fault(cursor.too_many()));
+--           }
+--
+--   invariant-each l = with_front l.members (read (up_to_from (length l.members) 256 (symbols.Close ∷ []) f) l.cursor) ≡ read (up_to 256 (symbols.Close ∷ []) f) l.fn.cursor
+--
+--   past : nat_le 256 (length c.each.members) && at (begins f) c.each.cursor ≡ true
+--   past = rw (← c.len.ensures, ← c.begins.ensures) (sym c.passes_limit.ensures ∙ c.if-passes_limit.true)
+--   fits : the same ≡ false, with c.if-passes_limit.false
+--
+--   returns-then-passes_limit c = rw c.too_many.ensures (too_many 256 (symbols.Close ∷ []) f f_element (length c.each.members) c.each.members c.each.cursor TOTAL past (sym c.each-test.ensures) c.each.invariant)
+--   returns-in_err-element c = .. (fails_up_to 256 (symbols.Close ∷ []) f f_element (length c.each.members) c.each.members c.each.cursor c.element.new.cursor TOTAL c.in_err-element.field-0.0 fits (sym c.each-test.ensures) c.in_err-element.ensures c.each.invariant)
+--   each-preserved c = rw c.in_ok-push.ensures (goes_on_counted 256 (symbols.Close ∷ []) f f_element c.each.members c.each.cursor c.in_ok-element.field-0 c.element.new.cursor TOTAL fits (sym c.each-test.ensures) c.in_ok-element.ensures c.each.invariant)
+--   returns c = rw c.bump.ensures (is_done_up_to 256 (symbols.Close ∷ []) f f_element (length c.each.members) c.each.members c.each.cursor TOTAL (sym c.each-test.ensures) c.each.invariant)
+--
+-- Where a list has a state of its own, the lemmas of `Lists` serve in the same way: `goes_on_by`, `is_done_by`, `fails_by` and
+-- `close_fails_by`, with k the meaning of the whole list as a function of what is still to be read.
 use Rattle.std.proofs.Common.{◌≡◌, ℕ, suc, Bool, true, false, List, [], ◌∷◌, ◌++◌, length, Result, Ok, Err, refl, sym, ap, subst, ◌∙◌, arith, append_assoc}
 use Rattle.std.specs.Prelude.{nat_le, ◌&&◌}
 use Rattle.std.proofs.lemmas.List.{append-nil, length-append}
@@ -12,7 +57,7 @@ use Rattle.text_forms.specs.Begins.{begins, steady}
 use Rattle.text_forms.specs.Reading.{◌>>=◌, token_at, read_from, read}
 use Rattle.text_forms.specs.Answers.{Gives, GivesAll, kept, with_front}
 use Rattle.text_forms.proofs.Tests.{both_true, false_not}
-use Rattle.text_forms.proofs.Lists.{kept_twice, steady_read, IsElement, past_read, past_found, goes_on_by, is_done_by, fails_by}
+use Rattle.text_forms.proofs.Lists.{kept_twice, steady_read, IsElement, fits_read, passes_read, goes_on_by, is_done_by, fails_by}
 
 token_here : (xs : List Symbol) (ts : List Tok) → at xs ts ≡ true → token_at xs ts ≡ Ok (first ts, rest_of ts)
 token_here xs ts here = rw here refl
@@ -69,17 +114,12 @@ module _ {A : Type 0} (n : ℕ) (xs : List Symbol) (f : Form A) (el : IsPlain f)
   unfolded_up_to : (k : ℕ) (front : List A) (ts : List Tok) (total : Result (List A × List Tok) Fault) → with_front front (read (up_to_from k n xs f) ts) ≡ total → kept (λ (x : List A × Tok). front ++ x.0) (read (limited k) ts) ≡ total
   unfolded_up_to k front ts total so_far = sym (kept_twice (λ (ys : List A). front ++ ys) (λ (x : List A × Tok). x.0) (read (limited k) ts)) ∙ so_far
 
-  -- an element that does not pass the limit: within it, or past it where none begins
-  element_is : (full : Bool) (p : ℕ) (ts : List Tok) → full && at (begins f) ts ≡ false → read_from (within f full) p ts ≡ read f ts
-  element_is false p ts e = steady_read f el.own p 0 ts
-  element_is true p ts e = past_read f p ts e ∙ steady_read f el.own p 0 ts
-
   pub goes_on_up_to : (k : ℕ) (front : List A) (ts : List Tok) (a : A) (rest : List Tok) (total : Result (List A × List Tok) Fault) → nat_le n k && at (begins f) ts ≡ false → at xs ts ≡ false → read f ts ≡ Ok (a, rest)
       → with_front front (read (up_to_from k n xs f) ts) ≡ total → with_front (front ++ a ∷ []) (read (up_to_from (suc k) n xs f) rest) ≡ total
   goes_on_up_to k front ts a rest total fits off one so_far =
       kept_twice (λ (ys : List A). (front ++ a ∷ []) ++ ys) (λ (x : List A × Tok). x.0) (read (limited (suc k)) rest)
       ∙ goes_on_by one_flag (λ k. nat_le n k) (λ k (_ : A). suc k) (within f) xs (token xs) (within_element f el.element) 0 k (λ (x : List A × Tok). front ++ x.0) (λ (x : List A × Tok). (front ++ a ∷ []) ++ x.0) ts a rest total
-      (λ ys b. sym (append_assoc front (a ∷ []) ys)) off (element_is (nat_le n k) (first ts).place ts fits ∙ one) (unfolded_up_to k front ts total so_far)
+      (λ ys b. sym (append_assoc front (a ∷ []) ys)) off (fits_read f el.own (nat_le n k) (first ts).place ts fits ∙ one) (unfolded_up_to k front ts total so_far)
 
   -- the same where as many stand before as were read
   pub goes_on_counted : (front : List A) (ts : List Tok) (a : A) (rest : List Tok) (total : Result (List A × List Tok) Fault) → nat_le n (length front) && at (begins f) ts ≡ false → at xs ts ≡ false → read f ts ≡ Ok (a, rest)
@@ -101,12 +141,8 @@ module _ {A : Type 0} (n : ℕ) (xs : List Symbol) (f : Form A) (el : IsPlain f)
   pub fails_up_to : (k : ℕ) (front : List A) (ts rest : List Tok) (total : Result (List A × List Tok) Fault) (e : ReadError) → nat_le n k && at (begins f) ts ≡ false → at xs ts ≡ false → Gives {A = A} (Err e) rest (read f ts)
       → with_front front (read (up_to_from k n xs f) ts) ≡ total → Gives {A = List A} (Err e) rest total
   fails_up_to k front ts rest total e fits off one so_far =
-      fails_at k front ts rest total e off (subst (λ (r : Result (A × List Tok) Fault). Gives {A = A} (Err e) rest r) (sym (element_is (nat_le n k) (first ts).place ts fits)) one) so_far
+      fails_at k front ts rest total e off (subst (λ (r : Result (A × List Tok) Fault). Gives {A = A} (Err e) rest r) (sym (fits_read f el.own (nat_le n k) (first ts).place ts fits)) one) so_far
 
   -- an element begins past the limit
   pub too_many : (k : ℕ) (front : List A) (ts : List Tok) (total : Result (List A × List Tok) Fault) → nat_le n k && at (begins f) ts ≡ true → at xs ts ≡ false → with_front front (read (up_to_from k n xs f) ts) ≡ total → total ≡ Err (too_many_at (first ts).place)
-  too_many k front ts total past off so_far = fails_at k front ts ts total (errors.Fault (too_many_at (first ts).place)) off (found (nat_le n k) past) so_far
-    where
-      found : (full : Bool) → full && at (begins f) ts ≡ true → read_from (within f full) (first ts).place ts ≡ Err (too_many_at (first ts).place)
-      found false e = absurd cc
-      found true e = past_found f (first ts).place ts e
+  too_many k front ts total past off so_far = fails_at k front ts ts total (errors.Fault (too_many_at (first ts).place)) off (passes_read f (nat_le n k) (first ts).place ts past) so_far
