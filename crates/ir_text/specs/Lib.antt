@@ -1,0 +1,4 @@
+pub mod Grammar
+pub mod NotBuilt
+pub mod Grammatical
+pub mod Examples

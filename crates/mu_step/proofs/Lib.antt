@@ -1,0 +1,3 @@
+pub mod Lookups
+pub mod Holding
+pub mod Running

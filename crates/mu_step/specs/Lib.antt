@@ -1,0 +1,5 @@
+pub mod Values
+pub mod Step
+pub mod Run
+pub mod Slots
+pub mod Examples
