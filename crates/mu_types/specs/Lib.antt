@@ -1,1 +1,14 @@
 pub mod Graph
+pub mod Implied
+pub mod References
+pub mod Walks
+pub mod Tests
+pub mod Firsts
+pub mod Verdicts
+pub mod Rounds
+pub mod Rows
+pub mod Blocks
+pub mod Edges
+pub mod Leads
+pub mod Names
+pub mod Targets

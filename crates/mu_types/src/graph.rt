@@ -15,6 +15,7 @@ pub struct TypeGraph {
 }
 
 impl Model for TypeGraph {
+    ghost use Rattle.std.specs.Prelude.{◌≡◌, length};
     ghost use Rattle.mu_types.specs.Graph.{Written};
 
     ghost Value = { Written };

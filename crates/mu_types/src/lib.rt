@@ -2,9 +2,23 @@
 #![tactic(auto)]
 
 mod arguments;
+mod edges;
+mod endless;
 mod faults;
+mod gather;
 mod graph;
+mod implied;
+mod judging;
+mod limits;
+mod moves;
+mod naming;
+mod plain;
+mod preds;
+mod refine;
+mod rows;
+mod stable;
 
 pub use faults::{TypeFault, TypeKind};
 pub use graph::TypeGraph;
+pub use implied::Implied;
 pub use type_laws::TypeDef;

@@ -1,8 +1,9 @@
 -- What holds of the same type and of classes in every graph whose arguments are ids of it.
-use Rattle.std.specs.Prelude.{◌≡◌, ◌↔◌, ℕ, true, ◌<◌, ◌≤◌, List, length, slice_get}
+use Rattle.std.specs.Prelude.{◌≡◌, ◌↔◌, ℕ, true, ◌<◌, ◌≤◌, List, length, map, slice_get}
 use Rattle.type_laws.specs.declared.definition.TypeDef.{TypeDef}
 use Rattle.type_laws.specs.Same.{alike, same, agree_at}
 use Rattle.type_laws.specs.Class.{class_of}
+use Rattle.type_laws.specs.Leaves.{leaves}
 
 -- the same type is an equivalence
 pub record IsEquivalence (graph : List TypeDef) : Type 0 where
@@ -24,3 +25,8 @@ pub record ClassesDecide (graph : List TypeDef) : Type 0 where
   pub no_later : (a : ℕ) → a < length graph → class_of graph a ≤ a
   pub of_it : (a : ℕ) → a < length graph → same graph (class_of graph a) a ≡ true
   pub equal : (a b : ℕ) → a < length graph → b < length graph → (class_of graph a ≡ class_of graph b) ↔ (same graph a b ≡ true)
+
+-- the leaves of two that are the same type are the same types, one by one
+abbrev pub LeavesRespect : List TypeDef → Type 0
+LeavesRespect graph = (a b : ℕ) → a < length graph → b < length graph → same graph a b ≡ true →
+    map (class_of graph) (leaves graph a) ≡ map (class_of graph) (leaves graph b)

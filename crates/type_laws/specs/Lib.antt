@@ -10,3 +10,5 @@ pub mod Ranks
 pub mod Classes
 pub mod Laws
 pub mod Proved
+pub mod Respect
+pub mod Counts

@@ -1,6 +1,6 @@
 // What holds of the same type, of classes and of leaves in every graph.
 ghost use Rattle.type_laws.specs.Same.{IsGraph};
-ghost use Rattle.type_laws.specs.Laws.{IsEquivalence, IsCongruence, IsSteady, ClassesDecide};
+ghost use Rattle.type_laws.specs.Laws.{IsEquivalence, IsCongruence, IsSteady, ClassesDecide, LeavesRespect};
 
 use super::definition::TypeDef;
 
@@ -33,5 +33,13 @@ pub fn same_type_is_steady(graph: &[TypeDef])
 pub fn classes_decide(graph: &[TypeDef])
     requires { IsGraph graph.now }
     ensures { ClassesDecide graph.now }
+{
+}
+
+/// The leaves of types that are the same are the same types, one by one.
+#[tactic(auto, using(crate::specs::Respect::respected))]
+pub fn leaves_respect_the_same_type(graph: &[TypeDef])
+    requires { IsGraph graph.now }
+    ensures { LeavesRespect graph.now }
 {
 }

@@ -6,4 +6,4 @@ mod laws;
 
 pub use definition::TypeDef;
 
-pub use laws::{classes_decide, same_type_is_a_congruence, same_type_is_an_equivalence, same_type_is_steady};
+pub use laws::{classes_decide, leaves_respect_the_same_type, same_type_is_a_congruence, same_type_is_an_equivalence, same_type_is_steady};

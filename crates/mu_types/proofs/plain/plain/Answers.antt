@@ -1,0 +1,11 @@
+use Rattle.std.proofs.Common.{arith, sym, subst, add-one, List, ℕ}
+use Rattle.mu_types.specs.Rounds.{IsLeastTo, least_to_none}
+use Rattle.mu_types.proofs.plain.plain.Goals as goal
+
+pub loop-round_number-init : goal.loop-round_number-init
+loop-round_number-init c = least_to_none c.args.definitions.now c.loop-x.p.items (λ x l. c.loop-x.invariant x)
+
+pub loop-round_number-preserved : goal.loop-round_number-preserved
+loop-round_number-preserved c =
+    let n = c.loop-round_number.round_number in
+    rw (add-one n) (c.in_ok-p.ensures n (subst (λ (p : List ℕ). IsLeastTo c.args.definitions.now n p) (sym c.deref.ensures.value) c.loop-round_number.invariant))

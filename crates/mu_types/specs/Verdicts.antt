@@ -1,0 +1,23 @@
+-- What one test of a type answers.
+use Rattle.std.proofs.Common.{◌≡◌, ℕ, Bool, true, false, not, cond, List, Option, Some, None, refl, sym, ◌∙◌, ap, length}
+use Rattle.std.specs.Prelude.{nat_le}
+use Rattle.mu_base.specs.Lists.{Roomy}
+use Rattle.type_laws.specs.declared.definition.TypeDef.{TypeDef}
+use Rattle.type_laws.specs.Parts.{contains_itself}
+use Rattle.type_laws.specs.Leaves.{leaves}
+use Rattle.mu_types.specs.declared.limits.TheConstants.{MOST_LEAVES}
+use Rattle.mu_types.specs.declared.faults.TypeFault.{TypeFault}
+use Rattle.mu_types.specs.declared.faults.TypeKind.TheVariants.{EndlessType, TooManyLeaves}
+use Rattle.mu_types.specs.Tests.{Test, first_unmet, endless_type, too_many_leaves, place}
+
+pub endless_some : (g : List TypeDef) (places : List (Roomy ℕ)) (t : ℕ) → contains_itself g t ≡ true → first_unmet (endless_type g places t) ≡ Some (record { kind = EndlessType; place = place places t 0 })
+endless_some g places t h = rw h refl
+
+pub endless_none : (g : List TypeDef) (places : List (Roomy ℕ)) (t : ℕ) → contains_itself g t ≡ false → first_unmet (endless_type g places t) ≡ None
+endless_none g places t h = rw h refl
+
+pub many_some : (g : List TypeDef) (places : List (Roomy ℕ)) (t : ℕ) → nat_le (length (leaves g t)) MOST_LEAVES ≡ false → first_unmet (too_many_leaves g places t) ≡ Some (record { kind = TooManyLeaves; place = place places t 0 })
+many_some g places t h = rw h refl
+
+pub many_none : (g : List TypeDef) (places : List (Roomy ℕ)) (t : ℕ) → nat_le (length (leaves g t)) MOST_LEAVES ≡ true → first_unmet (too_many_leaves g places t) ≡ None
+many_none g places t h = rw h refl
