@@ -53,3 +53,13 @@ argument_none g places t d e h = rw e (each_none (λ k. record { met = allows g 
 
 pub met_more : (tests : ℕ → List Test) (t : ℕ) → ((u : ℕ) → u < t → first_unmet (tests u) ≡ None) → first_unmet (tests t) ≡ None → (u : ℕ) → u < t + 1 → first_unmet (tests u) ≡ None
 met_more tests t h e u l = elim (cases_lt u t) [ inl m ↦ h u m | inr m ↦ let s : u ≡ t = omega arith in subst (λ w. first_unmet (tests w) ≡ None) (sym s) e ]
+
+-- of three lists in order
+pub first_of_three : (xs ys zs : List Test) (f : TypeFault) → first_unmet xs ≡ Some f → first_unmet (xs ++ ys ++ zs) ≡ Some f
+first_of_three xs ys zs f h = unmet_first (xs ++ ys) zs f (unmet_first xs ys f h)
+
+pub second_of_three : (xs ys zs : List Test) (f : TypeFault) → first_unmet xs ≡ None → first_unmet ys ≡ Some f → first_unmet (xs ++ ys ++ zs) ≡ Some f
+second_of_three xs ys zs f h k = unmet_first (xs ++ ys) zs f (met_then xs ys h ∙ k)
+
+pub third_of_three : (xs ys zs : List Test) → first_unmet xs ≡ None → first_unmet ys ≡ None → first_unmet (xs ++ ys ++ zs) ≡ first_unmet zs
+third_of_three xs ys zs h k = met_then (xs ++ ys) zs (met_then xs ys h ∙ k)

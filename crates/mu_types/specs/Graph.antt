@@ -7,3 +7,8 @@ use Rattle.type_laws.specs.declared.definition.TypeDef.{TypeDef}
 pub record Written : Type 0 where
   pub definitions : List TypeDef
   pub places : List (Roomy ℕ)
+
+-- the whole graph: the definitions by id, and how many of them, the first ones, are written
+pub record Table : Type 0 where
+  pub definitions : List TypeDef
+  pub written : ℕ

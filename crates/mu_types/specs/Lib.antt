@@ -2,6 +2,10 @@ pub mod Graph
 pub mod Implied
 pub mod References
 pub mod Walks
+pub mod Pushes
+pub mod Levels
+pub mod Listings
+pub mod Held
 pub mod Tests
 pub mod Firsts
 pub mod Verdicts

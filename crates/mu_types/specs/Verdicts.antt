@@ -1,11 +1,14 @@
 -- What one test of a type answers.
-use Rattle.std.proofs.Common.{◌≡◌, ℕ, Bool, true, false, not, cond, List, Option, Some, None, refl, sym, ◌∙◌, ap, length}
+use Rattle.std.proofs.Common.{◌≡◌, ℕ, Bool, true, false, not, cond, List, Option, Some, None, refl, sym, ◌∙◌, ap, length, min, ◌<◌, ◌≤◌, arith}
 use Rattle.std.specs.Prelude.{nat_le}
+use Rattle.std.proofs.lemmas.Int.{clamps}
+use Rattle.std.proofs.lemmas.Bool.{lt-leb, le-leb}
 use Rattle.mu_base.specs.Lists.{Roomy}
 use Rattle.type_laws.specs.declared.definition.TypeDef.{TypeDef}
 use Rattle.type_laws.specs.Parts.{contains_itself}
 use Rattle.type_laws.specs.Leaves.{leaves}
 use Rattle.mu_types.specs.declared.limits.TheConstants.{MOST_LEAVES}
+use Rattle.mu_types.specs.declared.counting.TheConstants.{CAP}
 use Rattle.mu_types.specs.declared.faults.TypeFault.{TypeFault}
 use Rattle.mu_types.specs.declared.faults.TypeKind.TheVariants.{EndlessType, TooManyLeaves}
 use Rattle.mu_types.specs.Tests.{Test, first_unmet, endless_type, too_many_leaves, place}
@@ -21,3 +24,9 @@ many_some g places t h = rw h refl
 
 pub many_none : (g : List TypeDef) (places : List (Roomy ℕ)) (t : ℕ) → nat_le (length (leaves g t)) MOST_LEAVES ≡ true → first_unmet (too_many_leaves g places t) ≡ None
 many_none g places t h = rw h refl
+
+pub over_cap : (n count : ℕ) → count ≡ min CAP n → MOST_LEAVES < count → nat_le n MOST_LEAVES ≡ false
+over_cap n count e l = lt-leb n MOST_LEAVES (omega (arith, clamps, e, l))
+
+pub under_cap : (n count : ℕ) → count ≡ min CAP n → count ≤ MOST_LEAVES → nat_le n MOST_LEAVES ≡ true
+under_cap n count e l = le-leb n MOST_LEAVES (omega (arith, clamps, e, l))

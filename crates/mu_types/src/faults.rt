@@ -1,4 +1,7 @@
 // What is wrong with a graph of types.
+ghost use Rattle.std.specs.Prelude.{◌≡◌};
+ghost use Rattle.mu_types.specs.declared.faults.TypeKind.TheVariants.{Memory};
+
 use std::alloc::AllocError;
 use thiserror::Error;
 
@@ -31,6 +34,8 @@ pub struct TypeFault {
 }
 
 impl From<AllocError> for TypeFault {
+    ghost from_gives = { λ _ fault. fault.kind ≡ Memory };
+
     fn from(_: AllocError) -> Self {
         TypeFault { kind: TypeKind::Memory, place: 0 }
     }

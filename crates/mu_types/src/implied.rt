@@ -1,5 +1,5 @@
 // The implied types.
-ghost use Rattle.std.specs.Prelude.{◌≡◌, ℕ, ◌+◌, ◌*◌, ◌^◌, ◌<◌, ◌≤◌, ◌++◌, ◌∷◌, [], Some, length, slice_index_or, vec_len, OnOk, IfOk};
+ghost use Rattle.std.specs.Prelude.{◌≡◌, ℕ, ◌+◌, ◌-◌, ◌*◌, ◌^◌, ◌<◌, ◌≤◌, ◌++◌, ◌∷◌, [], Some, length, slice_index_or, vec_len, OnOk, IfOk};
 ghost use Rattle.type_laws.specs.declared.definition.TypeDef.{TypeDef};
 ghost use Rattle.mu_types.specs.Implied.{is_signature, references, complete};
 ghost use Rattle.mu_types.specs.References.{Referred};
@@ -36,7 +36,9 @@ fn is_sig(definition: &TypeDef) -> bool
 
 fn refer(all: &mut Vec<TypeDef>, t: u32) -> Result<(), AllocError>
     requires { t < length all.old.items }
-    ensures { OnOk result ((d : TypeDef) → all.new.items ≡ all.old.items ++ references t (slice_index_or all.old.items t d)) }
+    ensures added { OnOk result ((d : TypeDef) → all.new.items ≡ all.old.items ++ references t (slice_index_or all.old.items t d)) }
+    ensures few { OnOk result (length all.new.items ≤ length all.old.items + 2) }
+    ensures grows { OnOk result (length all.old.items ≤ length all.new.items) }
 {
     if is_sig(&all[t as usize]) {
         all.push(TypeDef::FuncRef(t))?;

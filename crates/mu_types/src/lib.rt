@@ -2,6 +2,8 @@
 #![tactic(auto)]
 
 mod arguments;
+mod deciding;
+mod counting;
 mod edges;
 mod endless;
 mod faults;
@@ -10,6 +12,7 @@ mod graph;
 mod implied;
 mod judging;
 mod limits;
+mod listing;
 mod moves;
 mod naming;
 mod plain;
@@ -17,8 +20,11 @@ mod preds;
 mod refine;
 mod rows;
 mod stable;
+mod table;
 
+pub use deciding::classes;
 pub use faults::{TypeFault, TypeKind};
 pub use graph::TypeGraph;
 pub use implied::Implied;
+pub use table::Classes;
 pub use type_laws::TypeDef;

@@ -6,7 +6,7 @@ use super::stable::is_stable;
 use std::alloc::{AllocError, Global};
 use type_laws::TypeDef;
 
-ghost use Rattle.std.specs.Prelude.{◌≡◌, ℕ, ◌+◌, ◌<◌, ◌≤◌, length, slice_index, IfOk};
+ghost use Rattle.std.specs.Prelude.{◌≡◌, ℕ, ◌+◌, ◌<◌, ◌≤◌, length, slice_index, vec_len, IfOk};
 ghost use Rattle.type_laws.specs.Same.{IsGraph};
 ghost use Rattle.type_laws.specs.Partition.{IsLeast, Keeps};
 ghost use Rattle.mu_types.specs.Names.{NamesLeast, FirstsSoFar};
@@ -28,7 +28,8 @@ fn meet(first: &mut Vec<usize>, block: &[usize], x: usize) -> usize
 }
 
 fn name_by_least(alloc: Global, block: &[usize], blocks: usize) -> Result<Vec<usize>, AllocError>
-    ensures { IfOk result (λ v. NamesLeast block.now v.items (length block.now)) }
+    ensures len { IfOk result (λ v. vec_len v ≡ length block.now) }
+    ensures names { IfOk result (λ v. NamesLeast block.now v.items (length block.now)) }
 {
     let mut first: Vec<usize> = Vec::new(alloc);
     for _ in 0..blocks {
@@ -48,7 +49,8 @@ pub fn classes_by(alloc: Global, definitions: &[TypeDef], block: &[usize], block
     requires graph { IsGraph definitions.now }
     requires keeps { Keeps definitions.now block.now }
     requires len { length block.now ≡ length definitions.now }
-    ensures { IfOk result (λ v. IsLeast definitions.now v.items) }
+    ensures len { IfOk result (λ v. vec_len v ≡ length definitions.now) }
+    ensures classes { IfOk result (λ v. IsLeast definitions.now v.items) }
 {
     let class = name_by_least(alloc, block, blocks)?;
     if is_stable(definitions, &class) {

@@ -4,7 +4,7 @@ use super::stable::agrees;
 use std::alloc::{AllocError, Global};
 use type_laws::TypeDef;
 
-ghost use Rattle.std.specs.Prelude.{◌≡◌, ℕ, suc, ◌<◌, length, slice_index, slice_get, IfOk};
+ghost use Rattle.std.specs.Prelude.{◌≡◌, ℕ, suc, ◌<◌, length, slice_index, slice_get, vec_len, IfOk};
 ghost use Rattle.type_laws.specs.Same.{IsGraph};
 ghost use Rattle.type_laws.specs.Partition.{IsLeast};
 ghost use Rattle.mu_types.specs.Rounds.{IsLeastTo, IsFirstTo};
@@ -24,7 +24,8 @@ fn first_like(definitions: &[TypeDef], p: &[usize], x: usize) -> usize
 #[tactic(auto, using(crate::specs::Rounds::round_is))]
 fn round(alloc: Global, definitions: &[TypeDef], p: &[usize]) -> Result<Vec<usize>, AllocError>
     requires { IsGraph definitions.now }
-    ensures { IfOk result (λ v. (k : ℕ) → IsLeastTo definitions.now k p.now → IsLeastTo definitions.now (suc k) v.items) }
+    ensures len { IfOk result (λ v. vec_len v ≡ length definitions.now) }
+    ensures steps { IfOk result (λ v. (k : ℕ) → IsLeastTo definitions.now k p.now → IsLeastTo definitions.now (suc k) v.items) }
 {
     let mut all = Vec::new(alloc);
     for x in 0..definitions.len() {
@@ -36,7 +37,8 @@ fn round(alloc: Global, definitions: &[TypeDef], p: &[usize]) -> Result<Vec<usiz
 
 pub fn plain(alloc: Global, definitions: &[TypeDef]) -> Result<Vec<usize>, AllocError>
     requires { IsGraph definitions.now }
-    ensures { IfOk result (λ v. IsLeast definitions.now v.items) }
+    ensures len { IfOk result (λ v. vec_len v ≡ length definitions.now) }
+    ensures classes { IfOk result (λ v. IsLeast definitions.now v.items) }
 {
     let mut p = Vec::new(alloc);
     for x in 0..definitions.len() {

@@ -13,7 +13,7 @@ use Rattle.type_laws.specs.Leaves.{times, leaves_by, leaves_at, leaves_to, leave
 use Rattle.type_laws.specs.Depth.{Meets, same_meets, args_within}
 use Rattle.type_laws.specs.Proved.{decided}
 
-map_times : (C : ℕ → ℕ) (n : ℕ) (xs : List ℕ) → map C (times n xs) ≡ times n (map C xs)
+pub map_times : (C : ℕ → ℕ) (n : ℕ) (xs : List ℕ) → map C (times n xs) ≡ times n (map C xs)
 map_times C zero xs = refl
 map_times C (suc n) xs = map-append C xs (times n xs) ∙ ap (λ ys. map C xs ++ ys) (map_times C n xs)
 
