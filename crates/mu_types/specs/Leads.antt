@@ -1,7 +1,7 @@
 -- What leads into a block, and what is closed under the same type.
 use Rattle.std.proofs.Common.{◌≡◌, ℕ, zero, suc, ◌<◌, List, [], ◌∷◌, length, Some, None, Option, true, refl, sym, ◌∙◌, ap, subst, arith, ◌⊎◌, inl, inr, get_or, slice_get, take, drop, ◌++◌}
 use Rattle.std.proofs.lemmas.List.{take-append-le, take_all}
-use Rattle.std.specs.Prelude.{slice_index}
+use Rattle.std.specs.Prelude.{slice_index, slice_index_or}
 use Rattle.std.specs.List.{All, Contains}
 use Rattle.std.proofs.lemmas.Bool.{cases_eq}
 use Rattle.std.proofs.lemmas.Option.{slice_get_within, get_or_from_slice_get, slice_get-get_or}
@@ -134,3 +134,16 @@ row_closed g rows i row e h = subst (λ (r : List ℕ). IsClosed g r) (sym e) (h
 
 pub row_within : (rows : List (List ℕ)) (i n : ℕ) (row : List ℕ) → row ≡ get_or rows i [] → ((k x : ℕ) → Holds rows k x → x < n) → (k : ℕ) → k < length row → slice_index row k < n
 row_within rows i n row e h k l = h i (slice_index row k) (subst (λ (r : List ℕ). Contains r (slice_index row k)) e (Contains-get_or row k 0 l))
+
+none_held : (rows : List (List ℕ)) → ((x : ℕ) → slice_index_or rows x [] ≡ []) → (k x : ℕ) → Holds rows k x → ⊥
+none_held rows h k x c = let d : Contains [] x = subst (λ (r : List ℕ). Contains r x) (h k) c in no_item d.0 d.1
+  where
+    no_item : (k : ℕ) → k < 0 → ⊥
+    no_item k m = omega arith
+
+-- of empty rows
+pub empty_closed : (g : List TypeDef) (rows : List (List ℕ)) → ((x : ℕ) → slice_index_or rows x [] ≡ []) → AreClosed g rows
+empty_closed g rows h k a b la lb s c = absurd (none_held rows h k a c)
+
+pub empty_within : (n : ℕ) (rows : List (List ℕ)) → ((x : ℕ) → slice_index_or rows x [] ≡ []) → (k x : ℕ) → Holds rows k x → x < n
+empty_within n rows h k x c = absurd (none_held rows h k x c)

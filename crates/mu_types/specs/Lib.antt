@@ -6,6 +6,7 @@ pub mod Pushes
 pub mod Levels
 pub mod Listings
 pub mod Held
+pub mod Keys
 pub mod Tests
 pub mod Firsts
 pub mod Verdicts

@@ -39,7 +39,7 @@ pub fn argument(definition: &TypeDef, k: usize) -> u32
     }
 }
 
-fn code(definition: &TypeDef) -> u8
+pub fn code(definition: &TypeDef) -> u8
     ensures { result ≡ constructor definition.now }
 {
     match definition {
@@ -57,7 +57,7 @@ fn code(definition: &TypeDef) -> u8
     }
 }
 
-fn size(definition: &TypeDef) -> u128
+pub fn size(definition: &TypeDef) -> u128
     ensures { result ≡ number definition.now }
 {
     match definition {

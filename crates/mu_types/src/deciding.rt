@@ -1,5 +1,6 @@
 // Judges a graph, and says what is the same in it.
-ghost use Rattle.std.specs.Prelude.{◌≡◌, ◌≢◌, ℕ, ◌+◌, ◌-◌, ◌*◌, ◌^◌, ◌<◌, ◌≤◌, Some, None, length, IfOk, IfErr, OnOk};
+ghost use Rattle.std.specs.Prelude.{◌≡◌, ◌≢◌, ℕ, ◌+◌, ◌-◌, ◌*◌, ◌^◌, ◌<◌, ◌≤◌, Some, None, length, vec_len, IfOk, IfErr, OnOk};
+ghost use Rattle.type_laws.specs.Partition.{IsLeast};
 ghost use Rattle.type_laws.specs.Same.{IsGraph};
 ghost use Rattle.mu_types.specs.Implied.{complete};
 ghost use Rattle.mu_types.specs.References.{Referred, IsHeaded};
@@ -12,7 +13,8 @@ use super::graph::TypeGraph;
 use super::implied::{Whole, complete_graph};
 use super::judging::first_wrong_argument;
 use super::listing::listings_plainly;
-use super::plain::plain;
+use super::naming::classes_by;
+use super::refine::refine;
 use super::table::Classes;
 use mu_base::Ids;
 use std::alloc::{AllocError, Global};
@@ -36,6 +38,16 @@ fn judge(alloc: Global, all: &[TypeDef], places: &[Ids], many: usize) -> Result<
     Ok(())
 }
 
+fn find_classes(alloc: Global, all: &[TypeDef]) -> Result<Vec<usize>, AllocError>
+    requires { IsGraph all.now }
+    ensures len { IfOk result (λ v. vec_len v ≡ length all.now) }
+    ensures classes { IfOk result (λ v. IsLeast all.now v.items) }
+{
+    let block = refine(alloc, all)?;
+    let class = classes_by(alloc, all, &block, all.len())?;
+    Ok(class)
+}
+
 fn hold(alloc: Global, whole: Whole, written: usize) -> Result<Classes, AllocError>
     requires few { length whole.all.items < 2 ^ 32 }
     requires graph { IsGraph whole.all.items }
@@ -44,7 +56,7 @@ fn hold(alloc: Global, whole: Whole, written: usize) -> Result<Classes, AllocErr
     ensures definitions { IfOk result (λ c. c.definitions ≡ whole.all.items) }
     ensures written { IfOk result (λ c. c.written ≡ written) }
 {
-    let class = plain(alloc, &whole.all)?;
+    let class = find_classes(alloc, &whole.all)?;
     let rows = listings_plainly(alloc, &whole.all, &class)?;
     Ok(Classes::held(written, whole, class, rows))
 }

@@ -3,6 +3,7 @@
 
 mod arguments;
 mod deciding;
+mod blocks;
 mod counting;
 mod edges;
 mod endless;

@@ -1,13 +1,17 @@
 // The refinement by a worklist. What it does with sizes and the order of work needs no proof.
 
 use super::edges::Edge;
+use super::arguments::arity;
+use super::blocks::{empty_rows, first_blocks, identity, list_members, widest};
 use super::gather::gather;
 use super::moves::move_all;
+use super::preds::predecessors;
 use super::rows::{at, put, take_row};
 use std::alloc::{AllocError, Global};
 use type_laws::TypeDef;
 
-ghost use Rattle.std.specs.Prelude.{◌≡◌, ℕ, ◌<◌, Some, length, slice_index, OnOk};
+ghost use Rattle.std.specs.Prelude.{◌≡◌, ℕ, ◌<◌, Some, [], length, slice_index, slice_index_or, vec_len, OnOk, IfOk};
+ghost use Rattle.mu_types.specs.Listings.{IsIdentity};
 ghost use Rattle.type_laws.specs.Same.{IsGraph};
 ghost use Rattle.type_laws.specs.Partition.{Keeps, arg};
 ghost use Rattle.mu_types.specs.Targets.{TargetsFit};
@@ -178,5 +182,81 @@ fn work_off(alloc: Global, definitions: &[TypeDef], preds: &[Vec<Edge>], block: 
         put(&mut plan.waiting, s, 0);
         turn(alloc, definitions, preds, block, members, buckets, &mut places, s, target, plan)?;
     }
+    Ok(())
+}
+
+fn plan_for(alloc: Global, block: &[usize]) -> Result<Plan, AllocError> {
+    let n = block.len();
+    let mut sizes: Vec<usize> = Vec::new(alloc);
+    let mut hits: Vec<usize> = Vec::new(alloc);
+    let mut waiting: Vec<usize> = Vec::new(alloc);
+    for _ in 0..n {
+        sizes.push(0)?;
+        hits.push(0)?;
+        waiting.push(0)?;
+    }
+    let mut work: Vec<usize> = Vec::new(alloc);
+    let mut next = 0;
+    for b in block {
+        let size = at(&sizes, *b);
+        if size == 0 {
+            work.push(*b)?;
+            put(&mut waiting, *b, 1);
+        }
+        put(&mut sizes, *b, size.wrapping_add(1));
+        if next <= *b {
+            next = b.wrapping_add(1);
+        }
+    }
+    let parents = Vec::new(alloc);
+    Ok(Plan { next, sizes, hits, waiting, work, parents })
+}
+
+fn edges_of(definitions: &[TypeDef]) -> usize {
+    let mut edges: usize = 0;
+    for definition in definitions {
+        edges = edges.saturating_add(arity(definition)).saturating_add(1);
+    }
+    edges
+}
+
+/// Blocks that keep the same types together, and mostly no others.
+pub fn refine(alloc: Global, definitions: &[TypeDef]) -> Result<Vec<usize>, AllocError>
+    requires { IsGraph definitions.now }
+    ensures len { IfOk result (λ v. vec_len v ≡ length definitions.now) }
+    ensures keeps { IfOk result (λ v. Keeps definitions.now v.items) }
+{
+    let mut block = first_blocks(alloc, definitions)?;
+    if definitions.is_empty() {
+        return Ok(block);
+    }
+    let members = list_members(alloc, &block)?;
+    let buckets = empty_rows(alloc, widest(definitions))?;
+    let target = identity(alloc, definitions.len())?;
+    let plan = plan_for(alloc, &block)?;
+    part_blocks(alloc, definitions, &mut block, members, buckets, target, plan)?;
+    Ok(block)
+}
+
+fn part_blocks(alloc: Global, definitions: &[TypeDef], block: &mut [usize], members: Vec<Vec<usize>>, buckets: Vec<Vec<usize>>, target: Vec<usize>, plan: Plan) -> Result<(), AllocError>
+    requires graph { IsGraph definitions.now }
+    requires some { 0 < length definitions.now }
+    requires len { length block.old ≡ length definitions.now }
+    requires keeps { Keeps definitions.now block.old }
+    requires members { vec_len members ≡ length definitions.now }
+    requires listed { Listed block.old (lists members.items) }
+    requires wide { (x k y : ℕ) → arg definitions.now x k ≡ Some y → k < vec_len buckets }
+    requires empty { (x : ℕ) → slice_index_or (lists buckets.items) x [] ≡ [] }
+    requires targets { vec_len target ≡ length definitions.now }
+    requires own { IsIdentity target.items (length definitions.now) }
+    ensures { OnOk result (Keeps definitions.now block.new) }
+{
+    let preds = predecessors(alloc, definitions)?;
+    let fuel = edges_of(definitions).saturating_mul(64);
+    let mut members = members;
+    let mut buckets = buckets;
+    let mut target = target;
+    let mut plan = plan;
+    work_off(alloc, definitions, &preds, block, &mut members, &mut buckets, &mut target, &mut plan, fuel)?;
     Ok(())
 }
