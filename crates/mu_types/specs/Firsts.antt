@@ -1,12 +1,12 @@
 -- Of the first unmet test of many.
-use Rattle.std.proofs.Common.{◌≡◌, ℕ, zero, suc, ◌+◌, ◌<◌, ◌≤◌, Bool, true, false, cond, List, [], ◌∷◌, ◌++◌, Option, Some, None, refl, sym, ◌∙◌, ap, subst, arith, inl, inr, ◌⊎◌, length, slice_get, get_or}
-use Rattle.std.proofs.lemmas.Bool.{cases_eq, cases_lt}
+use Rattle.std.proofs.Common.{◌≡◌, ℕ, zero, suc, ◌+◌, ◌<◌, ◌≤◌, Bool, true, false, cond, List, [], ◌∷◌, ◌++◌, Some, None, refl, sym, ◌∙◌, ap, subst, arith, inl, inr, length, slice_get, get_or}
+use Rattle.std.proofs.lemmas.Bool.{cases_lt}
 use Rattle.mu_types.specs.declared.faults.TypeFault.{TypeFault}
 use Rattle.mu_types.specs.declared.faults.TypeKind.TheVariants.{WrongArgument}
 use Rattle.mu_base.specs.Lists.{Roomy}
 use Rattle.std.proofs.lemmas.Option.{slice_get-get_or}
 use Rattle.type_laws.specs.declared.definition.TypeDef.{TypeDef}
-use Rattle.mu_types.specs.Tests.{Test, first_unmet, each, allows, judged, place, argument_tests, wrong_arguments}
+use Rattle.mu_types.specs.Tests.{Test, first_unmet, each, allows, judged, place, wrong_arguments}
 
 pub met_then : (xs ys : List Test) → first_unmet xs ≡ None → first_unmet (xs ++ ys) ≡ first_unmet ys
 met_then [] ys h = refl
@@ -31,8 +31,9 @@ none_from tests (suc many) first h = met_then (tests first) (each tests many (su
 some_from : (tests : ℕ → List Test) (many first x : ℕ) (f : TypeFault) → ((u : ℕ) → first ≤ u → u < x → first_unmet (tests u) ≡ None) → first ≤ x → x < first + many → first_unmet (tests x) ≡ Some f → first_unmet (each tests many first) ≡ Some f
 some_from tests zero first x f h l m e = absurd (omega arith)
 some_from tests (suc many) first x f h l m e = elim (cases_lt first x) [
-    inl q ↦ met_then (tests first) (each tests many (suc first)) (h first (omega arith) q) ∙ some_from tests many (suc first) x f (λ u a b. h u (omega arith) b) (omega arith) (omega arith) e
-  | inr q ↦ let s : x ≡ first = omega arith in unmet_first (tests first) (each tests many (suc first)) f (subst (λ w. first_unmet (tests w) ≡ Some f) s e) ]
+  | inl q ↦ met_then (tests first) (each tests many (suc first)) (h first (omega arith) q) ∙ some_from tests many (suc first) x f (λ u a b. h u (omega arith) b) (omega arith) (omega arith) e
+  | inr q ↦ let s : x ≡ first = omega arith in unmet_first (tests first) (each tests many (suc first)) f (subst (λ w. first_unmet (tests w) ≡ Some f) s e)
+]
 
 pub each_none : (tests : ℕ → List Test) (many : ℕ) → ((u : ℕ) → u < many → first_unmet (tests u) ≡ None) → first_unmet (each tests many 0) ≡ None
 each_none tests many h = none_from tests many 0 (λ u l m. h u (omega arith))

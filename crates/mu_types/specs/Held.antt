@@ -1,7 +1,7 @@
 -- What a finished graph holds.
-use Rattle.std.proofs.Common.{◌≡◌, ℕ, ◌+◌, ◌^◌, ◌<◌, ◌==◌, Bool, true, false, List, [], length, map, refl, sym, ◌∙◌, ap, subst, arith, ◌≤◌}
+use Rattle.std.proofs.Common.{◌≡◌, ℕ, ◌+◌, ◌^◌, ◌<◌, ◌==◌, Bool, true, false, List, [], length, map, refl, sym, ◌∙◌, arith}
 use Rattle.std.specs.Prelude.{slice_index, slice_index_or}
-use Rattle.std.proofs.lemmas.Bool.{false≢true, eqb-true, eq-eqb}
+use Rattle.std.proofs.lemmas.Bool.{eqb-true, eq-eqb}
 use Rattle.type_laws.specs.declared.definition.TypeDef.{TypeDef}
 use Rattle.type_laws.specs.Same.{same, IsGraph}
 use Rattle.type_laws.specs.Class.{class_of}
@@ -39,8 +39,8 @@ same_told g i class l a b la lb =
     let cb = class_is g class l b lb in
     let e = (decided g i).equal a b la lb in
     both (slice_index class a == slice_index class b) (same g a b)
-      (λ h. e.0 (sym ca ∙ eqb-true (slice_index class a) (slice_index class b) h ∙ cb))
-      (λ h. eq-eqb (slice_index class a) (slice_index class b) (ca ∙ e.1 h ∙ sym cb))
+    (λ h. e.0 (sym ca ∙ eqb-true (slice_index class a) (slice_index class b) h ∙ cb))
+    (λ h. eq-eqb (slice_index class a) (slice_index class b) (ca ∙ e.1 h ∙ sym cb))
 
 -- rows by type hold what is asked by class
 pub by_class : (g : List TypeDef) → IsGraph g → (class : List ℕ) → IsLeast g class → (rows : List (List ℕ)) → Lists g (length g) rows → RowsHold g class rows

@@ -1,11 +1,11 @@
 -- One number for the constructor, the number and the number of arguments of a definition.
-use Rattle.std.proofs.Common.{◌≡◌, ℕ, ◌+◌, ◌*◌, ◌^◌, ◌%◌, ◌<◌, ◌≤◌, Bool, true, false, List, [], ◌∷◌, length, Some, slice_get, refl, sym, ◌∙◌, ap, subst, arith, get_or, suc}
+use Rattle.std.proofs.Common.{◌≡◌, ℕ, ◌+◌, ◌*◌, ◌%◌, Bool, true, List, [], ◌∷◌, length, Some, slice_get, refl, ◌∙◌, ap, suc}
 use Rattle.std.specs.Prelude.{slice_index}
 use Rattle.std.proofs.lemmas.Bool.{false≢true, and_parts}
 use Rattle.type_laws.specs.declared.definition.TypeDef.{TypeDef}
 use Rattle.type_laws.specs.Definition.{constructor, number, arguments}
 use Rattle.type_laws.specs.Same.{pairs, same, IsGraph}
-use Rattle.type_laws.specs.Depth.{Meets, same_meets}
+use Rattle.type_laws.specs.Depth.{same_meets}
 use Rattle.type_laws.specs.Partition.{Keeps}
 
 abbrev pub key_of : TypeDef → ℕ
@@ -26,6 +26,6 @@ keyed_keeps g i block k a b la lb h =
     let m = same_meets g i a b la lb h in
     let n = pairs_even (same g) (arguments m.one) (arguments m.other) m.args in
     k a b m.one m.other m.at_one m.at_other
-      (ap (λ w. (w % 16777216 * 4294967296 + length (arguments m.one) % 4294967296) * 16 + constructor m.one) m.sized
-        ∙ (ap (λ w. (number m.other % 16777216 * 4294967296 + w % 4294967296) * 16 + constructor m.one) n
-        ∙ ap (λ w. (number m.other % 16777216 * 4294967296 + length (arguments m.other) % 4294967296) * 16 + w) m.kind))
+    (ap (λ w. (w % 16777216 * 4294967296 + length (arguments m.one) % 4294967296) * 16 + constructor m.one) m.sized
+    ∙ (ap (λ w. (number m.other % 16777216 * 4294967296 + w % 4294967296) * 16 + constructor m.one) n
+    ∙ ap (λ w. (number m.other % 16777216 * 4294967296 + length (arguments m.other) % 4294967296) * 16 + w) m.kind))

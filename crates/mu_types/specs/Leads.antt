@@ -2,7 +2,7 @@
 use Rattle.std.proofs.Common.{◌≡◌, ℕ, zero, suc, ◌<◌, List, [], ◌∷◌, length, Some, None, Option, true, refl, sym, ◌∙◌, ap, subst, arith, ◌⊎◌, inl, inr, get_or, slice_get, take, drop, ◌++◌}
 use Rattle.std.proofs.lemmas.List.{take-append-le, take_all}
 use Rattle.std.specs.Prelude.{slice_index, slice_index_or}
-use Rattle.std.specs.List.{All, Contains}
+use Rattle.std.specs.List.{Contains}
 use Rattle.std.proofs.lemmas.Bool.{cases_eq}
 use Rattle.std.proofs.lemmas.Option.{slice_get_within, get_or_from_slice_get, slice_get-get_or}
 use Rattle.std.proofs.lemmas.List.Elements.{All-get_or, Contains-get_or}
@@ -49,13 +49,14 @@ pub gathered_closed : (g : List TypeDef) → IsGraph g → (block : List ℕ) (p
     → ((k x : ℕ) → Holds new k x → Holds old k x ⊎ LeadsTo g block s x k)
     → AreClosed g old → AreClosed g new
 gathered_closed g i block preds row s old new keeps back all wide kept complete sound closed k a b la lb sm h = elim (sound k a h) [
-    inl p ↦ kept k b (closed k a b la lb sm p)
+  | inl p ↦ kept k b (closed k a b la lb sm p)
   | inr t ↦
       let z = same_arg g i a b k t.0 la lb sm t.1 in
       let ly = arg_within g i a k t.0 t.1 in
       let lz = arg_within g i b k z.0 z.1 in
       let bz : slice_index block z.0 ≡ s = sym (keeps t.0 z.0 ly lz z.2) ∙ t.2 in
-      complete k b z.0 (wide b k z.0 z.1) (all z.0 lz bz) bz (back b k z.0 z.1) z.1 ]
+      complete k b z.0 (wide b k z.0 z.1) (all z.0 lz bz) bz (back b k z.0 z.1) z.1
+]
 
 at_any : (xs : List ℕ) (k d e : ℕ) → k < length xs → get_or xs k d ≡ get_or xs k e
 at_any [] k d e l = absurd (omega arith)
@@ -84,6 +85,7 @@ either (y ∷ ys) x = go (cases_eq y x) (either ys x)
     not_there : (y ≡ x → ⊥) → (Stands ys x → ⊥) → (k : ℕ) → k < length (y ∷ ys) → slice_index (y ∷ ys) k ≡ x → ⊥
     not_there n m zero l e = n e
     not_there n m (suc k) l e = m (k, (omega arith), e)
+
     go : (y ≡ x) ⊎ (y ≡ x → ⊥) → Stands ys x ⊎ (Stands ys x → ⊥) → Stands (y ∷ ys) x ⊎ (Stands (y ∷ ys) x → ⊥)
     go (inl e) d = inl (0, (omega arith), e)
     go (inr n) (inl s) = inl (let l = s.1 in (suc s.0, (omega arith), s.2))

@@ -1,13 +1,12 @@
 -- Numbers of leaves and leaves by depth, one level from the one before.
-use Rattle.std.proofs.Common.{◌≡◌, ℕ, zero, suc, ◌+◌, ◌*◌, ◌<◌, ◌≤◌, Bool, true, false, List, [], ◌∷◌, ◌++◌, length, Option, Some, None, slice_get, min, refl, sym, ◌∙◌, ap, subst, arith, get_or, map, inl, inr, ◌⊎◌}
-use Rattle.std.specs.Prelude.{slice_index, nat_le}
-use Rattle.std.specs.List.{All, flat_map}
+use Rattle.std.proofs.Common.{◌≡◌, ℕ, suc, ◌<◌, ◌≤◌, List, length, Some, None, slice_get, min, sym, ◌∙◌, ap, arith, get_or, inl, inr, ◌⊎◌}
+use Rattle.std.specs.Prelude.{slice_index}
 use Rattle.std.proofs.lemmas.List.{get_or_past}
 use Rattle.std.proofs.lemmas.Int.{clamps}
 use Rattle.std.proofs.lemmas.Option.{slice_get_cases}
 use Rattle.type_laws.specs.declared.definition.TypeDef.{TypeDef}
 use Rattle.type_laws.specs.Parts.{parts}
-use Rattle.type_laws.specs.Leaves.{leaves, leaves_to, leaves_by, leaves_at}
+use Rattle.type_laws.specs.Leaves.{leaves_to, leaves_at}
 use Rattle.type_laws.specs.Counts.{count_by, counted, capped_count}
 
 -- the number of leaves to a depth of each type, up to a cap
@@ -23,7 +22,7 @@ deeper_is g k cap counts next e f h x = go (slice_get_cases g x).1
     go : ((d : TypeDef) × (x < length g) × (slice_get g x ≡ Some d) × (get_or g x d ≡ d)) ⊎ ((length g ≤ x) × (slice_get g x ≡ None)) → slice_index next x ≡ min cap (length (leaves_to g (suc k) x))
     go (inl (d, l, s, q)) =
         f x d l s ∙ (capped_count cap (λ p. slice_index counts p) (λ p. length (leaves_to g k p)) d (λ j y m. h (get_or (parts d) j y))
-          ∙ (ap (λ n. min cap n) (sym (counted (leaves_to g k) x d)) ∙ sym (ap (λ o. min cap (length (leaves_at (leaves_to g k) x o))) s)))
+        ∙ (ap (λ n. min cap n) (sym (counted (leaves_to g k) x d)) ∙ sym (ap (λ o. min cap (length (leaves_at (leaves_to g k) x o))) s)))
     go (inr (l, s)) = get_or_past next x 0 (omega (arith, e, l)) ∙ (none_min ∙ sym (ap (λ o. min cap (length (leaves_at (leaves_to g k) x o))) s))
       where
         none_min : 0 ≡ min cap 0

@@ -1,21 +1,18 @@
 -- Lists of leaves, one level from the one before.
-use Rattle.std.proofs.Common.{◌≡◌, ℕ, zero, suc, ◌+◌, ◌<◌, ◌≤◌, List, [], ◌∷◌, ◌++◌, length, Option, Some, None, slice_get, refl, sym, ◌∙◌, ap, subst, arith, get_or, map, inl, inr, ◌⊎◌}
+use Rattle.std.proofs.Common.{◌≡◌, ℕ, suc, ◌<◌, ◌≤◌, List, [], ◌∷◌, ◌++◌, length, Some, slice_get, refl, sym, ◌∙◌, ap, arith, get_or, map}
 use Rattle.std.specs.Prelude.{slice_index, slice_index_or, Vec}
 use Rattle.std.specs.Global.{Global}
 use Rattle.std.specs.List.{All, flat_map}
 use Rattle.std.proofs.lemmas.List.{get_or_past, map-append}
-use Rattle.std.proofs.lemmas.List.Elements.{All-head, All-tail, All-get_or}
-use Rattle.std.proofs.lemmas.Option.{slice_get-get_or}
+use Rattle.std.proofs.lemmas.List.Elements.{All-head, All-tail}
 use Rattle.type_laws.specs.declared.definition.TypeDef.{TypeDef}
 use Rattle.type_laws.specs.declared.definition.TypeDef.TheVariants.{Int, Struct, Array, Hybrid, Void, Ref, Iref, FuncRef, StackRef, ThreadRef, Sig}
 use Rattle.type_laws.specs.Definition.{arguments}
 use Rattle.type_laws.specs.Same.{IsGraph}
 use Rattle.type_laws.specs.Class.{class_of}
 use Rattle.type_laws.specs.Parts.{parts}
-use Rattle.type_laws.specs.Leaves.{leaves, leaves_to, leaves_by, leaves_at, times}
+use Rattle.type_laws.specs.Leaves.{leaves_to, leaves_by, leaves_at, times}
 use Rattle.type_laws.specs.Depth.{args_within}
-use Rattle.type_laws.specs.Partition.{IsLeast}
-use Rattle.type_laws.specs.Classes.{class_is}
 use Rattle.type_laws.specs.Respect.{map_times, front_all}
 use Rattle.mu_types.specs.Rows.{lists, length-lists}
 
@@ -87,8 +84,8 @@ pub row_deeper : (g : List TypeDef) → IsGraph g → (k : ℕ) (rows : List (Li
 unfolding leaves_to
 row_deeper g i k rows number n h x d c row e q r =
     r ∙ (ap (λ w. leaves_by (row_by rows number) w d) q
-      ∙ (mapped (class_of g) (row_by rows number) (leaves_to g k) x d (λ j y m. let p = get_or (parts d) j y in let l = parts_within g i x d e j y m in ap (λ w. slice_index_or rows w []) (n p l) ∙ h p l)
-        ∙ ap (λ o. map (class_of g) (leaves_at (leaves_to g k) x o)) (sym e)))
+    ∙ (mapped (class_of g) (row_by rows number) (leaves_to g k) x d (λ j y m. let p = get_or (parts d) j y in let l = parts_within g i x d e j y m in ap (λ w. slice_index_or rows w []) (n p l) ∙ h p l)
+    ∙ ap (λ o. map (class_of g) (leaves_at (leaves_to g k) x o)) (sym e)))
 
 pub no_leaves : (g : List TypeDef) (rows : List (List ℕ)) → ((x : ℕ) → slice_index_or rows x [] ≡ []) → Lists g 0 rows
 unfolding leaves_to

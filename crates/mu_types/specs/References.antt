@@ -1,5 +1,5 @@
 -- Where the references to a definition stand.
-use Rattle.std.proofs.Common.{◌≡◌, ℕ, zero, suc, ◌+◌, ◌<◌, ◌≤◌, Bool, true, false, List, [], ◌∷◌, ◌++◌, length, Some, slice_get, refl, sym, ◌∙◌, ap, subst, arith, get_or, take, drop, cond, add-one, add-zero, zero-add}
+use Rattle.std.proofs.Common.{◌≡◌, ℕ, zero, suc, ◌+◌, ◌<◌, ◌≤◌, Bool, true, false, List, [], ◌∷◌, ◌++◌, length, Some, slice_get, refl, sym, ◌∙◌, ap, subst, arith, get_or, take, cond, add-one, add-zero, zero-add}
 use Rattle.std.proofs.lemmas.Bool.{false≢true}
 use Rattle.std.specs.List.{All}
 use Rattle.std.proofs.lemmas.List.Elements.{All-nil, All-cons, All-append}
@@ -39,10 +39,10 @@ refs_more (x ∷ xs) f zero d l = append-nil (references f x) ∙ ap (λ k. refe
 refs_more (x ∷ xs) f (suc i) d l =
     let e : suc f + i ≡ f + suc i = omega arith in
     ap (λ k. references_from f (take k (x ∷ xs))) (add-one (suc i))
-      ∙ (ap (λ k. references f x ++ references_from (suc f) (take k xs)) (sym (add-one i))
-      ∙ (ap (λ (ys : List TypeDef). references f x ++ ys) (refs_more xs (suc f) i d (omega arith))
-      ∙ (sym (append_assoc (references f x) (references_from (suc f) (take i xs)) (references (suc f + i) (get_or xs i d)))
-      ∙ ap (λ k. references f x ++ references_from (suc f) (take i xs) ++ references k (get_or xs i d)) e)))
+    ∙ (ap (λ k. references f x ++ references_from (suc f) (take k xs)) (sym (add-one i))
+    ∙ (ap (λ (ys : List TypeDef). references f x ++ ys) (refs_more xs (suc f) i d (omega arith))
+    ∙ (sym (append_assoc (references f x) (references_from (suc f) (take i xs)) (references (suc f + i) (get_or xs i d)))
+    ∙ ap (λ k. references f x ++ references_from (suc f) (take i xs) ++ references k (get_or xs i d)) e)))
 
 got_left : (xs ys : List TypeDef) (i : ℕ) (x : TypeDef) → slice_get xs i ≡ Some x → slice_get (xs ++ ys) i ≡ Some x
 got_left xs ys i x e =
@@ -57,8 +57,9 @@ got_next xs ys y z = slice_get-get_or (xs ++ y ∷ z ∷ ys) (length xs + 1) z (
 
 kept : (all ys : List TypeDef) (t i : ℕ) → t < length all → ReferTo all t i → ReferTo (all ++ ys) t i
 kept all ys t i l r = record {
-    to_type = λ d h. let q = r.to_type d (subst (λ x. is_signature x ≡ false) (get_or_append_left all ys d t l) h) in (got_left all ys i (Ref t) q.0, got_left all ys (i + 1) (Iref t) q.1);
-    to_signature = λ d h. got_left all ys i (FuncRef t) (r.to_signature d (subst (λ x. is_signature x ≡ true) (get_or_append_left all ys d t l) h)) }
+  to_type = λ d h. let q = r.to_type d (subst (λ x. is_signature x ≡ false) (get_or_append_left all ys d t l) h) in (got_left all ys i (Ref t) q.0, got_left all ys (i + 1) (Iref t) q.1);
+  to_signature = λ d h. got_left all ys i (FuncRef t) (r.to_signature d (subst (λ x. is_signature x ≡ true) (get_or_append_left all ys d t l) h));
+}
 
 any_default : (xs : List TypeDef) (i : ℕ) (d e : TypeDef) → i < length xs → get_or xs i d ≡ get_or xs i e
 any_default [] i d e l = absurd (omega arith)
@@ -70,13 +71,16 @@ made all t e l = go (is_signature (get_or all t e)) refl
   where
     same_there : (ys : List TypeDef) (d : TypeDef) → get_or (all ++ ys) t d ≡ get_or all t e
     same_there ys d = get_or_append_left all ys d t l ∙ any_default all t d e l
+
     go : (b : Bool) → is_signature (get_or all t e) ≡ b → ReferTo (all ++ cond b (FuncRef t ∷ []) (Ref t ∷ Iref t ∷ [])) t (length all)
     go true h = record {
-        to_type = λ d q. absurd (false≢true (sym q ∙ (ap is_signature (same_there (FuncRef t ∷ []) d) ∙ h)));
-        to_signature = λ d q. got_at all [] (FuncRef t) }
+      to_type = λ d q. absurd (false≢true (sym q ∙ (ap is_signature (same_there (FuncRef t ∷ []) d) ∙ h)));
+      to_signature = λ d q. got_at all [] (FuncRef t);
+    }
     go false h = record {
-        to_type = λ d q. (got_at all (Iref t ∷ []) (Ref t), got_next all [] (Ref t) (Iref t));
-        to_signature = λ d q. absurd (false≢true (sym h ∙ (sym (ap is_signature (same_there (Ref t ∷ Iref t ∷ []) d)) ∙ q))) }
+      to_type = λ d q. (got_at all (Iref t ∷ []) (Ref t), got_next all [] (Ref t) (Iref t));
+      to_signature = λ d q. absurd (false≢true (sym h ∙ (sym (ap is_signature (same_there (Ref t ∷ Iref t ∷ []) d)) ∙ q)));
+    }
 
 base : List TypeDef → List TypeDef
 base w = w ++ Void ∷ []
@@ -88,17 +92,17 @@ complete_step w all more t l e f =
     let four = Int 1 ∷ Int 32 ∷ StackRef ∷ ThreadRef ∷ [] in
     let lb : t < length (base w) = omega (arith, l, length-append w (Void ∷ [])) in
     let front : get_or all t Void ≡ get_or (base w) t Void =
-          ap (λ (xs : List TypeDef). get_or xs t Void) (e ∙ append_assoc (base w) four (references_from 0 (take t (base w)))) ∙ get_or_append_left (base w) (four ++ references_from 0 (take t (base w))) Void t lb in
+    ap (λ (xs : List TypeDef). get_or xs t Void) (e ∙ append_assoc (base w) four (references_from 0 (take t (base w)))) ∙ get_or_append_left (base w) (four ++ references_from 0 (take t (base w))) Void t lb in
     f Void ∙ (ap (λ (xs : List TypeDef). xs ++ references t (get_or all t Void)) e
-      ∙ (append_assoc (base w ++ four) (references_from 0 (take t (base w))) (references t (get_or all t Void))
-      ∙ ap (λ (xs : List TypeDef). base w ++ four ++ xs) (ap (λ d. references_from 0 (take t (base w)) ++ references t d) front
-        ∙ (ap (λ k. references_from 0 (take t (base w)) ++ references k (get_or (base w) t Void)) (sym (zero-add t)) ∙ sym (refs_more (base w) 0 t Void lb)))))
+    ∙ (append_assoc (base w ++ four) (references_from 0 (take t (base w))) (references t (get_or all t Void))
+    ∙ ap (λ (xs : List TypeDef). base w ++ four ++ xs) (ap (λ d. references_from 0 (take t (base w)) ++ references t d) front
+    ∙ (ap (λ k. references_from 0 (take t (base w)) ++ references k (get_or (base w) t Void)) (sym (zero-add t)) ∙ sym (refs_more (base w) 0 t Void lb)))))
 
 pub referred_step : (all more : List TypeDef) (first next : List ℕ) (t : ℕ) → t < length all → length first ≡ t → next ≡ first ++ length all ∷ [] → ((d : TypeDef) → more ≡ all ++ references t (get_or all t d)) → Referred all first t → Referred more next (t + 1)
 referred_step all more first next t l e f g r u lu =
     subst (λ (m : List TypeDef). ReferTo m u (slice_index next u)) (sym (g Void))
-      (pushed (λ x i. ReferTo (all ++ references t (get_or all t Void)) x i) first next t (length all) e f
-        (λ x m. kept all (references t (get_or all t Void)) x (slice_index first x) (omega arith) (r x m)) (made all t Void l) u lu)
+    (pushed (λ x i. ReferTo (all ++ references t (get_or all t Void)) x i) first next t (length all) e f
+    (λ x m. kept all (references t (get_or all t Void)) x (slice_index first x) (omega arith) (r x m)) (made all t Void l) u lu)
 
 pub complete_all : (w all : List TypeDef) (t : ℕ) → t ≡ length w + 1 → all ≡ so_far w t → all ≡ complete w
 complete_all w all t e h = h ∙ ap (λ (xs : List TypeDef). w ++ Void ∷ [] ++ Int 1 ∷ Int 32 ∷ StackRef ∷ ThreadRef ∷ [] ++ references_from 0 xs) (take_all t (w ++ Void ∷ []) (omega (arith, e, length-append w (Void ∷ []))))
@@ -121,7 +125,11 @@ headed w =
     let got : (k : ℕ) → k < 5 → slice_get (complete w) (length w + k) ≡ Some (get_or (Void ∷ Int 1 ∷ Int 32 ∷ StackRef ∷ ThreadRef ∷ refs) k Void) = λ k l. slice_get-get_or (complete w) (length w + k) Void (omega (arith, len, l)) ∙ ap Some (at k) in
     record {
       nothing = subst (λ i. slice_get (complete w) i ≡ Some Void) (add-zero (length w)) (got 0 (omega arith));
-      bit = got 1 (omega arith); word = got 2 (omega arith); stack = got 3 (omega arith); thread = got 4 (omega arith) }
+      bit = got 1 (omega arith);
+      word = got 2 (omega arith);
+      stack = got 3 (omega arith);
+      thread = got 4 (omega arith);
+    }
 
 Within : ℕ → TypeDef → Type 0
 Within n d = All (λ y. y < n) (arguments d)
@@ -156,5 +164,5 @@ complete_is_graph w i =
     let none : All (λ y. y < n) [] = All-nil (λ y. y < n) in
     let P = Within n in
     let c : All P (Void ∷ Int 1 ∷ Int 32 ∷ StackRef ∷ ThreadRef ∷ refs) = All-cons P Void (Int 1 ∷ Int 32 ∷ StackRef ∷ ThreadRef ∷ refs) none (All-cons P (Int 1) (Int 32 ∷ StackRef ∷ ThreadRef ∷ refs) none
-          (All-cons P (Int 32) (StackRef ∷ ThreadRef ∷ refs) none (All-cons P StackRef (ThreadRef ∷ refs) none (All-cons P ThreadRef refs none b)))) in
+    (All-cons P (Int 32) (StackRef ∷ ThreadRef ∷ refs) none (All-cons P StackRef (ThreadRef ∷ refs) none (All-cons P ThreadRef refs none b)))) in
     subst (λ (xs : List TypeDef). All P xs) (sym e) (All-append P w (Void ∷ Int 1 ∷ Int 32 ∷ StackRef ∷ ThreadRef ∷ refs) a c)

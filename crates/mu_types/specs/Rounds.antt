@@ -1,11 +1,10 @@
 -- The least that is alike to a depth, and the first that agrees.
-use Rattle.std.specs.Prelude.{◌≡◌, ℕ, ◌+◌, ◌<◌, ◌≤◌, Bool, true, false, List, length, slice_index, slice_get, suc, zero, refl}
-use Rattle.std.proofs.Common.{sym, ◌∙◌, subst, arith, add-one, inl, inr, ◌⊎◌}
+use Rattle.std.specs.Prelude.{◌≡◌, ℕ, ◌<◌, ◌≤◌, true, false, List, length, slice_index, slice_get, suc, refl}
+use Rattle.std.proofs.Common.{sym, ◌∙◌, subst, arith, inl, inr}
 use Rattle.std.proofs.lemmas.Bool.{false≢true, eq-eqb, eqb-true, cases_lt}
 use Rattle.type_laws.specs.declared.definition.TypeDef.{TypeDef}
-use Rattle.type_laws.specs.Definition.{arguments}
 use Rattle.type_laws.specs.Same.{alike, agree_at, IsGraph}
-use Rattle.type_laws.specs.Depth.{Meets, meets, from_meets, meets_more, alike_same, alike_back, alike_over}
+use Rattle.type_laws.specs.Depth.{meets, from_meets, meets_more, alike_same, alike_back, alike_over}
 use Rattle.type_laws.specs.Partition.{alike_by}
 
 abbrev pub IsLeastTo : List TypeDef → ℕ → List ℕ → Type 0
@@ -35,14 +34,17 @@ alike_agree g i p k h a b e = from_meets g (alike_by p) a b (meets_more g i (ali
 pub round_is : (g : List TypeDef) → IsGraph g → (p q : List ℕ) → ((x : ℕ) → x < length g → IsFirstTo g p x (slice_index q x)) → (k : ℕ) → IsLeastTo g k p → IsLeastTo g (suc k) q
 round_is g i p q f k h x l =
     let w = f x l in
-    let low = w.0 in
-    (w.0,
-     elim (cases_lt (slice_index q x) x) [
-         inl m ↦ agree_alike g i p k h (slice_index q x) x (w.1 m)
-       | inr m ↦ let e : slice_index q x ≡ x = omega arith in subst (λ y. alike g (suc k) y x ≡ true) (sym e) (alike_same g i (suc k) x l) ],
-     λ b lb t. elim (cases_lt b (slice_index q x)) [
-         inl m ↦ absurd (false≢true (sym (w.2 b m) ∙ alike_agree g i p k h b x t))
-       | inr m ↦ m ])
+    let low = w.0 in (
+      w.0,
+      elim (cases_lt (slice_index q x) x) [
+        | inl m ↦ agree_alike g i p k h (slice_index q x) x (w.1 m)
+        | inr m ↦ let e : slice_index q x ≡ x = omega arith in subst (λ y. alike g (suc k) y x ≡ true) (sym e) (alike_same g i (suc k) x l)
+      ],
+      λ b lb t. elim (cases_lt b (slice_index q x)) [
+        | inl m ↦ absurd (false≢true (sym (w.2 b m) ∙ alike_agree g i p k h b x t))
+        | inr m ↦ m
+      ],
+    )
 
 pub least_to_none : (g : List TypeDef) (p : List ℕ) → ((x : ℕ) → x < length g → slice_index p x ≡ 0) → IsLeastTo g 0 p
 unfolding alike

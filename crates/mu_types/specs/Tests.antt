@@ -8,7 +8,6 @@ use Rattle.type_laws.specs.Parts.{contains_itself}
 use Rattle.type_laws.specs.Leaves.{leaves}
 use Rattle.mu_types.specs.declared.limits.TheConstants.{WIDTHS, LONGEST_ARRAY, MOST_LEAVES}
 use Rattle.mu_types.specs.declared.faults.TypeFault.{TypeFault}
-use Rattle.mu_types.specs.declared.faults.TypeKind.{TypeKind}
 use Rattle.mu_types.specs.declared.faults.TypeKind.TheVariants.{EndlessType, WrongArgument, TooManyLeaves}
 use Rattle.mu_types.specs.Graph.{Written}
 use Rattle.mu_types.specs.Implied.{complete}

@@ -1,5 +1,5 @@
 -- What one test of a type answers.
-use Rattle.std.proofs.Common.{◌≡◌, ℕ, Bool, true, false, not, cond, List, Option, Some, None, refl, sym, ◌∙◌, ap, length, min, ◌<◌, ◌≤◌, arith}
+use Rattle.std.proofs.Common.{◌≡◌, ℕ, true, false, List, Some, None, refl, length, min, ◌<◌, ◌≤◌, arith}
 use Rattle.std.specs.Prelude.{nat_le}
 use Rattle.std.proofs.lemmas.Int.{clamps}
 use Rattle.std.proofs.lemmas.Bool.{lt-leb, le-leb}
@@ -9,9 +9,8 @@ use Rattle.type_laws.specs.Parts.{contains_itself}
 use Rattle.type_laws.specs.Leaves.{leaves}
 use Rattle.mu_types.specs.declared.limits.TheConstants.{MOST_LEAVES}
 use Rattle.mu_types.specs.declared.counting.TheConstants.{CAP}
-use Rattle.mu_types.specs.declared.faults.TypeFault.{TypeFault}
 use Rattle.mu_types.specs.declared.faults.TypeKind.TheVariants.{EndlessType, TooManyLeaves}
-use Rattle.mu_types.specs.Tests.{Test, first_unmet, endless_type, too_many_leaves, place}
+use Rattle.mu_types.specs.Tests.{first_unmet, endless_type, too_many_leaves, place}
 
 pub endless_some : (g : List TypeDef) (places : List (Roomy ℕ)) (t : ℕ) → contains_itself g t ≡ true → first_unmet (endless_type g places t) ≡ Some (record { kind = EndlessType; place = place places t 0 })
 endless_some g places t h = rw h refl

@@ -21,7 +21,11 @@ fn after(list: &[u32], rest: &[u32], k: usize) -> u32
     requires { k < length (list.now ++ rest.now) }
     ensures { result ≡ slice_index (list.now ++ rest.now) k }
 {
-    if k < list.len() { list[k] } else { rest[k - list.len()] }
+    if k < list.len() {
+        list[k]
+    } else {
+        rest[k - list.len()]
+    }
 }
 
 /// The argument with that number, counted from 0.
@@ -32,7 +36,11 @@ pub fn argument(definition: &TypeDef, k: usize) -> u32
     match definition {
         TypeDef::Struct { fields } => fields.as_slice()[k],
         TypeDef::Array { element, .. } => *element,
-        TypeDef::Hybrid { fixed, element } => if k < fixed.len() { fixed.as_slice()[k] } else { *element },
+        TypeDef::Hybrid { fixed, element } => if k < fixed.len() {
+            fixed.as_slice()[k]
+        } else {
+            *element
+        },
         TypeDef::Ref(t) | TypeDef::Iref(t) | TypeDef::FuncRef(t) => *t,
         TypeDef::Sig { takes, gives } => after(takes.as_slice(), gives.as_slice(), k),
         _ => 0,

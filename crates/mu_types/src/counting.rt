@@ -48,7 +48,10 @@ fn count(definition: &TypeDef, counts: &[usize]) -> usize
 {
     match definition {
         TypeDef::Struct { fields } => count_each(fields.as_slice(), counts),
-        TypeDef::Array { element, length } => capped_product_of(*length, at(counts, *element as usize)),
+        TypeDef::Array { element, length } => capped_product_of(
+            *length,
+            at(counts, *element as usize),
+        ),
         TypeDef::Hybrid { fixed, element: _ } => count_each(fixed.as_slice(), counts),
         TypeDef::Void | TypeDef::Sig { .. } => 0,
         _ => 1,
@@ -82,14 +85,22 @@ pub fn counts_plainly(alloc: Global, all: &[TypeDef]) -> Result<Vec<usize>, Allo
 }
 
 /// The first, of the first so many definitions, with too many leaves, by the numbers of leaves.
-pub fn first_too_many(all: &[TypeDef], places: &[Ids], many: usize, counts: &[usize]) -> Option<TypeFault>
+pub fn first_too_many(
+    all: &[TypeDef],
+    places: &[Ids],
+    many: usize,
+    counts: &[usize],
+) -> Option<TypeFault>
     requires counts { Counts all.now (length all.now) CAP counts.now }
     ensures { result ≡ first_unmet (each (too_many_leaves all.now places.now) many 0) }
 {
     for t in 0..many {
         if at(counts, t) > MOST_LEAVES {
             let place = place_of(places, t, 0);
-            return Some(TypeFault { kind: TypeKind::TooManyLeaves, place });
+            return Some(TypeFault {
+                kind: TypeKind::TooManyLeaves,
+                place,
+            });
         }
     }
     None

@@ -57,7 +57,12 @@ fn has_marked_part(definition: &TypeDef, marks: &[bool], goal: usize) -> bool
     false
 }
 
-fn farther(alloc: Global, all: &[TypeDef], marks: &[bool], goal: usize) -> Result<Vec<bool>, AllocError>
+fn farther(
+    alloc: Global,
+    all: &[TypeDef],
+    marks: &[bool],
+    goal: usize,
+) -> Result<Vec<bool>, AllocError>
     requires { length marks.now ≡ length all.now }
     ensures len { IfOk result (λ v. vec_len v ≡ length all.now) }
     ensures marks { IfOk result (λ v. (k : ℕ) → Marks all.now k goal marks.now → Marks all.now (suc k) goal v.items) }
@@ -92,14 +97,22 @@ fn is_endless(alloc: Global, all: &[TypeDef], t: usize) -> Result<bool, AllocErr
 }
 
 /// The first, of the first so many definitions, that contains itself.
-pub fn first_endless(alloc: Global, all: &[TypeDef], places: &[Ids], many: usize) -> Result<Option<TypeFault>, AllocError>
+pub fn first_endless(
+    alloc: Global,
+    all: &[TypeDef],
+    places: &[Ids],
+    many: usize,
+) -> Result<Option<TypeFault>, AllocError>
     requires { many ≤ length all.now }
     ensures { IfOk result (λ fault. fault ≡ first_unmet (each (endless_type all.now places.now) many 0)) }
 {
     for t in 0..many {
         if is_endless(alloc, all, t)? {
             let place = place_of(places, t, 0);
-            return Ok(Some(TypeFault { kind: TypeKind::EndlessType, place }));
+            return Ok(Some(TypeFault {
+                kind: TypeKind::EndlessType,
+                place,
+            }));
         }
     }
     Ok(None)

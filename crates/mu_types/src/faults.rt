@@ -37,6 +37,9 @@ impl From<AllocError> for TypeFault {
     ghost from_gives = { λ _ fault. fault.kind ≡ Memory };
 
     fn from(_: AllocError) -> Self {
-        TypeFault { kind: TypeKind::Memory, place: 0 }
+        TypeFault {
+            kind: TypeKind::Memory,
+            place: 0,
+        }
     }
 }

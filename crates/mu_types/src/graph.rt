@@ -62,7 +62,10 @@ impl TypeGraph {
         ensures places { result.1.items ≡ self.places }
         ensures even { length self.places ≡ length self.definitions }
     {
-        let TypeGraph { definitions, places } = self;
+        let TypeGraph {
+            definitions,
+            places,
+        } = self;
         (definitions, places)
     }
 }

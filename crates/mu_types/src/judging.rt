@@ -18,7 +18,11 @@ fn member(list: &[u32], k: usize) -> usize
 pub fn place_of(places: &[Ids], t: usize, k: usize) -> usize
     ensures { result ≡ place places.now t k }
 {
-    if t < places.len() { member(places[t].as_slice(), k) } else { 0 }
+    if t < places.len() {
+        member(places[t].as_slice(), k)
+    } else {
+        0
+    }
 }
 
 fn is_width(width: u128) -> bool
@@ -76,7 +80,10 @@ fn wrong_argument(all: &[TypeDef], places: &[Ids], t: usize) -> Option<TypeFault
     for k in 0..judged_arguments(definition) {
         if !is_allowed(all, definition, k) {
             let place = place_of(places, t, k + 1);
-            return Some(TypeFault { kind: TypeKind::WrongArgument, place });
+            return Some(TypeFault {
+                kind: TypeKind::WrongArgument,
+                place,
+            });
         }
     }
     None

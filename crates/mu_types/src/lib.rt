@@ -2,9 +2,9 @@
 #![tactic(auto)]
 
 mod arguments;
-mod deciding;
 mod blocks;
 mod counting;
+mod deciding;
 mod edges;
 mod endless;
 mod faults;

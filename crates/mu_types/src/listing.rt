@@ -12,7 +12,12 @@ use std::alloc::{AllocError, Global};
 use type_laws::TypeDef;
 
 #[tactic(auto, using(crate::specs::Rows::row_at, crate::specs::Listings::no_row))]
-fn append_row(rows: &[Vec<u32>], number: &[usize], p: u32, out: &mut Vec<u32>) -> Result<(), AllocError>
+fn append_row(
+    rows: &[Vec<u32>],
+    number: &[usize],
+    p: u32,
+    out: &mut Vec<u32>,
+) -> Result<(), AllocError>
     ensures { OnOk result (out.new.items ≡ out.old.items ++ row_by (lists rows.now) number.now p) }
 {
     let n = at(number, p as usize);
@@ -22,7 +27,12 @@ fn append_row(rows: &[Vec<u32>], number: &[usize], p: u32, out: &mut Vec<u32>) -
     Ok(())
 }
 
-fn append_each(rows: &[Vec<u32>], number: &[usize], list: &[u32], out: &mut Vec<u32>) -> Result<(), AllocError>
+fn append_each(
+    rows: &[Vec<u32>],
+    number: &[usize],
+    list: &[u32],
+    out: &mut Vec<u32>,
+) -> Result<(), AllocError>
     ensures { OnOk result (out.new.items ≡ out.old.items ++ flat_map (row_by (lists rows.now) number.now) list.now) }
 {
     for p in list {
@@ -31,7 +41,13 @@ fn append_each(rows: &[Vec<u32>], number: &[usize], list: &[u32], out: &mut Vec<
     Ok(())
 }
 
-fn append_times(rows: &[Vec<u32>], number: &[usize], p: u32, many: u128, out: &mut Vec<u32>) -> Result<(), AllocError>
+fn append_times(
+    rows: &[Vec<u32>],
+    number: &[usize],
+    p: u32,
+    many: u128,
+    out: &mut Vec<u32>,
+) -> Result<(), AllocError>
     ensures { OnOk result (out.new.items ≡ out.old.items ++ times many (row_by (lists rows.now) number.now p)) }
 {
     for i in 0..many {
@@ -41,21 +57,40 @@ fn append_times(rows: &[Vec<u32>], number: &[usize], p: u32, many: u128, out: &m
 }
 
 /// The leaves of a definition, by the rows of its parts. `own` stands for the type itself.
-fn listed(alloc: Global, definition: &TypeDef, own: u32, rows: &[Vec<u32>], number: &[usize]) -> Result<Vec<u32>, AllocError>
+fn listed(
+    alloc: Global,
+    definition: &TypeDef,
+    own: u32,
+    rows: &[Vec<u32>],
+    number: &[usize],
+) -> Result<Vec<u32>, AllocError>
     ensures { IfOk result (λ v. v.items ≡ leaves_by (row_by (lists rows.now) number.now) own definition.now) }
 {
     let mut out = Vec::new(alloc);
     match definition {
         TypeDef::Struct { fields } => append_each(rows, number, fields.as_slice(), &mut out)?,
-        TypeDef::Array { element, length } => append_times(rows, number, *element, *length, &mut out)?,
-        TypeDef::Hybrid { fixed, element: _ } => append_each(rows, number, fixed.as_slice(), &mut out)?,
+        TypeDef::Array { element, length } => append_times(
+            rows, number, *element, *length, &mut out,
+        )?,
+        TypeDef::Hybrid { fixed, element: _ } => append_each(
+            rows,
+            number,
+            fixed.as_slice(),
+            &mut out,
+        )?,
         TypeDef::Void | TypeDef::Sig { .. } => {}
         _ => out.push(own)?,
     }
     Ok(out)
 }
 
-fn deeper(alloc: Global, all: &[TypeDef], class: &[usize], rows: &[Vec<u32>], number: &[usize]) -> Result<Vec<Vec<u32>>, AllocError>
+fn deeper(
+    alloc: Global,
+    all: &[TypeDef],
+    class: &[usize],
+    rows: &[Vec<u32>],
+    number: &[usize],
+) -> Result<Vec<Vec<u32>>, AllocError>
     requires graph { IsGraph all.now }
     requires class { IsLeast all.now class.now }
     requires few { length all.now < 2 ^ 32 }
@@ -71,7 +106,11 @@ fn deeper(alloc: Global, all: &[TypeDef], class: &[usize], rows: &[Vec<u32>], nu
 }
 
 /// The leaves by depth: the number of types times as long as needed.
-pub fn listings_plainly(alloc: Global, all: &[TypeDef], class: &[usize]) -> Result<Vec<Vec<u32>>, AllocError>
+pub fn listings_plainly(
+    alloc: Global,
+    all: &[TypeDef],
+    class: &[usize],
+) -> Result<Vec<Vec<u32>>, AllocError>
     requires graph { IsGraph all.now }
     requires class { IsLeast all.now class.now }
     requires few { length all.now < 2 ^ 32 }

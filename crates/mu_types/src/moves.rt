@@ -1,20 +1,34 @@
 // Moving types from block to block.
 
-use super::rows::{at, push_to, put};
-use std::alloc::{AllocError, Global};
-
 ghost use Rattle.std.specs.Prelude.{◌≡◌, ℕ, ◌<◌, length, map, slice_index, IfOk, OnOk};
 ghost use Rattle.std.specs.List.{All, Contains};
 ghost use Rattle.mu_types.specs.Blocks.{Listed, HaveMoved, OthersStay};
 ghost use Rattle.mu_types.specs.Rows.{lists};
 
-fn goals_of(alloc: Global, block: &[usize], touched: &[usize], target: &[usize]) -> Result<Vec<usize>, AllocError>
+use super::rows::{at, push_to, put};
+use std::alloc::{AllocError, Global};
+
+fn goals_of(
+    alloc: Global,
+    block: &[usize],
+    touched: &[usize],
+    target: &[usize],
+) -> Result<Vec<usize>, AllocError>
     ensures { IfOk result (λ v. v.items ≡ map (λ x. slice_index target.now (slice_index block.now x)) touched.now) }
 {
-    touched.iter().map(|x| at(target, at(block, *x))).collect(alloc)
+    touched
+        .iter()
+        .map(|x| at(target, at(block, *x)))
+        .collect(alloc)
 }
 
-pub fn move_all(alloc: Global, block: &mut [usize], members: &mut [Vec<usize>], touched: &[usize], target: &[usize]) -> Result<(), AllocError>
+pub fn move_all(
+    alloc: Global,
+    block: &mut [usize],
+    members: &mut [Vec<usize>],
+    touched: &[usize],
+    target: &[usize],
+) -> Result<(), AllocError>
     requires range { (k : ℕ) → k < length touched.now → slice_index touched.now k < length block.old }
     requires target { (b : ℕ) → slice_index target.now b < length members.old }
     ensures rows { length members.new ≡ length members.old }

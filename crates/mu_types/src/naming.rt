@@ -1,15 +1,15 @@
 // The classes.
 
+ghost use Rattle.std.specs.Prelude.{◌≡◌, ℕ, ◌+◌, ◌<◌, ◌≤◌, length, slice_index, vec_len, IfOk};
+ghost use Rattle.type_laws.specs.Same.{IsGraph};
+ghost use Rattle.type_laws.specs.Partition.{IsLeast, Keeps};
+ghost use Rattle.mu_types.specs.Names.{NamesLeast, FirstsSoFar};
+
 use super::plain::plain;
 use super::rows::at;
 use super::stable::is_stable;
 use std::alloc::{AllocError, Global};
 use type_laws::TypeDef;
-
-ghost use Rattle.std.specs.Prelude.{◌≡◌, ℕ, ◌+◌, ◌<◌, ◌≤◌, length, slice_index, vec_len, IfOk};
-ghost use Rattle.type_laws.specs.Same.{IsGraph};
-ghost use Rattle.type_laws.specs.Partition.{IsLeast, Keeps};
-ghost use Rattle.mu_types.specs.Names.{NamesLeast, FirstsSoFar};
 
 #[tactic(auto, using(crate::specs::Names::first_met, crate::specs::Names::first_kept, crate::specs::Names::first_least))]
 fn meet(first: &mut Vec<usize>, block: &[usize], x: usize) -> usize
@@ -45,7 +45,12 @@ fn name_by_least(alloc: Global, block: &[usize], blocks: usize) -> Result<Vec<us
 
 /// The classes by a partition that keeps the same types together, however it was found.
 #[tactic(auto, using(type_laws::specs::Partition::least_from))]
-pub fn classes_by(alloc: Global, definitions: &[TypeDef], block: &[usize], blocks: usize) -> Result<Vec<usize>, AllocError>
+pub fn classes_by(
+    alloc: Global,
+    definitions: &[TypeDef],
+    block: &[usize],
+    blocks: usize,
+) -> Result<Vec<usize>, AllocError>
     requires graph { IsGraph definitions.now }
     requires keeps { Keeps definitions.now block.now }
     requires len { length block.now ≡ length definitions.now }

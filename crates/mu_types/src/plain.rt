@@ -1,13 +1,13 @@
 // The classes by plain rounds.
 
-use super::stable::agrees;
-use std::alloc::{AllocError, Global};
-use type_laws::TypeDef;
-
 ghost use Rattle.std.specs.Prelude.{◌≡◌, ℕ, suc, ◌<◌, length, slice_index, slice_get, vec_len, IfOk};
 ghost use Rattle.type_laws.specs.Same.{IsGraph};
 ghost use Rattle.type_laws.specs.Partition.{IsLeast};
 ghost use Rattle.mu_types.specs.Rounds.{IsLeastTo, IsFirstTo};
+
+use super::stable::agrees;
+use std::alloc::{AllocError, Global};
+use type_laws::TypeDef;
 
 fn first_like(definitions: &[TypeDef], p: &[usize], x: usize) -> usize
     requires { x < length definitions.now }

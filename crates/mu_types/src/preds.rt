@@ -1,11 +1,5 @@
 // The arguments, seen from where they lead.
 
-use super::arguments::{argument, arity};
-use super::edges::Edge;
-use super::rows::push_to;
-use std::alloc::{AllocError, Global};
-use type_laws::TypeDef;
-
 ghost use Rattle.std.specs.Prelude.{◌≡◌, ℕ, ◌<◌, Some, length, slice_get, IfOk, OnOk};
 ghost use Rattle.type_laws.specs.Same.{IsGraph};
 ghost use Rattle.type_laws.specs.Partition.{arg};
@@ -13,6 +7,12 @@ ghost use Rattle.mu_types.specs.Rows.{lists, Holds};
 ghost use Rattle.mu_types.specs.declared.edges.Edge.{Edge};
 ghost use Rattle.mu_types.specs.Edges.{edge_of};
 ghost use Rattle.mu_types.specs.Leads.{IsBackward};
+
+use super::arguments::{argument, arity};
+use super::edges::Edge;
+use super::rows::push_to;
+use std::alloc::{AllocError, Global};
+use type_laws::TypeDef;
 
 fn add_edges(definitions: &[TypeDef], x: usize, preds: &mut [Vec<Edge>]) -> Result<(), AllocError>
     requires graph { IsGraph definitions.now }
@@ -24,7 +24,11 @@ fn add_edges(definitions: &[TypeDef], x: usize, preds: &mut [Vec<Edge>]) -> Resu
 {
     let definition = &definitions[x];
     for k in 0..arity(definition) {
-        push_to(preds, argument(definition, k) as usize, Edge { place: k, from: x })?;
+        push_to(
+            preds,
+            argument(definition, k) as usize,
+            Edge { place: k, from: x },
+        )?;
     }
     Ok(())
 }

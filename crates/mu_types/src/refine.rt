@@ -1,15 +1,5 @@
 // The refinement by a worklist. What it does with sizes and the order of work needs no proof.
 
-use super::edges::Edge;
-use super::arguments::arity;
-use super::blocks::{empty_rows, first_blocks, identity, list_members, widest};
-use super::gather::gather;
-use super::moves::move_all;
-use super::preds::predecessors;
-use super::rows::{at, put, take_row};
-use std::alloc::{AllocError, Global};
-use type_laws::TypeDef;
-
 ghost use Rattle.std.specs.Prelude.{◌≡◌, ℕ, ◌<◌, Some, [], length, slice_index, slice_index_or, vec_len, OnOk, IfOk};
 ghost use Rattle.mu_types.specs.Listings.{IsIdentity};
 ghost use Rattle.type_laws.specs.Same.{IsGraph};
@@ -18,6 +8,16 @@ ghost use Rattle.mu_types.specs.Targets.{TargetsFit};
 ghost use Rattle.mu_types.specs.Rows.{lists, Holds};
 ghost use Rattle.mu_types.specs.Blocks.{Listed};
 ghost use Rattle.mu_types.specs.Leads.{IsClosed, AreClosed, IsBackward};
+
+use super::arguments::arity;
+use super::blocks::{empty_rows, first_blocks, identity, list_members, widest};
+use super::edges::Edge;
+use super::gather::gather;
+use super::moves::move_all;
+use super::preds::predecessors;
+use super::rows::{at, put, take_row};
+use std::alloc::{AllocError, Global};
+use type_laws::TypeDef;
 
 #[derive(Drop)]
 pub struct Plan {
@@ -47,7 +47,13 @@ fn count_hits(block: &[usize], touched: &[usize], plan: &mut Plan) {
     }
 }
 
-fn choose(block: &[usize], touched: &[usize], target: &mut [usize], plan: &mut Plan, n: usize) -> Result<(), AllocError>
+fn choose(
+    block: &[usize],
+    touched: &[usize],
+    target: &mut [usize],
+    plan: &mut Plan,
+    n: usize,
+) -> Result<(), AllocError>
     requires { TargetsFit target.old n }
     ensures { TargetsFit target.new n }
 {
@@ -76,7 +82,11 @@ fn settle(target: &mut [usize], plan: &mut Plan, n: usize) -> Result<(), AllocEr
         aim(target, b, b, n);
         let rest = at(&plan.sizes, b).wrapping_sub(at(&plan.sizes, id));
         put(&mut plan.sizes, b, rest);
-        let small = if at(&plan.waiting, b) == 1 || at(&plan.sizes, id) <= rest { id } else { b };
+        let small = if at(&plan.waiting, b) == 1 || at(&plan.sizes, id) <= rest {
+            id
+        } else {
+            b
+        };
         put(&mut plan.waiting, small, 1);
         plan.work.push(small)?;
     }
@@ -84,7 +94,15 @@ fn settle(target: &mut [usize], plan: &mut Plan, n: usize) -> Result<(), AllocEr
 }
 
 #[tactic(auto, using(crate::specs::Leads::moved_keeps))]
-fn part(alloc: Global, definitions: &[TypeDef], block: &mut [usize], members: &mut [Vec<usize>], touched: &[usize], target: &mut [usize], plan: &mut Plan) -> Result<(), AllocError>
+fn part(
+    alloc: Global,
+    definitions: &[TypeDef],
+    block: &mut [usize],
+    members: &mut [Vec<usize>],
+    touched: &[usize],
+    target: &mut [usize],
+    plan: &mut Plan,
+) -> Result<(), AllocError>
     requires range { (k : ℕ) → k < length touched.now → slice_index touched.now k < length block.old }
     requires closed { IsClosed definitions.now touched.now }
     requires keeps { Keeps definitions.now block.old }
@@ -101,7 +119,16 @@ fn part(alloc: Global, definitions: &[TypeDef], block: &mut [usize], members: &m
     Ok(())
 }
 
-fn part_row(alloc: Global, definitions: &[TypeDef], block: &mut [usize], members: &mut [Vec<usize>], buckets: &mut [Vec<usize>], p: usize, target: &mut [usize], plan: &mut Plan) -> Result<(), AllocError>
+fn part_row(
+    alloc: Global,
+    definitions: &[TypeDef],
+    block: &mut [usize],
+    members: &mut [Vec<usize>],
+    buckets: &mut [Vec<usize>],
+    p: usize,
+    target: &mut [usize],
+    plan: &mut Plan,
+) -> Result<(), AllocError>
     requires p { p < length buckets.old }
     requires within { (k x : ℕ) → Holds (lists buckets.old) k x → x < length block.old }
     requires closed { AreClosed definitions.now (lists buckets.old) }
@@ -119,7 +146,16 @@ fn part_row(alloc: Global, definitions: &[TypeDef], block: &mut [usize], members
     Ok(())
 }
 
-fn drain(alloc: Global, definitions: &[TypeDef], block: &mut [usize], members: &mut [Vec<usize>], buckets: &mut [Vec<usize>], places: &mut Vec<usize>, target: &mut [usize], plan: &mut Plan) -> Result<(), AllocError>
+fn drain(
+    alloc: Global,
+    definitions: &[TypeDef],
+    block: &mut [usize],
+    members: &mut [Vec<usize>],
+    buckets: &mut [Vec<usize>],
+    places: &mut Vec<usize>,
+    target: &mut [usize],
+    plan: &mut Plan,
+) -> Result<(), AllocError>
     requires within { (k x : ℕ) → Holds (lists buckets.old) k x → x < length block.old }
     requires closed { AreClosed definitions.now (lists buckets.old) }
     requires keeps { Keeps definitions.now block.old }
@@ -139,7 +175,18 @@ fn drain(alloc: Global, definitions: &[TypeDef], block: &mut [usize], members: &
     Ok(())
 }
 
-fn turn(alloc: Global, definitions: &[TypeDef], preds: &[Vec<Edge>], block: &mut [usize], members: &mut [Vec<usize>], buckets: &mut [Vec<usize>], places: &mut Vec<usize>, s: usize, target: &mut [usize], plan: &mut Plan) -> Result<(), AllocError>
+fn turn(
+    alloc: Global,
+    definitions: &[TypeDef],
+    preds: &[Vec<Edge>],
+    block: &mut [usize],
+    members: &mut [Vec<usize>],
+    buckets: &mut [Vec<usize>],
+    places: &mut Vec<usize>,
+    s: usize,
+    target: &mut [usize],
+    plan: &mut Plan,
+) -> Result<(), AllocError>
     requires graph { IsGraph definitions.now }
     requires back { IsBackward definitions.now (lists preds.now) }
     requires wide { (x k y : ℕ) → arg definitions.now x k ≡ Some y → k < length buckets.old }
@@ -157,12 +204,31 @@ fn turn(alloc: Global, definitions: &[TypeDef], preds: &[Vec<Edge>], block: &mut
 {
     if s < members.len() {
         gather(definitions, preds, block, &members[s], s, buckets, places)?;
-        drain(alloc, definitions, block, members, buckets, places, target, plan)?;
+        drain(
+            alloc,
+            definitions,
+            block,
+            members,
+            buckets,
+            places,
+            target,
+            plan,
+        )?;
     }
     Ok(())
 }
 
-fn work_off(alloc: Global, definitions: &[TypeDef], preds: &[Vec<Edge>], block: &mut [usize], members: &mut [Vec<usize>], buckets: &mut [Vec<usize>], target: &mut [usize], plan: &mut Plan, fuel: usize) -> Result<(), AllocError>
+fn work_off(
+    alloc: Global,
+    definitions: &[TypeDef],
+    preds: &[Vec<Edge>],
+    block: &mut [usize],
+    members: &mut [Vec<usize>],
+    buckets: &mut [Vec<usize>],
+    target: &mut [usize],
+    plan: &mut Plan,
+    fuel: usize,
+) -> Result<(), AllocError>
     requires graph { IsGraph definitions.now }
     requires back { IsBackward definitions.now (lists preds.now) }
     requires wide { (x k y : ℕ) → arg definitions.now x k ≡ Some y → k < length buckets.old }
@@ -180,7 +246,18 @@ fn work_off(alloc: Global, definitions: &[TypeDef], preds: &[Vec<Edge>], block: 
             break;
         };
         put(&mut plan.waiting, s, 0);
-        turn(alloc, definitions, preds, block, members, buckets, &mut places, s, target, plan)?;
+        turn(
+            alloc,
+            definitions,
+            preds,
+            block,
+            members,
+            buckets,
+            &mut places,
+            s,
+            target,
+            plan,
+        )?;
     }
     Ok(())
 }
@@ -209,7 +286,14 @@ fn plan_for(alloc: Global, block: &[usize]) -> Result<Plan, AllocError> {
         }
     }
     let parents = Vec::new(alloc);
-    Ok(Plan { next, sizes, hits, waiting, work, parents })
+    Ok(Plan {
+        next,
+        sizes,
+        hits,
+        waiting,
+        work,
+        parents,
+    })
 }
 
 fn edges_of(definitions: &[TypeDef]) -> usize {
@@ -234,11 +318,27 @@ pub fn refine(alloc: Global, definitions: &[TypeDef]) -> Result<Vec<usize>, Allo
     let buckets = empty_rows(alloc, widest(definitions))?;
     let target = identity(alloc, definitions.len())?;
     let plan = plan_for(alloc, &block)?;
-    part_blocks(alloc, definitions, &mut block, members, buckets, target, plan)?;
+    part_blocks(
+        alloc,
+        definitions,
+        &mut block,
+        members,
+        buckets,
+        target,
+        plan,
+    )?;
     Ok(block)
 }
 
-fn part_blocks(alloc: Global, definitions: &[TypeDef], block: &mut [usize], members: Vec<Vec<usize>>, buckets: Vec<Vec<usize>>, target: Vec<usize>, plan: Plan) -> Result<(), AllocError>
+fn part_blocks(
+    alloc: Global,
+    definitions: &[TypeDef],
+    block: &mut [usize],
+    members: Vec<Vec<usize>>,
+    buckets: Vec<Vec<usize>>,
+    target: Vec<usize>,
+    plan: Plan,
+) -> Result<(), AllocError>
     requires graph { IsGraph definitions.now }
     requires some { 0 < length definitions.now }
     requires len { length block.old ≡ length definitions.now }
@@ -257,6 +357,16 @@ fn part_blocks(alloc: Global, definitions: &[TypeDef], block: &mut [usize], memb
     let mut buckets = buckets;
     let mut target = target;
     let mut plan = plan;
-    work_off(alloc, definitions, &preds, block, &mut members, &mut buckets, &mut target, &mut plan, fuel)?;
+    work_off(
+        alloc,
+        definitions,
+        &preds,
+        block,
+        &mut members,
+        &mut buckets,
+        &mut target,
+        &mut plan,
+        fuel,
+    )?;
     Ok(())
 }

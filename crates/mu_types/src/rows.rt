@@ -1,10 +1,10 @@
 // Lists that are read and written without bounds.
 
-use std::alloc::{AllocError, Global};
-use std::mem;
-
 ghost use Rattle.std.specs.Prelude.{◌≡◌, ℕ, ◌<◌, length, slice_index, slice_set, slice_index_or, [], OnOk};
 ghost use Rattle.mu_types.specs.Rows.{lists, added};
+
+use std::alloc::{AllocError, Global};
+use std::mem;
 
 /// The number at a place, 0 past the end.
 pub fn at(list: &[usize], i: usize) -> usize

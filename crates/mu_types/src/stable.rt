@@ -1,13 +1,13 @@
 // Whether a partition is stable.
 
-use super::arguments::{are_alike, argument, arity};
-use super::rows::at;
-use type_laws::TypeDef;
-
 ghost use Rattle.std.specs.Prelude.{◌≡◌, ℕ, ◌<◌, length, slice_index, slice_get, IsTrue};
 ghost use Rattle.type_laws.specs.Definition.{arguments};
 ghost use Rattle.type_laws.specs.Same.{pairs, agree_at};
 ghost use Rattle.type_laws.specs.Partition.{alike_by, IsStable};
+
+use super::arguments::{are_alike, argument, arity};
+use super::rows::at;
+use type_laws::TypeDef;
 
 #[tactic(auto, using(crate::proofs::Pairs::pairs_uneven, crate::proofs::Pairs::pairs_step, crate::proofs::Pairs::pairs_end))]
 fn pairs_agree(a: &TypeDef, b: &TypeDef, p: &[usize]) -> bool

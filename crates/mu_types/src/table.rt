@@ -41,7 +41,13 @@ impl Classes {
         ensures written { result.written ≡ written }
     {
         let Whole { all, first } = whole;
-        Classes { written, all, first, class, rows }
+        Classes {
+            written,
+            all,
+            first,
+            class,
+            rows,
+        }
     }
 
     /// Whether the two are the same type or signature.

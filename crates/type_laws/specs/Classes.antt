@@ -1,9 +1,8 @@
 -- Of classes: a least number is found, and a list of least ones gives the class of each.
-use Rattle.std.proofs.Common.{◌≡◌, ℕ, zero, suc, ◌+◌, ◌<◌, ◌≤◌, Bool, true, false, cond, List, length, refl, sym, ◌∙◌, ap, subst, arith}
+use Rattle.std.proofs.Common.{◌≡◌, ℕ, zero, suc, ◌<◌, Bool, true, false, List, length, refl, sym, ap, arith}
 use Rattle.std.specs.Prelude.{slice_index}
-use Rattle.std.proofs.lemmas.Bool.{false≢true, cases_lt}
 use Rattle.type_laws.specs.declared.definition.TypeDef.{TypeDef}
-use Rattle.type_laws.specs.Same.{same, IsGraph}
+use Rattle.type_laws.specs.Same.{same}
 use Rattle.type_laws.specs.Class.{least, class_of}
 use Rattle.type_laws.specs.Partition.{IsLeast}
 

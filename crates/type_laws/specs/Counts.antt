@@ -1,8 +1,8 @@
 -- How many leaves a definition has, told for its parts, up to a limit.
-use Rattle.std.proofs.Common.{◌≡◌, ℕ, zero, suc, ◌+◌, ◌*◌, ◌<◌, ◌≤◌, List, [], ◌∷◌, ◌++◌, length, min, refl, sym, ◌∙◌, ap, subst, arith, inl, inr, ◌⊎◌, suc-mul, mul_comm, zero-mul}
+use Rattle.std.proofs.Common.{◌≡◌, ℕ, zero, suc, ◌+◌, ◌*◌, ◌≤◌, List, [], ◌∷◌, length, min, refl, sym, ◌∙◌, ap, arith, inl, inr, suc-mul, mul_comm, zero-mul}
 use Rattle.std.proofs.lemmas.List.Sums.{sum_by-cons}
 use Rattle.std.proofs.lemmas.Int.{clamps}
-use Rattle.std.specs.List.{All, flat_map, sum_by}
+use Rattle.std.specs.List.{All, sum_by}
 use Rattle.std.proofs.lemmas.Bool.{cases_lt}
 use Rattle.std.proofs.lemmas.List.{length-append}
 use Rattle.std.proofs.lemmas.List.Concat.{length-flat_map}
@@ -56,8 +56,9 @@ capped_sum m s x = omega (arith, clamps)
 pub capped_product : (m s x : ℕ) → min m (s * min m x) ≡ min m (s * x)
 capped_product m zero x = ap (λ k. min m k) (zero-mul (min m x) ∙ sym (zero-mul x))
 capped_product m (suc s) x = elim (cases_lt m x) [
-    inl l ↦ let e : min m x ≡ m = min_high m x (omega arith) in let a = suc-mul s (min m x) in let b = suc-mul s x in omega (arith, clamps, e, a, b)
-  | inr l ↦ let e : min m x ≡ x = min_low m x (omega arith) in rw e refl ]
+  | inl l ↦ let e : min m x ≡ m = min_high m x (omega arith) in let a = suc-mul s (min m x) in let b = suc-mul s x in omega (arith, clamps, e, a, b)
+  | inr l ↦ let e : min m x ≡ x = min_low m x (omega arith) in rw e refl
+]
 
 pub capped_both : (m s x : ℕ) → min m (min m s * min m x) ≡ min m (s * x)
 capped_both m s x = ap (λ k. min m k) (mul_comm (min m s) (min m x)) ∙ (capped_product m (min m x) s ∙ (ap (λ k. min m k) (mul_comm (min m x) s) ∙ capped_product m s x))
@@ -81,4 +82,3 @@ capped_count m c l (FuncRef s) h = refl
 capped_count m c l StackRef h = refl
 capped_count m c l ThreadRef h = refl
 capped_count m c l (Sig takes gives) h = refl
-

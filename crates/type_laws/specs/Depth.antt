@@ -1,12 +1,12 @@
 -- Alike to each depth is an equivalence, and does not change past the number of types.
-use Rattle.std.proofs.Common.{◌≡◌, ℕ, zero, suc, ◌+◌, ◌<◌, ◌≤◌, ◌==◌, Bool, true, false, ◌&&◌, List, [], ◌∷◌, length, Option, Some, None, slice_get, refl, sym, ◌∙◌, ap, subst, arith, inl, inr, ◌⊎◌, get_or}
+use Rattle.std.proofs.Common.{◌≡◌, ℕ, zero, suc, ◌+◌, ◌<◌, ◌≤◌, ◌==◌, Bool, true, ◌&&◌, List, [], ◌∷◌, length, Option, Some, None, slice_get, refl, sym, ◌∙◌, ap, subst, arith, inl, inr, ◌⊎◌, get_or}
 use Rattle.std.specs.List.{All}
 use Rattle.std.proofs.lemmas.Bool.{false≢true, and_from, and_parts, eq-eqb, eqb-true}
 use Rattle.std.proofs.lemmas.List.Elements.{All-head, All-tail, All-get_or}
 use Rattle.std.proofs.lemmas.Option.{slice_get_within, get_or_from_slice_get, slice_get_cases}
 use Rattle.type_laws.specs.declared.definition.TypeDef.{TypeDef}
 use Rattle.type_laws.specs.Definition.{constructor, number, arguments}
-use Rattle.type_laws.specs.Same.{pairs, agree, agree_at, alike, same, IsGraph}
+use Rattle.type_laws.specs.Same.{pairs, agree_at, alike, same, IsGraph}
 use Rattle.type_laws.specs.Steady.{Family, Steady, steady_at}
 
 pub pairs_back : (r s : ℕ → ℕ → Bool) → ((x y : ℕ) → r x y ≡ true → s y x ≡ true) → (xs ys : List ℕ) → pairs r xs ys ≡ true → pairs s ys xs ≡ true
@@ -91,8 +91,15 @@ alike_over g (suc k) a b c h j =
     let m = meets g (alike g k) a b h in
     let n = meets g (alike g k) b c j in
     let e = some_one (slice_get g b) m.other n.one m.at_other n.at_one in
-    from_meets g (alike g k) a c (record { one = m.one; other = n.other; at_one = m.at_one; at_other = n.at_other; kind = m.kind ∙ ap constructor e ∙ n.kind; sized = m.sized ∙ ap number e ∙ n.sized;
-        args = pairs_over (alike g k) (alike g k) (alike g k) (λ x y z p q. alike_over g k x y z p q) (arguments m.one) (arguments n.one) (arguments n.other) (subst (λ (d : TypeDef). pairs (alike g k) (arguments m.one) (arguments d) ≡ true) e m.args) n.args })
+    from_meets g (alike g k) a c (record {
+      one = m.one;
+      other = n.other;
+      at_one = m.at_one;
+      at_other = n.at_other;
+      kind = m.kind ∙ ap constructor e ∙ n.kind;
+      sized = m.sized ∙ ap number e ∙ n.sized;
+      args = pairs_over (alike g k) (alike g k) (alike g k) (λ x y z p q. alike_over g k x y z p q) (arguments m.one) (arguments n.one) (arguments n.other) (subst (λ (d : TypeDef). pairs (alike g k) (arguments m.one) (arguments d) ≡ true) e m.args) n.args;
+    })
 
 pub alike_less : (g : List TypeDef) (k a b : ℕ) → alike g (suc k) a b ≡ true → alike g k a b ≡ true
 unfolding alike

@@ -1,13 +1,11 @@
 -- What a partition of the types can be: one that keeps the same types together, one whose members agree with their least.
-use Rattle.std.proofs.Common.{◌≡◌, ℕ, zero, suc, ◌+◌, ◌<◌, ◌≤◌, ◌==◌, Bool, true, false, ◌&&◌, List, [], ◌∷◌, length, Option, Some, None, slice_get, refl, sym, ◌∙◌, ap, subst, arith, get_or, drop, inl, inr, ◌⊎◌}
-use Rattle.std.specs.Prelude.{slice_index, Vec}
-use Rattle.std.specs.Global.{Global}
-use Rattle.std.specs.List.{All, Contains}
-use Rattle.std.proofs.lemmas.Bool.{false≢true, and_from, and_parts, eq-eqb, eqb-true}
+use Rattle.std.proofs.Common.{◌≡◌, ℕ, zero, suc, ◌<◌, ◌≤◌, ◌==◌, Bool, true, List, [], ◌∷◌, length, Option, Some, None, slice_get, refl, sym, ◌∙◌, ap, subst}
+use Rattle.std.specs.Prelude.{slice_index}
+use Rattle.std.proofs.lemmas.Bool.{false≢true, and_parts, eqb-true}
 use Rattle.type_laws.specs.declared.definition.TypeDef.{TypeDef}
 use Rattle.type_laws.specs.Definition.{arguments}
-use Rattle.type_laws.specs.Same.{pairs, agree, agree_at, alike, same, IsGraph}
-use Rattle.type_laws.specs.Depth.{Meets, meets, from_meets, meets_more, alike_same, alike_back, alike_over, same_meets}
+use Rattle.type_laws.specs.Same.{pairs, agree_at, alike, same, IsGraph}
+use Rattle.type_laws.specs.Depth.{meets, from_meets, meets_more, alike_back, alike_over, same_meets}
 
 abbrev pub arg_of : Option TypeDef → ℕ → Option ℕ
 arg_of None k = None
@@ -37,11 +35,11 @@ unfolding alike
 stable_alike g i p s zero x l = refl
 stable_alike g i p s (suc k) x l =
     from_meets g (alike g k) x (slice_index p x) (meets_more g i (alike_by p) (alike g k) (λ u v lu lv e.
-        let hu = stable_alike g i p s k u lu in
-        let hv = stable_alike g i p s k v lv in
-        let q : slice_index p u ≡ slice_index p v = eqb-true (slice_index p u) (slice_index p v) e in
-        alike_over g k u (slice_index p u) v hu (alike_back g k v (slice_index p u) (subst (λ w. alike g k v w ≡ true) (sym q) hv)))
-        x (slice_index p x) (meets g (alike_by p) x (slice_index p x) (s x l)))
+    let hu = stable_alike g i p s k u lu in
+    let hv = stable_alike g i p s k v lv in
+    let q : slice_index p u ≡ slice_index p v = eqb-true (slice_index p u) (slice_index p v) e in
+    alike_over g k u (slice_index p u) v hu (alike_back g k v (slice_index p u) (subst (λ w. alike g k v w ≡ true) (sym q) hv)))
+    x (slice_index p x) (meets g (alike_by p) x (slice_index p x) (s x l)))
 
 -- a stable partition that keeps the same types together, each part named by its least, is the classes
 pub least_from : (g : List TypeDef) → IsGraph g → (block p : List ℕ) → Keeps g block → IsStable g p

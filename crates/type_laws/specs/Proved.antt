@@ -1,8 +1,8 @@
 -- The laws, proved.
-use Rattle.std.proofs.Common.{◌≡◌, ℕ, zero, suc, ◌+◌, ◌<◌, ◌≤◌, Bool, true, false, cond, List, length, refl, sym, ◌∙◌, ap, subst, arith, inl, inr, ◌⊎◌, slice_get}
-use Rattle.std.proofs.lemmas.Bool.{false≢true, cases_lt}
+use Rattle.std.proofs.Common.{◌≡◌, ℕ, zero, suc, ◌<◌, ◌≤◌, Bool, true, false, List, length, refl, sym, ◌∙◌, subst, arith}
+use Rattle.std.proofs.lemmas.Bool.{false≢true}
 use Rattle.type_laws.specs.declared.definition.TypeDef.{TypeDef}
-use Rattle.type_laws.specs.Same.{same, alike, agree_at, IsGraph}
+use Rattle.type_laws.specs.Same.{same, alike, IsGraph}
 use Rattle.type_laws.specs.Class.{least, class_of}
 use Rattle.type_laws.specs.Depth.{alike_same, alike_back, alike_over, alike_less, same_meets, from_meets, same_to_each_depth}
 use Rattle.type_laws.specs.Classes.{least_is}
@@ -52,17 +52,19 @@ not_so false f = refl
 
 pub decided : (g : List TypeDef) → IsGraph g → ClassesDecide g
 decided g i = record {
-    no_later = λ a l. (class_found g i a l).low;
-    of_it = λ a l. (class_found g i a l).passes;
-    equal = λ a b la lb. (
-      (λ e. let p = (class_found g i a la).passes in let q = (class_found g i b lb).passes in
+  no_later = λ a l. (class_found g i a l).low;
+  of_it = λ a l. (class_found g i a l).passes;
+  equal = λ a b la lb. (
+    (λ e. let p = (class_found g i a la).passes in let q = (class_found g i b lb).passes in
         alike_over g (length g) a (class_of g a) b (alike_back g (length g) (class_of g a) a p) (subst (λ w. same g w b ≡ true) (sym e) q)),
-      λ s. least_alike g i a b la lb s) }
+    λ s. least_alike g i a b la lb s,
+  );
+}
   where
     least_alike : (g : List TypeDef) → IsGraph g → (a b : ℕ) → a < length g → b < length g → same g a b ≡ true → class_of g a ≡ class_of g b
     least_alike g i a b la lb s =
         let f = class_found g i b lb in
         let low = f.low in
         least_is (λ c. same g c a) (length g) (class_of g b) (omega arith)
-          (alike_over g (length g) (class_of g b) b a f.passes (alike_back g (length g) a b s))
-          (λ c l. not_so (same g c a) (λ t. false≢true (sym (f.none c l) ∙ alike_over g (length g) c a b t s)))
+        (alike_over g (length g) (class_of g b) b a f.passes (alike_back g (length g) a b s))
+        (λ c l. not_so (same g c a) (λ t. false≢true (sym (f.none c l) ∙ alike_over g (length g) c a b t s)))

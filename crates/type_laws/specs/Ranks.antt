@@ -1,5 +1,5 @@
 -- Where each part has a lower rank than its whole, no type contains itself, and the leaves are those of the parts.
-use Rattle.std.proofs.Common.{◌≡◌, ℕ, zero, suc, ◌+◌, ◌<◌, ◌≤◌, Bool, true, false, ◌||◌, ◌==◌, List, [], ◌∷◌, ◌++◌, length, Option, Some, None, slice_get, refl, sym, ◌∙◌, ap, subst, arith, inl, inr, ◌⊎◌, min}
+use Rattle.std.proofs.Common.{◌≡◌, ℕ, zero, suc, ◌<◌, ◌≤◌, Bool, true, false, ◌||◌, ◌==◌, List, [], ◌∷◌, ◌++◌, length, Option, Some, None, slice_get, refl, sym, ◌∙◌, ap, subst, arith, inl, inr, ◌⊎◌}
 use Rattle.std.specs.Prelude.{slice_index}
 use Rattle.std.specs.List.{All, list_any, flat_map}
 use Rattle.std.proofs.lemmas.Bool.{false≢true, eqb-true, cases_lt}
@@ -46,8 +46,9 @@ unfolding leads
 leads_down g rank h zero b a e = absurd (false≢true e)
 leads_down g rank h (suc steps) b a e = any_gives (λ p. (p == b) || leads g steps b p) (λ p. slice_index rank p ≤ slice_index rank a) (slice_index rank b ≤ slice_index rank a)
     (λ p l t. elim (or_cases (p == b) (leads g steps b p) t) [
-        inl q ↦ subst (λ w. slice_index rank w ≤ slice_index rank a) (eqb-true p b q) l
-      | inr q ↦ let m = leads_down g rank h steps b p q in omega arith ])
+      | inl q ↦ subst (λ w. slice_index rank w ≤ slice_index rank a) (eqb-true p b q) l
+      | inr q ↦ let m = leads_down g rank h steps b p q in omega arith
+    ])
     (parts_at (slice_get g a)) (descends_at g rank h a) e
 
 not_so : (b : Bool) → (b ≡ true → ⊥) → b ≡ false
@@ -63,8 +64,9 @@ free_is_finite g rank h t f = not_so (contains_itself g t) (λ e. go (length g) 
     go zero e = false≢true e
     go (suc n) e = any_gives (λ p. (p == t) || leads g n t p) (λ p. slice_index rank p < slice_index rank t) ⊥
         (λ p l q. elim (or_cases (p == t) (leads g n t p) q) [
-            inl s ↦ let m : slice_index rank t < slice_index rank t = subst (λ w. slice_index rank w < slice_index rank t) (eqb-true p t s) l in absurd (omega arith)
-          | inr s ↦ let m = leads_down g rank h n t p s in absurd (omega arith) ])
+          | inl s ↦ let m : slice_index rank t < slice_index rank t = subst (λ w. slice_index rank w < slice_index rank t) (eqb-true p t s) l in absurd (omega arith)
+          | inr s ↦ let m = leads_down g rank h n t p s in absurd (omega arith)
+        ])
         (parts_at (slice_get g t)) f e
 
 -- ranks below the number of types, each part lower than its whole
@@ -117,7 +119,7 @@ leaves_steady g rank r zero j a (inl l) (inl m) = absurd (omega arith)
 leaves_steady g rank r (suc k) zero a (inl l) (inl m) = absurd (omega arith)
 leaves_steady g rank r (suc k) (suc j) a (inl l) (inl m) = at_same (leaves_to g k) (leaves_to g j) a (slice_get g a)
     (All-weaker (λ p. slice_index rank p < slice_index rank a) (λ p. leaves_to g k p ≡ leaves_to g j p)
-      (λ p q. leaves_steady g rank r k j p (inl (omega arith)) (inl (omega arith))) (parts_at (slice_get g a)) (free_at g rank r a))
+    (λ p q. leaves_steady g rank r k j p (inl (omega arith)) (inl (omega arith))) (parts_at (slice_get g a)) (free_at g rank r a))
 
 -- the leaves of a type are by its definition those of its parts
 pub leaves_level : (g : List TypeDef) (rank : List ℕ) → AreRanked g rank → (a : ℕ) → a < length g → leaves g a ≡ leaves_at (leaves g) a (slice_get g a)

@@ -1,5 +1,5 @@
 -- The leaves of two that are the same type are the same types, one by one.
-use Rattle.std.proofs.Common.{◌≡◌, ℕ, zero, suc, ◌+◌, ◌<◌, ◌≤◌, Bool, true, false, ◌&&◌, List, [], ◌∷◌, ◌++◌, length, Option, Some, None, slice_get, refl, sym, ◌∙◌, ap, subst, arith, map}
+use Rattle.std.proofs.Common.{◌≡◌, ℕ, zero, suc, ◌<◌, Bool, true, false, List, [], ◌∷◌, ◌++◌, length, refl, sym, ◌∙◌, ap, arith, map}
 use Rattle.std.specs.List.{All, flat_map}
 use Rattle.std.proofs.lemmas.Bool.{false≢true, and_parts}
 use Rattle.std.proofs.lemmas.List.{map-append}
@@ -7,10 +7,10 @@ use Rattle.std.proofs.lemmas.List.Elements.{All-head, All-tail, All-cons}
 use Rattle.type_laws.specs.declared.definition.TypeDef.{TypeDef}
 use Rattle.type_laws.specs.declared.definition.TypeDef.TheVariants.{Int, Struct, Array, Hybrid, Void, Ref, Iref, FuncRef, StackRef, ThreadRef, Sig}
 use Rattle.type_laws.specs.Definition.{constructor, number, arguments}
-use Rattle.type_laws.specs.Same.{pairs, same, alike, IsGraph}
+use Rattle.type_laws.specs.Same.{pairs, same, IsGraph}
 use Rattle.type_laws.specs.Class.{class_of}
-use Rattle.type_laws.specs.Leaves.{times, leaves_by, leaves_at, leaves_to, leaves}
-use Rattle.type_laws.specs.Depth.{Meets, same_meets, args_within}
+use Rattle.type_laws.specs.Leaves.{times, leaves_by, leaves_to, leaves}
+use Rattle.type_laws.specs.Depth.{same_meets, args_within}
 use Rattle.type_laws.specs.Proved.{decided}
 
 pub map_times : (C : ℕ → ℕ) (n : ℕ) (xs : List ℕ) → map C (times n xs) ≡ times n (map C xs)
@@ -28,7 +28,7 @@ each_alike r C L P f [] (y ∷ ys) a b h = absurd (false≢true h)
 each_alike r C L P f (x ∷ xs) (y ∷ ys) a b h =
     let p = and_parts (r x y) (pairs r xs ys) h in
     map-append C (L x) (flat_map L xs) ∙ (ap (λ zs. zs ++ map C (flat_map L xs)) (f x y (All-head P x xs a) (All-head P y ys b) p.0)
-      ∙ (ap (λ zs. map C (L y) ++ zs) (each_alike r C L P f xs ys (All-tail P x xs a) (All-tail P y ys b) p.1) ∙ sym (map-append C (L y) (flat_map L ys))))
+    ∙ (ap (λ zs. map C (L y) ++ zs) (each_alike r C L P f xs ys (All-tail P x xs a) (All-tail P y ys b) p.1) ∙ sym (map-append C (L y) (flat_map L ys))))
 
 front_pairs : (r : ℕ → ℕ → Bool) (x y : ℕ) (xs ys : List ℕ) → pairs r (xs ++ x ∷ []) (ys ++ y ∷ []) ≡ true → pairs r xs ys ≡ true
 front_pairs r x y [] [] h = refl
@@ -68,7 +68,7 @@ respect_to g i zero a b la lb h = refl
 respect_to g i (suc k) a b la lb h =
     let m = same_meets g i a b la lb h in
     rw (m.at_one, m.at_other) (by_alike (same g) (class_of g) (leaves_to g k) (λ x. x < length g) (λ x y lx ly e. respect_to g i k x y lx ly e) a b (((decided g i).equal a b la lb).1 h) m.one m.other m.kind m.sized
-      (args_within g i a m.one m.at_one) (args_within g i b m.other m.at_other) m.args)
+    (args_within g i a m.one m.at_one) (args_within g i b m.other m.at_other) m.args)
 
 pub respected : (g : List TypeDef) → IsGraph g → (a b : ℕ) → a < length g → b < length g → same g a b ≡ true → map (class_of g) (leaves g a) ≡ map (class_of g) (leaves g b)
 respected g i a b la lb h = respect_to g i (length g) a b la lb h

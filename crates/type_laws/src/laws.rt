@@ -9,37 +9,32 @@ use super::definition::TypeDef;
 pub fn same_type_is_an_equivalence(graph: &[TypeDef])
     requires { IsGraph graph.now }
     ensures { IsEquivalence graph.now }
-{
-}
+{}
 
 /// Two types are the same exactly where their definitions agree and their arguments are the same in pairs.
 #[tactic(auto, using(crate::specs::Proved::congruence))]
 pub fn same_type_is_a_congruence(graph: &[TypeDef])
     requires { IsGraph graph.now }
     ensures { IsCongruence graph.now }
-{
-}
+{}
 
 /// Types that are the same unfold alike to every depth, also past the number of types and signatures.
 #[tactic(auto, using(crate::specs::Proved::steadiness))]
 pub fn same_type_is_steady(graph: &[TypeDef])
     requires { IsGraph graph.now }
     ensures { IsSteady graph.now }
-{
-}
+{}
 
 /// A class is the same type as its types and no later than they; two classes are equal exactly for the same type.
 #[tactic(auto, using(crate::specs::Proved::decided))]
 pub fn classes_decide(graph: &[TypeDef])
     requires { IsGraph graph.now }
     ensures { ClassesDecide graph.now }
-{
-}
+{}
 
 /// The leaves of types that are the same are the same types, one by one.
 #[tactic(auto, using(crate::specs::Respect::respected))]
 pub fn leaves_respect_the_same_type(graph: &[TypeDef])
     requires { IsGraph graph.now }
     ensures { LeavesRespect graph.now }
-{
-}
+{}

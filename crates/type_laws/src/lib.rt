@@ -5,5 +5,7 @@ mod definition;
 mod laws;
 
 pub use definition::TypeDef;
-
-pub use laws::{classes_decide, leaves_respect_the_same_type, same_type_is_a_congruence, same_type_is_an_equivalence, same_type_is_steady};
+pub use laws::{
+    classes_decide, leaves_respect_the_same_type, same_type_is_a_congruence,
+    same_type_is_an_equivalence, same_type_is_steady,
+};

@@ -1,5 +1,5 @@
-use Rattle.std.proofs.Common.{◌≡◌, ◌<◌, ◌∙◌, sym, ap, arith, ℕ, cond, length}
-use Rattle.std.specs.Prelude.{slice_index, nat_lt}
+use Rattle.std.proofs.Common.{◌∙◌, sym, ap, arith, cond, length}
+use Rattle.std.specs.Prelude.{nat_lt}
 use Rattle.mu_types.specs.Keys.{keyed_keeps}
 use Rattle.mu_types.proofs.blocks.first_blocks.Goals as goal
 

@@ -1,4 +1,4 @@
-use Rattle.std.proofs.Common.{◌≡◌, ℕ, ◌<◌, vec_len, cond, length}
+use Rattle.std.proofs.Common.{◌≡◌, ℕ, ◌<◌, vec_len, cond}
 use Rattle.std.specs.Prelude.{slice_index, nat_lt}
 use Rattle.mu_types.proofs.blocks.first_blocks.Given as goal
 

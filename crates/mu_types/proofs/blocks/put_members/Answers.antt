@@ -1,4 +1,4 @@
-use Rattle.std.proofs.Common.{arith, ◌≡◌, ◌<◌, ◌+◌, ◌≤◌, ℕ, length, sym, ◌∙◌, subst, inl, inr, ◌⊎◌}
+use Rattle.std.proofs.Common.{arith, ◌≡◌, ◌<◌, length, sym, ◌∙◌, subst, inl, inr}
 use Rattle.std.specs.Prelude.{slice_index}
 use Rattle.std.proofs.lemmas.Bool.{cases_lt}
 use Rattle.mu_types.specs.Rows.{lists, Holds, length-lists, pushed_kept, pushed_there}
@@ -17,6 +17,7 @@ loop-x-preserved c =
     record {
       len = m.len ∙ v.len;
       listed = λ u lu. elim (cases_lt u x) [
-          inl q ↦ pushed_kept old new i x m.added l (slice_index c.args.block.now u) u (v.listed u q)
-        | inr q ↦ let s : u ≡ x = omega arith in subst (λ w. Holds new (slice_index c.args.block.now w) w) (sym s) (pushed_there old new i x m.added l) ];
+        | inl q ↦ pushed_kept old new i x m.added l (slice_index c.args.block.now u) u (v.listed u q)
+        | inr q ↦ let s : u ≡ x = omega arith in subst (λ w. Holds new (slice_index c.args.block.now w) w) (sym s) (pushed_there old new i x m.added l)
+      ];
     }

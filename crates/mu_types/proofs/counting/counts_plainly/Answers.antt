@@ -1,4 +1,4 @@
-use Rattle.std.proofs.Common.{◌≡◌, ◌<◌, ◌∙◌, sym, arith, ℕ, length, vec_len, add-one, subst, List}
+use Rattle.std.proofs.Common.{sym, arith, ℕ, add-one, subst, List}
 use Rattle.mu_types.specs.declared.counting.TheConstants.{CAP}
 use Rattle.mu_types.specs.Levels.{none_counted, Counts}
 use Rattle.mu_types.proofs.counting.counts_plainly.Goals as goal

@@ -1,4 +1,4 @@
-use Rattle.std.proofs.Common.{◌≡◌, ℕ, ◌<◌, length, vec_len}
+use Rattle.std.proofs.Common.{◌≡◌, ℕ, length, vec_len}
 use Rattle.std.specs.Prelude.{slice_index}
 use Rattle.mu_types.specs.declared.counting.TheConstants.{CAP}
 use Rattle.mu_types.specs.Levels.{Counts}

@@ -1,5 +1,5 @@
-use Rattle.std.proofs.Common.{◌≡◌, ◌∙◌, sym, ap, subst, ℕ, List, Some, None}
-use Rattle.mu_types.specs.Tests.{each, wrong_arguments, endless_type, too_many_leaves, first_unmet}
+use Rattle.std.proofs.Common.{◌∙◌, sym}
+use Rattle.mu_types.specs.Tests.{each, wrong_arguments, endless_type, too_many_leaves}
 use Rattle.mu_types.specs.Firsts.{first_of_three, second_of_three, third_of_three}
 use Rattle.mu_types.proofs.deciding.judge.Goals as goal
 
@@ -17,10 +17,10 @@ pub returns-in-Some-first_too_many-clause-refused : goal.returns-in-Some-first_t
 returns-in-Some-first_too_many-clause-refused c = λ k.
     let g = c.args.all.now in let ps = c.args.places.now in let n = c.args.many in
     third_of_three (each (wrong_arguments g ps) n 0) (each (endless_type g ps) n 0) (each (too_many_leaves g ps) n 0) (sym c.first_wrong_argument.ensures ∙ c.in_default.is) (sym c.in_ok-fault.ensures ∙ c.in_default-2.is)
-      ∙ (sym c.first_too_many.ensures ∙ c.in-Some-first_too_many.is)
+    ∙ (sym c.first_too_many.ensures ∙ c.in-Some-first_too_many.is)
 
 pub returns-clause-accepted : goal.returns-clause-accepted
 returns-clause-accepted c =
     let g = c.args.all.now in let ps = c.args.places.now in let n = c.args.many in
     third_of_three (each (wrong_arguments g ps) n 0) (each (endless_type g ps) n 0) (each (too_many_leaves g ps) n 0) (sym c.first_wrong_argument.ensures ∙ c.in_default.is) (sym c.in_ok-fault.ensures ∙ c.in_default-2.is)
-      ∙ (sym c.first_too_many.ensures ∙ c.in_default-first_too_many.is)
+    ∙ (sym c.first_too_many.ensures ∙ c.in_default-first_too_many.is)

@@ -1,4 +1,4 @@
-use Rattle.std.proofs.Common.{◌≡◌, ◌<◌, ◌∙◌, sym, arith, ℕ, length, vec_len, add-one, subst, List, Bool}
+use Rattle.std.proofs.Common.{sym, arith, add-one, subst, List, Bool}
 use Rattle.mu_types.specs.Walks.{none_marked, Marks}
 use Rattle.mu_types.proofs.endless.contains_itself_plainly.Goals as goal
 

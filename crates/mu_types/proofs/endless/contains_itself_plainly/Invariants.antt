@@ -1,4 +1,4 @@
-use Rattle.std.proofs.Common.{◌≡◌, ℕ, ◌<◌, length, vec_len, false}
+use Rattle.std.proofs.Common.{◌≡◌, ℕ, length, vec_len, false}
 use Rattle.mu_types.specs.Walks.{Marks, is_marked}
 use Rattle.mu_types.proofs.endless.contains_itself_plainly.Given as goal
 

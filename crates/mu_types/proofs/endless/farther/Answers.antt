@@ -1,4 +1,4 @@
-use Rattle.std.proofs.Common.{◌≡◌, ◌<◌, ◌∙◌, sym, arith, ℕ, length, vec_len, Some}
+use Rattle.std.proofs.Common.{arith}
 use Rattle.mu_types.specs.Walks.{farther_is}
 use Rattle.mu_types.proofs.endless.farther.Goals as goal
 

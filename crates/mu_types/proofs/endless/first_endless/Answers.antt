@@ -1,4 +1,4 @@
-use Rattle.std.proofs.Common.{◌≡◌, ◌<◌, ◌∙◌, sym, ap, subst, arith, Some, None, ℕ}
+use Rattle.std.proofs.Common.{◌∙◌, sym, arith}
 use Rattle.mu_types.specs.Tests.{endless_type}
 use Rattle.mu_types.specs.Firsts.{each_some, each_none}
 use Rattle.mu_types.specs.Verdicts.{endless_some}

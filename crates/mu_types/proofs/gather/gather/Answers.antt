@@ -1,4 +1,4 @@
-use Rattle.std.proofs.Common.{arith, ◌≡◌, ◌<◌, ℕ, length, sym, ◌∙◌, subst, Some, inl, inr, ◌⊎◌, take, get_or, List, ◌≤◌}
+use Rattle.std.proofs.Common.{arith, ◌≡◌, ◌<◌, ℕ, length, sym, ◌∙◌, subst, Some, inl, inr, List, ◌≤◌}
 use Rattle.std.specs.List.{Contains}
 use Rattle.std.specs.Prelude.{slice_index}
 use Rattle.type_laws.specs.Partition.{arg}
@@ -16,8 +16,9 @@ loop-i-preserved c =
       len = m.len ∙ v.len;
       kept = λ k x h. m.kept k x (v.kept k x h);
       complete = λ k x y l h b p a. elim (contains_more c.args.row.now i 0 y c.loop-i-test.true h) [
-          inl q ↦ m.kept k x (v.complete k x y l q b p a)
-        | inr e ↦ subst (λ z. k < length c.loop-i.buckets → slice_index c.args.block.now z ≡ c.args.s → Holds (lists c.args.preds.now) z (edge_of k x) → arg c.args.definitions.now x k ≡ Some z → Holds (lists c.gather_member.new.buckets) k x) e (m.complete k x) (subst (λ n. k < n) (sym v.len) l) b p a ];
+        | inl q ↦ m.kept k x (v.complete k x y l q b p a)
+        | inr e ↦ subst (λ z. k < length c.loop-i.buckets → slice_index c.args.block.now z ≡ c.args.s → Holds (lists c.args.preds.now) z (edge_of k x) → arg c.args.definitions.now x k ≡ Some z → Holds (lists c.gather_member.new.buckets) k x) e (m.complete k x) (subst (λ n. k < n) (sym v.len) l) b p a
+      ];
       sound = λ k x h. elim (m.sound k x h) [ inl p ↦ v.sound k x p | inr a ↦ inr a ];
     }
 

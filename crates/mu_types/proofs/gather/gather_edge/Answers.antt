@@ -1,4 +1,4 @@
-use Rattle.std.proofs.Common.{arith, ◌≡◌, ◌<◌, ℕ, length, sym, subst, Some, refl}
+use Rattle.std.proofs.Common.{arith, ◌≡◌, ◌<◌, length, sym, subst, Some, refl}
 use Rattle.type_laws.specs.Partition.{arg}
 use Rattle.mu_types.specs.Rows.{lists, length-lists, pushed_kept, pushed_there, pushed_only}
 use Rattle.mu_types.proofs.gather.gather_edge.Goals as goal

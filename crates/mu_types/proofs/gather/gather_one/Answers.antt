@@ -1,4 +1,4 @@
-use Rattle.std.proofs.Common.{arith, ◌≡◌, ◌<◌, ℕ, length, sym, ◌∙◌, subst, Some, inl, inr, ◌⊎◌, take, get_or, List, ◌≤◌}
+use Rattle.std.proofs.Common.{arith, ◌≡◌, ◌<◌, length, sym, ◌∙◌, subst, Some, inl, inr, List, ◌≤◌}
 use Rattle.std.specs.List.{Contains}
 use Rattle.type_laws.specs.Partition.{arg}
 use Rattle.mu_types.specs.Rows.{lists, Holds}
@@ -16,8 +16,9 @@ loop-i-preserved c =
       len = m.len ∙ v.len;
       kept = λ k x h. m.kept k x (v.kept k x h);
       complete = λ k x l h a. elim (contains_more c.args.edges.now i (edge_of 0 0) (edge_of k x) c.loop-i-test.true h) [
-          inl p ↦ m.kept k x (v.complete k x l p a)
-        | inr e ↦ subst (λ (z : Edge). z.place < length c.loop-i.buckets → arg c.args.definitions.now z.from z.place ≡ Some c.args.y → Holds (lists c.gather_edge.new.buckets) z.place z.from) e m.there (subst (λ n. k < n) (sym v.len) l) a ];
+        | inl p ↦ m.kept k x (v.complete k x l p a)
+        | inr e ↦ subst (λ (z : Edge). z.place < length c.loop-i.buckets → arg c.args.definitions.now z.from z.place ≡ Some c.args.y → Holds (lists c.gather_edge.new.buckets) z.place z.from) e m.there (subst (λ n. k < n) (sym v.len) l) a
+      ];
       sound = λ k x h. elim (m.sound k x h) [ inl p ↦ v.sound k x p | inr a ↦ inr a ];
     }
 

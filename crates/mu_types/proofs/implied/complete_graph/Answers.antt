@@ -1,4 +1,4 @@
-use Rattle.std.proofs.Common.{◌≡◌, ◌<◌, ◌≤◌, ◌+◌, ◌∙◌, ap, sym, subst, arith, List, ℕ, length, refl, ◌++◌, ◌∷◌, [], vec_len}
+use Rattle.std.proofs.Common.{◌≡◌, ◌<◌, ◌+◌, ◌∙◌, ap, arith, length, ◌++◌, ◌∷◌, []}
 use Rattle.mu_types.specs.References.{complete_step, referred_step}
 use Rattle.mu_types.proofs.implied.complete_graph.Goals as goal
 

@@ -1,4 +1,4 @@
-use Rattle.std.proofs.Common.{◌≡◌, ◌∙◌, ap, ◌++◌, List, ℕ}
+use Rattle.std.proofs.Common.{◌∙◌, ap, ◌++◌, List, ℕ}
 use Rattle.std.proofs.lemmas.List.{append_assoc}
 use Rattle.type_laws.specs.Leaves.{times}
 use Rattle.mu_types.specs.Rows.{lists}

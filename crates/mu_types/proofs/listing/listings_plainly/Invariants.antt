@@ -1,5 +1,5 @@
-use Rattle.std.proofs.Common.{◌≡◌, ℕ, ◌<◌, length, vec_len, []}
-use Rattle.std.specs.Prelude.{slice_index, slice_index_or}
+use Rattle.std.proofs.Common.{◌≡◌, ℕ, length, vec_len, []}
+use Rattle.std.specs.Prelude.{slice_index_or}
 use Rattle.mu_types.specs.Rows.{lists}
 use Rattle.mu_types.specs.Listings.{Lists, IsIdentity}
 use Rattle.mu_types.proofs.listing.listings_plainly.Given as goal

@@ -1,4 +1,4 @@
-use Rattle.std.proofs.Common.{arith, ◌≡◌, ◌<◌, ℕ, length, sym, ◌∙◌, subst, ap, get_or, List, refl, ◌+◌}
+use Rattle.std.proofs.Common.{arith, ◌≡◌, ◌<◌, ℕ, length, sym, ◌∙◌, subst, ap, List, refl, ◌+◌}
 use Rattle.std.specs.Prelude.{slice_index, slice_set}
 use Rattle.mu_types.specs.Rows.{lists, length-lists}
 use Rattle.mu_types.specs.Blocks.{Listed, HaveMoved, OthersStay, moved_more, others_more, listed_more, goal_at}

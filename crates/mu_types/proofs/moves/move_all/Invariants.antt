@@ -1,5 +1,4 @@
-use Rattle.std.proofs.Common.{◌≡◌, ℕ, ◌<◌, length}
-use Rattle.std.specs.Prelude.{slice_index}
+use Rattle.std.proofs.Common.{◌≡◌, length}
 use Rattle.mu_types.specs.Blocks.{Listed, HaveMoved, OthersStay}
 use Rattle.mu_types.specs.Rows.{lists}
 use Rattle.mu_types.proofs.moves.move_all.Given as goal

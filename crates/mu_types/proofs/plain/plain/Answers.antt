@@ -1,4 +1,4 @@
-use Rattle.std.proofs.Common.{arith, sym, subst, add-one, List, ℕ, length}
+use Rattle.std.proofs.Common.{arith, sym, subst, add-one, List, ℕ}
 use Rattle.mu_types.specs.Rounds.{IsLeastTo, least_to_none}
 use Rattle.mu_types.proofs.plain.plain.Goals as goal
 
@@ -8,5 +8,7 @@ loop-round_number-init c = record { len = omega (arith, c.loop-x.invariant.len, 
 pub loop-round_number-preserved : goal.loop-round_number-preserved
 loop-round_number-preserved c =
     let n = c.loop-round_number.round_number in
-    record { len = c.in_ok-p.ensures.len;
-      least = rw (add-one n) (c.in_ok-p.ensures.steps n (subst (λ (p : List ℕ). IsLeastTo c.args.definitions.now n p) (sym c.deref.ensures.value) c.loop-round_number.invariant.least)) }
+    record {
+      len = c.in_ok-p.ensures.len;
+      least = rw (add-one n) (c.in_ok-p.ensures.steps n (subst (λ (p : List ℕ). IsLeastTo c.args.definitions.now n p) (sym c.deref.ensures.value) c.loop-round_number.invariant.least));
+    }

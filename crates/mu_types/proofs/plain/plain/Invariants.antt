@@ -1,4 +1,4 @@
-use Rattle.std.proofs.Common.{◌≡◌, ℕ, ◌<◌, length, vec_len}
+use Rattle.std.proofs.Common.{◌≡◌, ℕ, length, vec_len}
 use Rattle.std.specs.Prelude.{slice_index}
 use Rattle.mu_types.specs.Rounds.{IsLeastTo}
 use Rattle.mu_types.proofs.plain.plain.Given as goal

@@ -1,4 +1,4 @@
-use Rattle.std.proofs.Common.{arith, ◌<◌, length}
+use Rattle.std.proofs.Common.{arith}
 use Rattle.mu_types.specs.Rounds.{round_is}
 use Rattle.mu_types.proofs.plain.round.Goals as goal
 

@@ -1,5 +1,4 @@
-use Rattle.std.proofs.Common.{arith, ◌≡◌, ◌<◌, ℕ, length, sym, ◌∙◌, ap, subst, Some, inl, inr, ◌⊎◌, get_or, List, ◌≤◌}
-use Rattle.type_laws.specs.Partition.{arg}
+use Rattle.std.proofs.Common.{arith, ◌<◌, length, sym, ◌∙◌, ap, subst, inl, inr, get_or}
 use Rattle.type_laws.specs.Definition.{arguments}
 use Rattle.mu_types.specs.Rows.{lists, Holds, length-lists, pushed_kept, pushed_there}
 use Rattle.mu_types.specs.Edges.{edge_of}
@@ -23,10 +22,11 @@ loop-k-preserved c =
       len = c.in_ok-push_to.ensures.len ∙ v.len;
       kept = λ y d h. pushed_kept (lists c.loop-k.preds) (lists c.push_to.new.rows) to (edge_of k x) e l y d (v.kept y d h);
       there = λ j y lj a. elim (cases_eq j k) [
-          inl q ↦
-              let r = arg_in definitions x j y d xs c.requires.x (ap arguments c.index-definitions-x.is) a in
-              subst (λ w. Holds (lists c.push_to.new.rows) w (edge_of j x)) r.1 (subst (λ i. Holds (lists c.push_to.new.rows) (get_or xs i 0) (edge_of i x)) (sym q) (subst (λ w. Holds (lists c.push_to.new.rows) w (edge_of k x)) c.argument.ensures (pushed_there (lists c.loop-k.preds) (lists c.push_to.new.rows) to (edge_of k x) e l)))
-        | inr n ↦ pushed_kept (lists c.loop-k.preds) (lists c.push_to.new.rows) to (edge_of k x) e l y (edge_of j x) (v.there j y (omega arith) a) ];
+        | inl q ↦
+            let r = arg_in definitions x j y d xs c.requires.x (ap arguments c.index-definitions-x.is) a in
+            subst (λ w. Holds (lists c.push_to.new.rows) w (edge_of j x)) r.1 (subst (λ i. Holds (lists c.push_to.new.rows) (get_or xs i 0) (edge_of i x)) (sym q) (subst (λ w. Holds (lists c.push_to.new.rows) w (edge_of k x)) c.argument.ensures (pushed_there (lists c.loop-k.preds) (lists c.push_to.new.rows) to (edge_of k x) e l)))
+        | inr n ↦ pushed_kept (lists c.loop-k.preds) (lists c.push_to.new.rows) to (edge_of k x) e l y (edge_of j x) (v.there j y (omega arith) a)
+      ];
     }
 
 pub returns-clause-there : goal.returns-clause-there

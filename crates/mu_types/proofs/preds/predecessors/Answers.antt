@@ -1,5 +1,5 @@
-use Rattle.std.proofs.Common.{arith, ◌≡◌, ◌<◌, ◌+◌, ℕ, length, sym, ◌∙◌, ap, subst, Some, inl, inr, ◌⊎◌, List, ◌≤◌, vec_len}
-use Rattle.type_laws.specs.Partition.{arg, arg_of}
+use Rattle.std.proofs.Common.{arith, ◌≡◌, ◌<◌, length, sym, ◌∙◌, subst, Some, inl, inr, List}
+use Rattle.type_laws.specs.Partition.{arg}
 use Rattle.mu_types.specs.Rows.{lists, Holds}
 use Rattle.mu_types.specs.Edges.{edge_of}
 use Rattle.std.proofs.lemmas.Bool.{cases_eq}
@@ -16,8 +16,9 @@ loop-x-preserved c =
     record {
       len = v.len;
       there = λ x k y l a. subst (λ (ps : List (Vec Edge Global)). Holds (lists ps) y (edge_of k x)) (sym back) (elim (cases_eq x c.loop-x.x) [
-          inl q ↦ subst (λ w. Holds (lists c.add_edges.new.preds) y (edge_of k w)) (sym q) (m.there k y (subst (λ w. arg c.args.definitions.now w k ≡ Some y) q a))
-        | inr n ↦ m.kept y (edge_of k x) (subst (λ (ps : List (Vec Edge Global)). Holds (lists ps) y (edge_of k x)) (sym c.deref_mut.ensures.value) (v.there x k y (omega arith) a)) ]);
+        | inl q ↦ subst (λ w. Holds (lists c.add_edges.new.preds) y (edge_of k w)) (sym q) (m.there k y (subst (λ w. arg c.args.definitions.now w k ≡ Some y) q a))
+        | inr n ↦ m.kept y (edge_of k x) (subst (λ (ps : List (Vec Edge Global)). Holds (lists ps) y (edge_of k x)) (sym c.deref_mut.ensures.value) (v.there x k y (omega arith) a))
+      ]);
     }
 
 pub returns : goal.returns

@@ -1,4 +1,4 @@
-use Rattle.std.proofs.Common.{◌≡◌, sym, subst, List, ℕ, Vec, Global}
+use Rattle.std.proofs.Common.{sym, subst, List, ℕ, Vec, Global}
 use Rattle.mu_types.specs.Rows.{lists}
 use Rattle.mu_types.specs.Blocks.{Listed}
 use Rattle.mu_types.proofs.refine.part_blocks.Goals as goal

@@ -1,6 +1,6 @@
-use Rattle.std.proofs.Common.{arith, ◌≡◌, ◌<◌, ℕ, length, sym, ◌∙◌, subst, List}
+use Rattle.std.proofs.Common.{arith, ◌<◌, ℕ, length, sym, ◌∙◌, subst, List}
 use Rattle.mu_types.specs.Rows.{lists, length-lists, Holds, emptied_held}
-use Rattle.mu_types.specs.Leads.{IsClosed, AreClosed, row_closed, row_within, emptied_closed}
+use Rattle.mu_types.specs.Leads.{AreClosed, row_closed, row_within, emptied_closed}
 use Rattle.mu_types.proofs.refine.part_row.Goals as goal
 
 pub returns-clause-closed : goal.returns-clause-closed

@@ -1,4 +1,4 @@
-use Rattle.std.proofs.Common.{◌≡◌, ◌∙◌, sym, subst, List, ℕ}
+use Rattle.std.proofs.Common.{◌∙◌, sym, subst, List, ℕ}
 use Rattle.mu_types.specs.Rows.{lists}
 use Rattle.mu_types.specs.Blocks.{Listed}
 use Rattle.mu_types.proofs.refine.refine.Goals as goal

@@ -14,4 +14,3 @@ invariant-loop l = record {
   listed : Listed l.block (lists l.members);
   target : TargetsFit l.target (length l.members);
 }
-
