@@ -7,6 +7,7 @@ pub mod Levels
 pub mod Listings
 pub mod Held
 pub mod Keys
+pub mod Ordered
 pub mod Tests
 pub mod Firsts
 pub mod Verdicts

@@ -5,7 +5,12 @@ use Rattle.std.proofs.lemmas.Int.{clamps}
 use Rattle.std.proofs.lemmas.Bool.{lt-leb, le-leb}
 use Rattle.mu_base.specs.Lists.{Roomy}
 use Rattle.type_laws.specs.declared.definition.TypeDef.{TypeDef}
-use Rattle.type_laws.specs.Parts.{contains_itself}
+use Rattle.std.specs.List.{All}
+use Rattle.std.proofs.Common.{get_or, subst, sym}
+use Rattle.std.specs.Prelude.{slice_index}
+use Rattle.type_laws.specs.Parts.{parts, parts_at, contains_itself}
+use Rattle.type_laws.specs.Ranks.{Descends, free_is_finite}
+use Rattle.mu_types.specs.Firsts.{there}
 use Rattle.type_laws.specs.Leaves.{leaves}
 use Rattle.mu_types.specs.declared.limits.TheConstants.{MOST_LEAVES}
 use Rattle.mu_types.specs.declared.counting.TheConstants.{CAP}
@@ -29,3 +34,6 @@ over_cap n count e l = lt-leb n MOST_LEAVES (omega (arith, clamps, e, l))
 
 pub under_cap : (n count : ℕ) → count ≡ min CAP n → count ≤ MOST_LEAVES → nat_le n MOST_LEAVES ≡ true
 under_cap n count e l = le-leb n MOST_LEAVES (omega (arith, clamps, e, l))
+
+pub free_finite : (g : List TypeDef) (rank : List ℕ) (t : ℕ) (d : TypeDef) (top : ℕ) → Descends g rank → t < length g → d ≡ get_or g t d → top ≡ slice_index rank t → All (λ p. slice_index rank p < top) (parts d) → contains_itself g t ≡ false
+free_finite g rank t d top h l e q f = free_is_finite g rank h t (subst (λ o. All (λ p. slice_index rank p < slice_index rank t) (parts_at o)) (sym (there g t d l e)) (subst (λ w. All (λ p. slice_index rank p < w) (parts d)) q f))

@@ -3,12 +3,18 @@ ghost use Rattle.std.specs.Prelude.{◌≡◌, ℕ, ◌+◌, ◌*◌, ◌<◌, �
 ghost use Rattle.std.specs.List.{sum_by};
 ghost use Rattle.type_laws.specs.Counts.{count_by};
 ghost use Rattle.mu_types.specs.Tests.{too_many_leaves, first_unmet, each};
+ghost use Rattle.type_laws.specs.Leaves.{leaves};
+ghost use Rattle.type_laws.specs.Same.{IsGraph};
+ghost use Rattle.type_laws.specs.Ranks.{AreRanked};
+ghost use Rattle.mu_types.specs.Ordered.{IsOrder, Found};
 ghost use Rattle.mu_types.specs.Levels.{Counts};
 
+use super::blocks::identity;
 use super::faults::{TypeFault, TypeKind};
 use super::judging::place_of;
 use super::limits::MOST_LEAVES;
-use super::rows::at;
+use super::ranking::{is_ordered, order_of};
+use super::rows::{at, put};
 use mu_base::Ids;
 use std::alloc::{AllocError, Global};
 use type_laws::TypeDef;
@@ -71,7 +77,7 @@ fn deeper(alloc: Global, all: &[TypeDef], counts: &[usize]) -> Result<Vec<usize>
 }
 
 /// The numbers of leaves, by depth, in the square of the number of types.
-pub fn counts_plainly(alloc: Global, all: &[TypeDef]) -> Result<Vec<usize>, AllocError>
+fn counts_plainly(alloc: Global, all: &[TypeDef]) -> Result<Vec<usize>, AllocError>
     ensures { IfOk result (λ v. Counts all.now (length all.now) CAP v.items) }
 {
     let mut counts = Vec::new(alloc);
@@ -81,6 +87,49 @@ pub fn counts_plainly(alloc: Global, all: &[TypeDef]) -> Result<Vec<usize>, Allo
     for depth in 0..all.len() {
         counts = deeper(alloc, all, &counts)?;
     }
+    Ok(counts)
+}
+
+fn count_at(all: &[TypeDef], rank: &[usize], order: &[usize], i: usize, counts: &mut [usize])
+    requires graph { IsGraph all.now }
+    requires ranked { AreRanked all.now rank.now }
+    requires order { IsOrder (length all.now) rank.now order.now }
+    requires len { length counts.old ≡ length all.now }
+    requires found { Found 0 (length all.now) rank.now (λ x. min CAP (length (leaves all.now x))) counts.old i }
+    ensures len { length counts.new ≡ length all.now }
+    ensures found { Found 0 (length all.now) rank.now (λ x. min CAP (length (leaves all.now x))) counts.new (i + 1) }
+{
+    let t = at(order, i);
+    if t < all.len() && at(rank, t) == i {
+        let many = count(&all[t], counts);
+        put(counts, t, many);
+    }
+}
+
+fn count_all(all: &[TypeDef], rank: &[usize], order: &[usize], counts: &mut [usize])
+    requires graph { IsGraph all.now }
+    requires ranked { AreRanked all.now rank.now }
+    requires order { IsOrder (length all.now) rank.now order.now }
+    requires len { length counts.old ≡ length all.now }
+    ensures len { length counts.new ≡ length all.now }
+    ensures counts { Counts all.now (length all.now) CAP counts.new }
+{
+    for i in 0..all.len() {
+        count_at(all, rank, order, i, counts);
+    }
+}
+
+/// The numbers of leaves. Where the ranks order all types each is counted once; else they are found by depth.
+pub fn counts_of(alloc: Global, all: &[TypeDef], rank: &[usize]) -> Result<Vec<usize>, AllocError>
+    requires { IsGraph all.now }
+    ensures { IfOk result (λ v. Counts all.now (length all.now) CAP v.items) }
+{
+    let order = order_of(alloc, rank)?;
+    if !is_ordered(all, rank, &order) {
+        return counts_plainly(alloc, all);
+    }
+    let mut counts = identity(alloc, all.len())?;
+    count_all(all, rank, &order, &mut counts);
     Ok(counts)
 }
 

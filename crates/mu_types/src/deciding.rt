@@ -6,14 +6,15 @@ ghost use Rattle.mu_types.specs.Implied.{complete};
 ghost use Rattle.mu_types.specs.References.{Referred, IsHeaded};
 ghost use Rattle.mu_types.specs.Tests.{first_fault, first_unmet, passes};
 
-use super::counting::{counts_plainly, first_too_many};
+use super::counting::{counts_of, first_too_many};
 use super::endless::first_endless;
 use super::faults::{TypeFault, TypeKind};
 use super::graph::TypeGraph;
 use super::implied::{Whole, complete_graph};
 use super::judging::first_wrong_argument;
-use super::listing::listings_plainly;
+use super::listing::listings_of;
 use super::naming::classes_by;
+use super::ranking::arrange;
 use super::refine::refine;
 use super::table::Classes;
 use mu_base::Ids;
@@ -21,17 +22,19 @@ use std::alloc::{AllocError, Global};
 use type_laws::TypeDef;
 
 fn judge(alloc: Global, all: &[TypeDef], places: &[Ids], many: usize) -> Result<(), TypeFault>
-    requires { many ≤ length all.now }
+    requires many { many ≤ length all.now }
+    requires graph { IsGraph all.now }
     ensures accepted { OnOk result (first_unmet (passes all.now places.now many) ≡ None) }
     ensures refused { IfErr result (λ fault. fault.kind ≢ TypeKind.Memory → first_unmet (passes all.now places.now many) ≡ Some fault) }
 {
     if let Some(fault) = first_wrong_argument(all, places, many) {
         return Err(fault);
     }
-    if let Some(fault) = first_endless(alloc, all, places, many)? {
+    let rank = arrange(alloc, all)?;
+    if let Some(fault) = first_endless(alloc, all, &rank, places, many)? {
         return Err(fault);
     }
-    let counts = counts_plainly(alloc, all)?;
+    let counts = counts_of(alloc, all, &rank)?;
     if let Some(fault) = first_too_many(all, places, many, &counts) {
         return Err(fault);
     }
@@ -57,7 +60,8 @@ fn hold(alloc: Global, whole: Whole, written: usize) -> Result<Classes, AllocErr
     ensures written { IfOk result (λ c. c.written ≡ written) }
 {
     let class = find_classes(alloc, &whole.all)?;
-    let rows = listings_plainly(alloc, &whole.all, &class)?;
+    let rank = arrange(alloc, &whole.all)?;
+    let rows = listings_of(alloc, &whole.all, &class, &rank)?;
     Ok(Classes::held(written, whole, class, rows))
 }
 

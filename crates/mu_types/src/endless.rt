@@ -8,6 +8,7 @@ ghost use Rattle.mu_types.specs.Walks.{Marks, is_marked};
 
 use super::faults::{TypeFault, TypeKind};
 use super::judging::place_of;
+use super::ranking::{descends, parts_stay_below};
 use super::rows::at;
 use mu_base::Ids;
 use std::alloc::{AllocError, Global};
@@ -89,25 +90,39 @@ fn contains_itself_plainly(alloc: Global, all: &[TypeDef], t: usize) -> Result<b
     Ok(marks[t])
 }
 
-fn is_endless(alloc: Global, all: &[TypeDef], t: usize) -> Result<bool, AllocError>
-    requires { t < length all.now }
+#[tactic(auto, using(crate::specs::Verdicts::free_finite))]
+fn is_endless(
+    alloc: Global,
+    all: &[TypeDef],
+    rank: &[usize],
+    descending: bool,
+    t: usize,
+) -> Result<bool, AllocError>
+    requires t { t < length all.now }
+    requires descends { IsTrue descending → Descends all.now rank.now }
     ensures { IfOk result (λ b. b ≡ contains_itself all.now t) }
 {
+    if descending && parts_stay_below(&all[t], rank, at(rank, t)) {
+        return Ok(false);
+    }
     contains_itself_plainly(alloc, all, t)
 }
 
-/// The first, of the first so many definitions, that contains itself.
+/// The first, of the first so many definitions, that contains itself. Where all parts of a type have lower ranks than it, and no
+/// part in the graph a higher one, it does not; the ranks may be any.
 pub fn first_endless(
     alloc: Global,
     all: &[TypeDef],
+    rank: &[usize],
     places: &[Ids],
     many: usize,
 ) -> Result<Option<TypeFault>, AllocError>
     requires { many ≤ length all.now }
     ensures { IfOk result (λ fault. fault ≡ first_unmet (each (endless_type all.now places.now) many 0)) }
 {
+    let descending = descends(all, rank);
     for t in 0..many {
-        if is_endless(alloc, all, t)? {
+        if is_endless(alloc, all, rank, descending, t)? {
             let place = place_of(places, t, 0);
             return Ok(Some(TypeFault {
                 kind: TypeKind::EndlessType,

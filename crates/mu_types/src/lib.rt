@@ -18,6 +18,7 @@ mod moves;
 mod naming;
 mod plain;
 mod preds;
+mod ranking;
 mod refine;
 mod rows;
 mod stable;

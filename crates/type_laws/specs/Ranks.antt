@@ -105,7 +105,7 @@ free_at g rank r a = elim (cases_lt a (length g)) [ inl l ↦ r.free a l | inr l
     none_below : (k : ℕ) → k < 0 → ⊥
     none_below k l = omega arith
 
-none_there : (g : List TypeDef) (k a : ℕ) → length g ≤ a → leaves_to g k a ≡ []
+pub none_there : (g : List TypeDef) (k a : ℕ) → length g ≤ a → leaves_to g k a ≡ []
 unfolding leaves_to
 none_there g zero a l = refl
 none_there g (suc k) a l = rw (past_none g a l) refl
