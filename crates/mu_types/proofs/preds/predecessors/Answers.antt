@@ -1,0 +1,25 @@
+use Rattle.std.proofs.Common.{arith, ◌≡◌, ◌<◌, length, sym, ◌∙◌, subst, Some, inl, inr, List}
+use Rattle.type_laws.specs.Partition.{arg}
+use Rattle.mu_types.specs.Rows.{lists, Holds}
+use Rattle.mu_types.specs.Edges.{edge_of}
+use Rattle.std.proofs.lemmas.Bool.{cases_eq}
+use Rattle.mu_types.specs.Leads.{arg_from, lent_back}
+use Rattle.std.proofs.Common.{take, drop, ◌++◌, Vec, Global}
+use Rattle.mu_types.specs.declared.edges.Edge.{Edge}
+use Rattle.mu_types.proofs.preds.predecessors.Goals as goal
+
+pub loop-x-preserved : goal.loop-x-preserved
+loop-x-preserved c =
+    let m = c.in_ok-add_edges.ensures in
+    let v = c.loop-x.invariant in
+    let back : take c.loop-x.preds.len (c.add_edges.new.preds ++ drop (length c.add_edges.new.preds) c.loop-x.preds.items) ≡ c.add_edges.new.preds = lent_back c.add_edges.new.preds c.loop-x.preds.items c.loop-x.preds.len (m.len ∙ c.deref_mut.ensures.len) in
+    record {
+      len = v.len;
+      there = λ x k y l a. subst (λ (ps : List (Vec Edge Global)). Holds (lists ps) y (edge_of k x)) (sym back) (elim (cases_eq x c.loop-x.x) [
+        | inl q ↦ subst (λ w. Holds (lists c.add_edges.new.preds) y (edge_of k w)) (sym q) (m.there k y (subst (λ w. arg c.args.definitions.now w k ≡ Some y) q a))
+        | inr n ↦ m.kept y (edge_of k x) (subst (λ (ps : List (Vec Edge Global)). Holds (lists ps) y (edge_of k x)) (sym c.deref_mut.ensures.value) (v.there x k y (omega arith) a))
+      ]);
+    }
+
+pub returns : goal.returns
+returns c = λ x k y a. let l : x < length c.args.definitions.now = arg_from c.args.definitions.now x k y a in c.loop-x.invariant.there x k y (omega arith) a

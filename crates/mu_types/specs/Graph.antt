@@ -1,0 +1,14 @@
+-- The graph of written types and signatures.
+use Rattle.std.specs.Prelude.{ℕ, List}
+use Rattle.mu_base.specs.Lists.{Roomy}
+use Rattle.type_laws.specs.declared.definition.TypeDef.{TypeDef}
+
+-- the definitions by id, and by id the places: that of the name, then that of each argument
+pub record Written : Type 0 where
+  pub definitions : List TypeDef
+  pub places : List (Roomy ℕ)
+
+-- the whole graph: the definitions by id, and how many of them, the first ones, are written
+pub record Table : Type 0 where
+  pub definitions : List TypeDef
+  pub written : ℕ

@@ -1,0 +1,34 @@
+-- What holds of the numbers of a list, and of one more at its end.
+use Rattle.std.proofs.Common.{◌≡◌, ℕ, zero, suc, ◌+◌, ◌<◌, List, [], ◌∷◌, ◌++◌, length, sym, ◌∙◌, ap, subst, arith, inl, inr, Some, Option, add-one}
+use Rattle.std.specs.Prelude.{slice_index_or, Vec}
+use Rattle.std.specs.Global.{Global}
+use Rattle.type_laws.specs.Leaves.{times}
+use Rattle.mu_types.specs.Rows.{lists, length-lists}
+use Rattle.std.specs.Prelude.{slice_index}
+use Rattle.std.proofs.lemmas.Bool.{cases_lt}
+use Rattle.std.proofs.lemmas.List.{get_or_append_left, get_or_push, map-append, append_assoc, append-nil}
+
+pub pushed : (P : ℕ → ℕ → Type 0) (xs ys : List ℕ) (n v : ℕ) → length xs ≡ n → ys ≡ xs ++ v ∷ [] → ((x : ℕ) → x < n → P x (slice_index xs x)) → P n v → (x : ℕ) → x < n + 1 → P x (slice_index ys x)
+pushed P xs ys n v e f h p x l = elim (cases_lt x n) [
+  | inl m ↦ subst (P x) (sym (ap (λ (zs : List ℕ). slice_index zs x) f ∙ get_or_append_left xs (v ∷ []) 0 x (omega (arith, e, m)))) (h x m)
+  | inr m ↦ let s : x ≡ n = omega arith in subst (λ w. P w (slice_index ys w)) (sym s) (subst (P n) (sym (ap (λ (zs : List ℕ). slice_index zs n) f ∙ get_or_push xs v 0 n e)) p)
+]
+
+pub one_some : {X : Type 0} (o : Option X) (x y : X) → o ≡ Some x → o ≡ Some y → x ≡ y
+one_some o x y p q = cc
+
+pub pushed_row : (P : ℕ → List ℕ → Type 0) (rows more : List (Vec ℕ Global)) (n : ℕ) (v : Vec ℕ Global) → length rows ≡ n → more ≡ rows ++ v ∷ []
+    → ((x : ℕ) → x < n → P x (slice_index_or (lists rows) x [])) → P n v.items → (x : ℕ) → x < n + 1 → P x (slice_index_or (lists more) x [])
+pushed_row P rows more n v e f h p x l =
+    let q : lists more ≡ lists rows ++ v.items ∷ [] = ap (λ (r : List (Vec ℕ Global)). lists r) f ∙ map-append (λ (u : Vec ℕ Global). u.items) rows (v ∷ []) in
+    elim (cases_lt x n) [
+      | inl m ↦ subst (P x) (sym (ap (λ (zs : List (List ℕ)). slice_index_or zs x []) q ∙ get_or_append_left (lists rows) (v.items ∷ []) [] x (omega (arith, e, m, length-lists rows)))) (h x m)
+      | inr m ↦ let s : x ≡ n = omega arith in subst (λ w. P w (slice_index_or (lists more) w [])) (sym s) (subst (P n) (sym (ap (λ (zs : List (List ℕ)). slice_index_or zs n []) q ∙ get_or_push (lists rows) v.items [] n (length-lists rows ∙ e))) p)
+    ]
+
+pub times_more : (n : ℕ) (xs : List ℕ) → times n xs ++ xs ≡ times (n + 1) xs
+times_more n xs = back n xs ∙ ap (λ k. times k xs) (sym (add-one n))
+  where
+    back : (n : ℕ) (xs : List ℕ) → times n xs ++ xs ≡ xs ++ times n xs
+    back zero xs = sym (append-nil xs)
+    back (suc n) xs = append_assoc xs (times n xs) xs ∙ ap (λ ys. xs ++ ys) (back n xs)

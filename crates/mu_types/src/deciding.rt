@@ -1,0 +1,83 @@
+// Judges a graph, and says what is the same in it.
+ghost use Rattle.std.specs.Prelude.{◌≡◌, ◌≢◌, ℕ, ◌+◌, ◌-◌, ◌*◌, ◌^◌, ◌<◌, ◌≤◌, Some, None, length, vec_len, IfOk, IfErr, OnOk};
+ghost use Rattle.type_laws.specs.Partition.{IsLeast};
+ghost use Rattle.type_laws.specs.Same.{IsGraph};
+ghost use Rattle.mu_types.specs.Implied.{complete};
+ghost use Rattle.mu_types.specs.References.{Referred, IsHeaded};
+ghost use Rattle.mu_types.specs.Tests.{first_fault, first_unmet, passes};
+
+use super::counting::{counts_of, first_too_many};
+use super::endless::first_endless;
+use super::faults::{TypeFault, TypeKind};
+use super::graph::TypeGraph;
+use super::implied::{Whole, complete_graph};
+use super::judging::first_wrong_argument;
+use super::listing::listings_of;
+use super::naming::classes_by;
+use super::ranking::arrange;
+use super::refine::refine;
+use super::table::Classes;
+use mu_base::Ids;
+use std::alloc::{AllocError, Global};
+use type_laws::TypeDef;
+
+fn judge(alloc: Global, all: &[TypeDef], places: &[Ids], many: usize) -> Result<(), TypeFault>
+    requires many { many ≤ length all.now }
+    requires graph { IsGraph all.now }
+    ensures accepted { OnOk result (first_unmet (passes all.now places.now many) ≡ None) }
+    ensures refused { IfErr result (λ fault. fault.kind ≢ TypeKind.Memory → first_unmet (passes all.now places.now many) ≡ Some fault) }
+{
+    if let Some(fault) = first_wrong_argument(all, places, many) {
+        return Err(fault);
+    }
+    let rank = arrange(alloc, all)?;
+    if let Some(fault) = first_endless(alloc, all, &rank, places, many)? {
+        return Err(fault);
+    }
+    let counts = counts_of(alloc, all, &rank)?;
+    if let Some(fault) = first_too_many(all, places, many, &counts) {
+        return Err(fault);
+    }
+    Ok(())
+}
+
+fn find_classes(alloc: Global, all: &[TypeDef]) -> Result<Vec<usize>, AllocError>
+    requires { IsGraph all.now }
+    ensures len { IfOk result (λ v. vec_len v ≡ length all.now) }
+    ensures classes { IfOk result (λ v. IsLeast all.now v.items) }
+{
+    let block = refine(alloc, all)?;
+    let class = classes_by(alloc, all, &block, all.len())?;
+    Ok(class)
+}
+
+fn hold(alloc: Global, whole: Whole, written: usize) -> Result<Classes, AllocError>
+    requires few { length whole.all.items < 2 ^ 32 }
+    requires graph { IsGraph whole.all.items }
+    requires referred { Referred whole.all.items whole.first.items (written + 1) }
+    requires headed { IsHeaded whole.all.items written }
+    ensures definitions { IfOk result (λ c. c.definitions ≡ whole.all.items) }
+    ensures written { IfOk result (λ c. c.written ≡ written) }
+{
+    let class = find_classes(alloc, &whole.all)?;
+    let rank = arrange(alloc, &whole.all)?;
+    let rows = listings_of(alloc, &whole.all, &class, &rank)?;
+    Ok(Classes::held(written, whole, class, rows))
+}
+
+/// Adds the implied types to a graph, refuses it with its first fault, or says which of its types are the same and what their leaves are.
+pub fn classes(alloc: Global, graph: TypeGraph) -> Result<Classes, TypeFault>
+    requires graph { IsGraph graph.definitions }
+    requires few { 3 * length graph.definitions + 7 < 2 ^ 32 - 1 }
+    ensures accepted { OnOk result (first_fault graph ≡ None) }
+    ensures refused { IfErr result (λ fault. fault.kind ≢ TypeKind.Memory → first_fault graph ≡ Some fault) }
+    ensures definitions { IfOk result (λ c. c.definitions ≡ complete graph.definitions) }
+    ensures written { IfOk result (λ c. c.written ≡ length graph.definitions) }
+{
+    let (definitions, places) = graph.into_parts();
+    let written = definitions.len();
+    let whole = complete_graph(alloc, definitions)?;
+    judge(alloc, &whole.all, &places, written)?;
+    let classes = hold(alloc, whole, written)?;
+    Ok(classes)
+}

@@ -1,0 +1,134 @@
+// The second pass: which types contain themselves.
+ghost use Rattle.std.specs.Prelude.{◌≡◌, ℕ, ◌+◌, ◌<◌, ◌≤◌, suc, ◌||◌, ◌==◌, Option, None, Some, length, slice_get, slice_index, vec_len, IfOk, IsTrue};
+ghost use Rattle.std.specs.List.{list_any, All};
+ghost use Rattle.type_laws.specs.Parts.{parts, parts_at, leads, contains_itself};
+ghost use Rattle.type_laws.specs.Ranks.{Descends, IsFree};
+ghost use Rattle.mu_types.specs.Tests.{endless_type, first_unmet, each};
+ghost use Rattle.mu_types.specs.Walks.{Marks, is_marked};
+
+use super::faults::{TypeFault, TypeKind};
+use super::judging::place_of;
+use super::ranking::{descends, parts_stay_below};
+use super::rows::at;
+use mu_base::Ids;
+use std::alloc::{AllocError, Global};
+use type_laws::TypeDef;
+
+/// How many parts there are.
+pub fn part_count(definition: &TypeDef) -> usize
+    ensures { result ≡ length (parts definition.now) }
+{
+    match definition {
+        TypeDef::Struct { fields } => fields.len(),
+        TypeDef::Array { .. } => 1,
+        TypeDef::Hybrid { fixed, element: _ } => fixed.as_slice().len() + 1,
+        _ => 0,
+    }
+}
+
+/// The part with that number, counted from 0.
+pub fn part(definition: &TypeDef, k: usize) -> usize
+    requires { k < length (parts definition.now) }
+    ensures { result ≡ slice_index (parts definition.now) k }
+{
+    match definition {
+        TypeDef::Struct { fields } => fields.as_slice()[k] as usize,
+        TypeDef::Array { element, .. } => *element as usize,
+        TypeDef::Hybrid { fixed, element } => {
+            if k < fixed.len() {
+                fixed.as_slice()[k] as usize
+            } else {
+                *element as usize
+            }
+        }
+        _ => 0,
+    }
+}
+
+// whether a part is the goal or is marked
+fn has_marked_part(definition: &TypeDef, marks: &[bool], goal: usize) -> bool
+    ensures { result ≡ list_any (λ p. (p == goal) || is_marked marks.now p) (parts definition.now) }
+{
+    for k in 0..part_count(definition) {
+        let p = part(definition, k);
+        if p == goal || p < marks.len() && marks[p] {
+            return true;
+        }
+    }
+    false
+}
+
+fn farther(
+    alloc: Global,
+    all: &[TypeDef],
+    marks: &[bool],
+    goal: usize,
+) -> Result<Vec<bool>, AllocError>
+    requires { length marks.now ≡ length all.now }
+    ensures len { IfOk result (λ v. vec_len v ≡ length all.now) }
+    ensures marks { IfOk result (λ v. (k : ℕ) → Marks all.now k goal marks.now → Marks all.now (suc k) goal v.items) }
+{
+    let mut next = Vec::new(alloc);
+    for x in 0..all.len() {
+        next.push(has_marked_part(&all[x], marks, goal))?;
+    }
+    Ok(next)
+}
+
+/// Whether the type contains itself, in the square of the number of types.
+fn contains_itself_plainly(alloc: Global, all: &[TypeDef], t: usize) -> Result<bool, AllocError>
+    requires { t < length all.now }
+    ensures { IfOk result (λ b. b ≡ contains_itself all.now t) }
+{
+    let mut marks = Vec::new(alloc);
+    for i in 0..all.len() {
+        marks.push(false)?;
+    }
+    for steps in 0..all.len() {
+        marks = farther(alloc, all, &marks, t)?;
+    }
+    Ok(marks[t])
+}
+
+#[tactic(auto, using(crate::specs::Verdicts::free_finite))]
+fn is_endless(
+    alloc: Global,
+    all: &[TypeDef],
+    rank: &[usize],
+    descending: bool,
+    t: usize,
+) -> Result<bool, AllocError>
+    requires t { t < length all.now }
+    requires descends { IsTrue descending → Descends all.now rank.now }
+    ensures { IfOk result (λ b. b ≡ contains_itself all.now t) }
+{
+    if descending && parts_stay_below(&all[t], rank, at(rank, t)) {
+        return Ok(false);
+    }
+    contains_itself_plainly(alloc, all, t)
+}
+
+/// The first, of the first so many definitions, that contains itself. Where all parts of a type have lower ranks than it, and no
+/// part in the graph a higher one, it does not; the ranks may be any.
+pub fn first_endless(
+    alloc: Global,
+    all: &[TypeDef],
+    rank: &[usize],
+    places: &[Ids],
+    many: usize,
+) -> Result<Option<TypeFault>, AllocError>
+    requires { many ≤ length all.now }
+    ensures { IfOk result (λ fault. fault ≡ first_unmet (each (endless_type all.now places.now) many 0)) }
+{
+    let descending = descends(all, rank);
+    for t in 0..many {
+        if is_endless(alloc, all, rank, descending, t)? {
+            let place = place_of(places, t, 0);
+            return Ok(Some(TypeFault {
+                kind: TypeKind::EndlessType,
+                place,
+            }));
+        }
+    }
+    Ok(None)
+}

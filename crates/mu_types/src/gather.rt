@@ -1,0 +1,106 @@
+// Which types lead into a block, by place.
+
+ghost use Rattle.std.specs.Prelude.{◌≡◌, ℕ, ◌<◌, ◌↔◌, ◌⊎◌, Some, length, map, slice_index, slice_get, IfOk, OnOk, IsTrue};
+ghost use Rattle.std.specs.List.{All, Contains};
+ghost use Rattle.type_laws.specs.Partition.{arg};
+ghost use Rattle.mu_types.specs.Rows.{lists, Holds};
+ghost use Rattle.mu_types.specs.declared.edges.Edge.{Edge};
+ghost use Rattle.mu_types.specs.Edges.{edge_of};
+ghost use Rattle.mu_types.specs.Leads.{LeadsTo};
+
+use super::arguments::{argument, arity};
+use super::edges::Edge;
+use super::rows::{at, push_to};
+use std::alloc::AllocError;
+use type_laws::TypeDef;
+
+pub fn is_arg(definitions: &[TypeDef], x: usize, k: usize, y: usize) -> bool
+    ensures { IsTrue result ↔ (arg definitions.now x k ≡ Some y) }
+{
+    x < definitions.len()
+        && k < arity(&definitions[x])
+        && argument(&definitions[x], k) as usize == y
+}
+
+#[tactic(auto, using(crate::specs::Rows::pushed_kept, crate::specs::Rows::pushed_there, crate::specs::Rows::pushed_only))]
+fn gather_edge(
+    definitions: &[TypeDef],
+    edge: Edge,
+    y: usize,
+    buckets: &mut [Vec<usize>],
+    places: &mut Vec<usize>,
+) -> Result<(), AllocError>
+    ensures len { length buckets.new ≡ length buckets.old }
+    ensures kept { OnOk result ((k x : ℕ) → Holds (lists buckets.old) k x → Holds (lists buckets.new) k x) }
+    ensures there { OnOk result (edge.place < length buckets.old → arg definitions.now edge.from edge.place ≡ Some y → Holds (lists buckets.new) edge.place edge.from) }
+    ensures sound { OnOk result ((k x : ℕ) → Holds (lists buckets.new) k x → Holds (lists buckets.old) k x ⊎ (arg definitions.now x k ≡ Some y)) }
+{
+    if edge.place >= buckets.len() || !is_arg(definitions, edge.from, edge.place, y) {
+        return Ok(());
+    }
+    if buckets[edge.place].is_empty() {
+        places.push(edge.place)?;
+    }
+    push_to(buckets, edge.place, edge.from)?;
+    Ok(())
+}
+
+fn gather_one(
+    definitions: &[TypeDef],
+    edges: &[Edge],
+    y: usize,
+    buckets: &mut [Vec<usize>],
+    places: &mut Vec<usize>,
+) -> Result<(), AllocError>
+    ensures len { length buckets.new ≡ length buckets.old }
+    ensures kept { OnOk result ((k x : ℕ) → Holds (lists buckets.old) k x → Holds (lists buckets.new) k x) }
+    ensures complete { OnOk result ((k x : ℕ) → k < length buckets.old → Contains edges.now (edge_of k x) → arg definitions.now x k ≡ Some y → Holds (lists buckets.new) k x) }
+    ensures sound { OnOk result ((k x : ℕ) → Holds (lists buckets.new) k x → Holds (lists buckets.old) k x ⊎ (arg definitions.now x k ≡ Some y)) }
+{
+    for i in 0..edges.len() {
+        gather_edge(definitions, edges[i], y, buckets, places)?;
+    }
+    Ok(())
+}
+
+/// All that lead into the block s, whose list is `row`.
+pub fn gather(
+    definitions: &[TypeDef],
+    preds: &[Vec<Edge>],
+    block: &[usize],
+    row: &[usize],
+    s: usize,
+    buckets: &mut [Vec<usize>],
+    places: &mut Vec<usize>,
+) -> Result<(), AllocError>
+    ensures len { length buckets.new ≡ length buckets.old }
+    ensures kept { OnOk result ((k x : ℕ) → Holds (lists buckets.old) k x → Holds (lists buckets.new) k x) }
+    ensures complete { OnOk result ((k x y : ℕ) → k < length buckets.old → Contains row.now y → slice_index block.now y ≡ s → Holds (lists preds.now) y (edge_of k x) → arg definitions.now x k ≡ Some y → Holds (lists buckets.new) k x) }
+    ensures sound { OnOk result ((k x : ℕ) → Holds (lists buckets.new) k x → Holds (lists buckets.old) k x ⊎ LeadsTo definitions.now block.now s x k) }
+{
+    for i in 0..row.len() {
+        let y = row[i];
+        gather_member(definitions, preds, block, y, s, buckets, places)?;
+    }
+    Ok(())
+}
+
+fn gather_member(
+    definitions: &[TypeDef],
+    preds: &[Vec<Edge>],
+    block: &[usize],
+    y: usize,
+    s: usize,
+    buckets: &mut [Vec<usize>],
+    places: &mut Vec<usize>,
+) -> Result<(), AllocError>
+    ensures len { length buckets.new ≡ length buckets.old }
+    ensures kept { OnOk result ((k x : ℕ) → Holds (lists buckets.old) k x → Holds (lists buckets.new) k x) }
+    ensures complete { OnOk result ((k x : ℕ) → k < length buckets.old → slice_index block.now y ≡ s → Holds (lists preds.now) y (edge_of k x) → arg definitions.now x k ≡ Some y → Holds (lists buckets.new) k x) }
+    ensures sound { OnOk result ((k x : ℕ) → Holds (lists buckets.new) k x → Holds (lists buckets.old) k x ⊎ LeadsTo definitions.now block.now s x k) }
+{
+    if y < preds.len() && at(block, y) == s {
+        gather_one(definitions, &preds[y], y, buckets, places)?;
+    }
+    Ok(())
+}

@@ -1,0 +1,224 @@
+// The leaves of each type, listed.
+ghost use Rattle.std.specs.Prelude.{◌≡◌, ℕ, ◌+◌, ◌<◌, ◌≤◌, ◌++◌, [], ◌∷◌, suc, length, map, slice_get, slice_index, slice_index_or, slice_set, vec_len, ◌^◌, IfOk, OnOk};
+ghost use Rattle.std.specs.List.{flat_map};
+ghost use Rattle.type_laws.specs.Leaves.{leaves, leaves_by, times};
+ghost use Rattle.type_laws.specs.Same.{IsGraph};
+ghost use Rattle.type_laws.specs.Partition.{IsLeast};
+ghost use Rattle.type_laws.specs.Class.{class_of};
+ghost use Rattle.type_laws.specs.Ranks.{AreRanked};
+ghost use Rattle.mu_types.specs.Ordered.{IsOrder, Found};
+ghost use Rattle.mu_types.specs.Rows.{lists};
+ghost use Rattle.mu_types.specs.Listings.{row_by, Lists, IsIdentity};
+
+use super::blocks::identity;
+use super::ranking::{is_ordered, order_of};
+use super::rows::at;
+use std::alloc::{AllocError, Global};
+use type_laws::TypeDef;
+
+#[tactic(auto, using(crate::specs::Rows::row_at, crate::specs::Listings::no_row))]
+fn append_row(
+    rows: &[Vec<u32>],
+    number: &[usize],
+    p: u32,
+    out: &mut Vec<u32>,
+) -> Result<(), AllocError>
+    ensures { OnOk result (out.new.items ≡ out.old.items ++ row_by (lists rows.now) number.now p) }
+{
+    let n = at(number, p as usize);
+    if n < rows.len() {
+        out.extend_from_slice(rows[n].as_slice())?;
+    }
+    Ok(())
+}
+
+fn append_each(
+    rows: &[Vec<u32>],
+    number: &[usize],
+    list: &[u32],
+    out: &mut Vec<u32>,
+) -> Result<(), AllocError>
+    ensures { OnOk result (out.new.items ≡ out.old.items ++ flat_map (row_by (lists rows.now) number.now) list.now) }
+{
+    for p in list {
+        append_row(rows, number, *p, out)?;
+    }
+    Ok(())
+}
+
+fn append_times(
+    rows: &[Vec<u32>],
+    number: &[usize],
+    p: u32,
+    many: u128,
+    out: &mut Vec<u32>,
+) -> Result<(), AllocError>
+    ensures { OnOk result (out.new.items ≡ out.old.items ++ times many (row_by (lists rows.now) number.now p)) }
+{
+    for i in 0..many {
+        append_row(rows, number, p, out)?;
+    }
+    Ok(())
+}
+
+/// The leaves of a definition, by the rows of its parts. `own` stands for the type itself.
+fn listed(
+    alloc: Global,
+    definition: &TypeDef,
+    own: u32,
+    rows: &[Vec<u32>],
+    number: &[usize],
+) -> Result<Vec<u32>, AllocError>
+    ensures { IfOk result (λ v. v.items ≡ leaves_by (row_by (lists rows.now) number.now) own definition.now) }
+{
+    let mut out = Vec::new(alloc);
+    match definition {
+        TypeDef::Struct { fields } => append_each(rows, number, fields.as_slice(), &mut out)?,
+        TypeDef::Array { element, length } => append_times(
+            rows, number, *element, *length, &mut out,
+        )?,
+        TypeDef::Hybrid { fixed, element: _ } => append_each(
+            rows,
+            number,
+            fixed.as_slice(),
+            &mut out,
+        )?,
+        TypeDef::Void | TypeDef::Sig { .. } => {}
+        _ => out.push(own)?,
+    }
+    Ok(out)
+}
+
+fn deeper(
+    alloc: Global,
+    all: &[TypeDef],
+    class: &[usize],
+    rows: &[Vec<u32>],
+    number: &[usize],
+) -> Result<Vec<Vec<u32>>, AllocError>
+    requires graph { IsGraph all.now }
+    requires class { IsLeast all.now class.now }
+    requires few { length all.now < 2 ^ 32 }
+    requires number { IsIdentity number.now (length all.now) }
+    ensures len { IfOk result (λ v. vec_len v ≡ length all.now) }
+    ensures lists { IfOk result (λ v. (k : ℕ) → Lists all.now k (lists rows.now) → Lists all.now (suc k) (lists v.items)) }
+{
+    let mut next = Vec::new(alloc);
+    for x in 0..all.len() {
+        next.push(listed(alloc, &all[x], at(class, x) as u32, rows, number)?)?;
+    }
+    Ok(next)
+}
+
+/// The leaves by depth: the number of types times as long as needed.
+fn listings_plainly(
+    alloc: Global,
+    all: &[TypeDef],
+    class: &[usize],
+) -> Result<Vec<Vec<u32>>, AllocError>
+    requires graph { IsGraph all.now }
+    requires class { IsLeast all.now class.now }
+    requires few { length all.now < 2 ^ 32 }
+    ensures len { IfOk result (λ v. vec_len v ≡ length all.now) }
+    ensures lists { IfOk result (λ v. Lists all.now (length all.now) (lists v.items)) }
+{
+    let mut rows: Vec<Vec<u32>> = Vec::new(alloc);
+    let mut number: Vec<usize> = Vec::new(alloc);
+    for i in 0..all.len() {
+        rows.push(Vec::new(alloc))?;
+        number.push(i)?;
+    }
+    for depth in 0..all.len() {
+        rows = deeper(alloc, all, class, &rows, &number)?;
+    }
+    Ok(rows)
+}
+
+#[tactic(auto, using(crate::specs::Rows::lists_emptied))]
+fn put_row(rows: &mut [Vec<u32>], t: usize, row: Vec<u32>)
+    requires { t < length rows.old }
+    ensures len { length rows.new ≡ length rows.old }
+    ensures row { lists rows.new ≡ slice_set (lists rows.old) t row.items }
+{
+    rows[t] = row;
+}
+
+fn list_at(
+    alloc: Global,
+    all: &[TypeDef],
+    class: &[usize],
+    rank: &[usize],
+    order: &[usize],
+    number: &[usize],
+    i: usize,
+    rows: &mut [Vec<u32>],
+) -> Result<(), AllocError>
+    requires graph { IsGraph all.now }
+    requires class { IsLeast all.now class.now }
+    requires few { length all.now < 2 ^ 32 }
+    requires ranked { AreRanked all.now rank.now }
+    requires order { IsOrder (length all.now) rank.now order.now }
+    requires number { IsIdentity number.now (length all.now) }
+    requires len { length rows.old ≡ length all.now }
+    requires found { Found [] (length all.now) rank.now (λ x. map (class_of all.now) (leaves all.now x)) (lists rows.old) i }
+    ensures len { length rows.new ≡ length all.now }
+    ensures found { OnOk result (Found [] (length all.now) rank.now (λ x. map (class_of all.now) (leaves all.now x)) (lists rows.new) (i + 1)) }
+{
+    let t = at(order, i);
+    if t < all.len() && at(rank, t) == i {
+        let row = listed(alloc, &all[t], at(class, t) as u32, rows, number)?;
+        put_row(rows, t, row);
+    }
+    Ok(())
+}
+
+fn list_all(
+    alloc: Global,
+    all: &[TypeDef],
+    class: &[usize],
+    rank: &[usize],
+    order: &[usize],
+    number: &[usize],
+    rows: &mut [Vec<u32>],
+) -> Result<(), AllocError>
+    requires graph { IsGraph all.now }
+    requires class { IsLeast all.now class.now }
+    requires few { length all.now < 2 ^ 32 }
+    requires ranked { AreRanked all.now rank.now }
+    requires order { IsOrder (length all.now) rank.now order.now }
+    requires number { IsIdentity number.now (length all.now) }
+    requires len { length rows.old ≡ length all.now }
+    ensures len { length rows.new ≡ length all.now }
+    ensures lists { OnOk result (Lists all.now (length all.now) (lists rows.new)) }
+{
+    for i in 0..all.len() {
+        list_at(alloc, all, class, rank, order, number, i, rows)?;
+    }
+    Ok(())
+}
+
+/// The leaves of each type. Where the ranks order all types each is listed once; else they are found by depth.
+pub fn listings_of(
+    alloc: Global,
+    all: &[TypeDef],
+    class: &[usize],
+    rank: &[usize],
+) -> Result<Vec<Vec<u32>>, AllocError>
+    requires graph { IsGraph all.now }
+    requires class { IsLeast all.now class.now }
+    requires few { length all.now < 2 ^ 32 }
+    ensures len { IfOk result (λ v. vec_len v ≡ length all.now) }
+    ensures lists { IfOk result (λ v. Lists all.now (length all.now) (lists v.items)) }
+{
+    let order = order_of(alloc, rank)?;
+    if !is_ordered(all, rank, &order) {
+        return listings_plainly(alloc, all, class);
+    }
+    let number = identity(alloc, all.len())?;
+    let mut rows: Vec<Vec<u32>> = Vec::new(alloc);
+    for i in 0..all.len() {
+        rows.push(Vec::new(alloc))?;
+    }
+    list_all(alloc, all, class, rank, &order, &number, &mut rows)?;
+    Ok(rows)
+}

@@ -1,0 +1,372 @@
+// The refinement by a worklist. What it does with sizes and the order of work needs no proof.
+
+ghost use Rattle.std.specs.Prelude.{◌≡◌, ℕ, ◌<◌, Some, [], length, slice_index, slice_index_or, vec_len, OnOk, IfOk};
+ghost use Rattle.mu_types.specs.Listings.{IsIdentity};
+ghost use Rattle.type_laws.specs.Same.{IsGraph};
+ghost use Rattle.type_laws.specs.Partition.{Keeps, arg};
+ghost use Rattle.mu_types.specs.Targets.{TargetsFit};
+ghost use Rattle.mu_types.specs.Rows.{lists, Holds};
+ghost use Rattle.mu_types.specs.Blocks.{Listed};
+ghost use Rattle.mu_types.specs.Leads.{IsClosed, AreClosed, IsBackward};
+
+use super::arguments::arity;
+use super::blocks::{empty_rows, first_blocks, identity, list_members, widest};
+use super::edges::Edge;
+use super::gather::gather;
+use super::moves::move_all;
+use super::preds::predecessors;
+use super::rows::{at, put, take_row};
+use std::alloc::{AllocError, Global};
+use type_laws::TypeDef;
+
+#[derive(Drop)]
+pub struct Plan {
+    pub next: usize,
+    pub sizes: Vec<usize>,
+    pub hits: Vec<usize>,
+    pub waiting: Vec<usize>,
+    pub work: Vec<usize>,
+    pub parents: Vec<usize>,
+}
+
+#[tactic(auto, using(crate::specs::Targets::target_set))]
+fn aim(target: &mut [usize], b: usize, id: usize, n: usize)
+    requires { TargetsFit target.old n }
+    ensures { TargetsFit target.new n }
+{
+    if b < target.len() && id < n {
+        target[b] = id;
+    }
+}
+
+fn count_hits(block: &[usize], touched: &[usize], plan: &mut Plan) {
+    for x in touched {
+        let b = at(block, *x);
+        let hits = at(&plan.hits, b);
+        put(&mut plan.hits, b, hits.wrapping_add(1));
+    }
+}
+
+fn choose(
+    block: &[usize],
+    touched: &[usize],
+    target: &mut [usize],
+    plan: &mut Plan,
+    n: usize,
+) -> Result<(), AllocError>
+    requires { TargetsFit target.old n }
+    ensures { TargetsFit target.new n }
+{
+    count_hits(block, touched, plan);
+    for x in touched {
+        let b = at(block, *x);
+        let hits = at(&plan.hits, b);
+        if at(target, b) == b && hits != 0 && hits < at(&plan.sizes, b) {
+            let id = plan.next;
+            plan.next = id.wrapping_add(1);
+            aim(target, b, id, n);
+            put(&mut plan.sizes, id, hits);
+            plan.parents.push(b)?;
+        }
+        put(&mut plan.hits, b, 0);
+    }
+    Ok(())
+}
+
+fn settle(target: &mut [usize], plan: &mut Plan, n: usize) -> Result<(), AllocError>
+    requires { TargetsFit target.old n }
+    ensures { TargetsFit target.new n }
+{
+    while let Some(b) = plan.parents.pop() {
+        let id = at(target, b);
+        aim(target, b, b, n);
+        let rest = at(&plan.sizes, b).wrapping_sub(at(&plan.sizes, id));
+        put(&mut plan.sizes, b, rest);
+        let small = if at(&plan.waiting, b) == 1 || at(&plan.sizes, id) <= rest {
+            id
+        } else {
+            b
+        };
+        put(&mut plan.waiting, small, 1);
+        plan.work.push(small)?;
+    }
+    Ok(())
+}
+
+#[tactic(auto, using(crate::specs::Leads::moved_keeps))]
+fn part(
+    alloc: Global,
+    definitions: &[TypeDef],
+    block: &mut [usize],
+    members: &mut [Vec<usize>],
+    touched: &[usize],
+    target: &mut [usize],
+    plan: &mut Plan,
+) -> Result<(), AllocError>
+    requires range { (k : ℕ) → k < length touched.now → slice_index touched.now k < length block.old }
+    requires closed { IsClosed definitions.now touched.now }
+    requires keeps { Keeps definitions.now block.old }
+    requires listed { Listed block.old (lists members.old) }
+    requires target { TargetsFit target.old (length members.old) }
+    ensures keeps { OnOk result (Keeps definitions.now block.new) }
+    ensures listed { OnOk result (Listed block.new (lists members.new)) }
+    ensures target { OnOk result (TargetsFit target.new (length members.new)) }
+{
+    let n = members.len();
+    choose(block, touched, target, plan, n)?;
+    move_all(alloc, block, members, touched, target)?;
+    settle(target, plan, n)?;
+    Ok(())
+}
+
+fn part_row(
+    alloc: Global,
+    definitions: &[TypeDef],
+    block: &mut [usize],
+    members: &mut [Vec<usize>],
+    buckets: &mut [Vec<usize>],
+    p: usize,
+    target: &mut [usize],
+    plan: &mut Plan,
+) -> Result<(), AllocError>
+    requires p { p < length buckets.old }
+    requires within { (k x : ℕ) → Holds (lists buckets.old) k x → x < length block.old }
+    requires closed { AreClosed definitions.now (lists buckets.old) }
+    requires keeps { Keeps definitions.now block.old }
+    requires listed { Listed block.old (lists members.old) }
+    requires target { TargetsFit target.old (length members.old) }
+    ensures within { OnOk result ((k x : ℕ) → Holds (lists buckets.new) k x → x < length block.new) }
+    ensures closed { OnOk result (AreClosed definitions.now (lists buckets.new)) }
+    ensures keeps { OnOk result (Keeps definitions.now block.new) }
+    ensures listed { OnOk result (Listed block.new (lists members.new)) }
+    ensures target { OnOk result (TargetsFit target.new (length members.new)) }
+{
+    let row = take_row(alloc, buckets, p);
+    part(alloc, definitions, block, members, &row, target, plan)?;
+    Ok(())
+}
+
+fn drain(
+    alloc: Global,
+    definitions: &[TypeDef],
+    block: &mut [usize],
+    members: &mut [Vec<usize>],
+    buckets: &mut [Vec<usize>],
+    places: &mut Vec<usize>,
+    target: &mut [usize],
+    plan: &mut Plan,
+) -> Result<(), AllocError>
+    requires within { (k x : ℕ) → Holds (lists buckets.old) k x → x < length block.old }
+    requires closed { AreClosed definitions.now (lists buckets.old) }
+    requires keeps { Keeps definitions.now block.old }
+    requires listed { Listed block.old (lists members.old) }
+    requires target { TargetsFit target.old (length members.old) }
+    ensures within { OnOk result ((k x : ℕ) → Holds (lists buckets.new) k x → x < length block.new) }
+    ensures closed { OnOk result (AreClosed definitions.now (lists buckets.new)) }
+    ensures keeps { OnOk result (Keeps definitions.now block.new) }
+    ensures listed { OnOk result (Listed block.new (lists members.new)) }
+    ensures target { OnOk result (TargetsFit target.new (length members.new)) }
+{
+    while let Some(p) = places.pop() {
+        if p < buckets.len() {
+            part_row(alloc, definitions, block, members, buckets, p, target, plan)?;
+        }
+    }
+    Ok(())
+}
+
+fn turn(
+    alloc: Global,
+    definitions: &[TypeDef],
+    preds: &[Vec<Edge>],
+    block: &mut [usize],
+    members: &mut [Vec<usize>],
+    buckets: &mut [Vec<usize>],
+    places: &mut Vec<usize>,
+    s: usize,
+    target: &mut [usize],
+    plan: &mut Plan,
+) -> Result<(), AllocError>
+    requires graph { IsGraph definitions.now }
+    requires back { IsBackward definitions.now (lists preds.now) }
+    requires wide { (x k y : ℕ) → arg definitions.now x k ≡ Some y → k < length buckets.old }
+    requires len { length block.old ≡ length definitions.now }
+    requires within { (k x : ℕ) → Holds (lists buckets.old) k x → x < length block.old }
+    requires closed { AreClosed definitions.now (lists buckets.old) }
+    requires keeps { Keeps definitions.now block.old }
+    requires listed { Listed block.old (lists members.old) }
+    requires target { TargetsFit target.old (length members.old) }
+    ensures within { OnOk result ((k x : ℕ) → Holds (lists buckets.new) k x → x < length block.new) }
+    ensures closed { OnOk result (AreClosed definitions.now (lists buckets.new)) }
+    ensures keeps { OnOk result (Keeps definitions.now block.new) }
+    ensures listed { OnOk result (Listed block.new (lists members.new)) }
+    ensures target { OnOk result (TargetsFit target.new (length members.new)) }
+{
+    if s < members.len() {
+        gather(definitions, preds, block, &members[s], s, buckets, places)?;
+        drain(
+            alloc,
+            definitions,
+            block,
+            members,
+            buckets,
+            places,
+            target,
+            plan,
+        )?;
+    }
+    Ok(())
+}
+
+fn work_off(
+    alloc: Global,
+    definitions: &[TypeDef],
+    preds: &[Vec<Edge>],
+    block: &mut [usize],
+    members: &mut [Vec<usize>],
+    buckets: &mut [Vec<usize>],
+    target: &mut [usize],
+    plan: &mut Plan,
+    fuel: usize,
+) -> Result<(), AllocError>
+    requires graph { IsGraph definitions.now }
+    requires back { IsBackward definitions.now (lists preds.now) }
+    requires wide { (x k y : ℕ) → arg definitions.now x k ≡ Some y → k < length buckets.old }
+    requires len { length block.old ≡ length definitions.now }
+    requires within { (k x : ℕ) → Holds (lists buckets.old) k x → x < length block.old }
+    requires closed { AreClosed definitions.now (lists buckets.old) }
+    requires keeps { Keeps definitions.now block.old }
+    requires listed { Listed block.old (lists members.old) }
+    requires target { TargetsFit target.old (length members.old) }
+    ensures { OnOk result (Keeps definitions.now block.new) }
+{
+    let mut places: Vec<usize> = Vec::new(alloc);
+    for _ in 0..fuel {
+        let Some(s) = plan.work.pop() else {
+            break;
+        };
+        put(&mut plan.waiting, s, 0);
+        turn(
+            alloc,
+            definitions,
+            preds,
+            block,
+            members,
+            buckets,
+            &mut places,
+            s,
+            target,
+            plan,
+        )?;
+    }
+    Ok(())
+}
+
+fn plan_for(alloc: Global, block: &[usize]) -> Result<Plan, AllocError> {
+    let n = block.len();
+    let mut sizes: Vec<usize> = Vec::new(alloc);
+    let mut hits: Vec<usize> = Vec::new(alloc);
+    let mut waiting: Vec<usize> = Vec::new(alloc);
+    for _ in 0..n {
+        sizes.push(0)?;
+        hits.push(0)?;
+        waiting.push(0)?;
+    }
+    let mut work: Vec<usize> = Vec::new(alloc);
+    let mut next = 0;
+    for b in block {
+        let size = at(&sizes, *b);
+        if size == 0 {
+            work.push(*b)?;
+            put(&mut waiting, *b, 1);
+        }
+        put(&mut sizes, *b, size.wrapping_add(1));
+        if next <= *b {
+            next = b.wrapping_add(1);
+        }
+    }
+    let parents = Vec::new(alloc);
+    Ok(Plan {
+        next,
+        sizes,
+        hits,
+        waiting,
+        work,
+        parents,
+    })
+}
+
+fn edges_of(definitions: &[TypeDef]) -> usize {
+    let mut edges: usize = 0;
+    for definition in definitions {
+        edges = edges.saturating_add(arity(definition)).saturating_add(1);
+    }
+    edges
+}
+
+/// Blocks that keep the same types together, and mostly no others.
+pub fn refine(alloc: Global, definitions: &[TypeDef]) -> Result<Vec<usize>, AllocError>
+    requires { IsGraph definitions.now }
+    ensures len { IfOk result (λ v. vec_len v ≡ length definitions.now) }
+    ensures keeps { IfOk result (λ v. Keeps definitions.now v.items) }
+{
+    let mut block = first_blocks(alloc, definitions)?;
+    if definitions.is_empty() {
+        return Ok(block);
+    }
+    let members = list_members(alloc, &block)?;
+    let buckets = empty_rows(alloc, widest(definitions))?;
+    let target = identity(alloc, definitions.len())?;
+    let plan = plan_for(alloc, &block)?;
+    part_blocks(
+        alloc,
+        definitions,
+        &mut block,
+        members,
+        buckets,
+        target,
+        plan,
+    )?;
+    Ok(block)
+}
+
+fn part_blocks(
+    alloc: Global,
+    definitions: &[TypeDef],
+    block: &mut [usize],
+    members: Vec<Vec<usize>>,
+    buckets: Vec<Vec<usize>>,
+    target: Vec<usize>,
+    plan: Plan,
+) -> Result<(), AllocError>
+    requires graph { IsGraph definitions.now }
+    requires some { 0 < length definitions.now }
+    requires len { length block.old ≡ length definitions.now }
+    requires keeps { Keeps definitions.now block.old }
+    requires members { vec_len members ≡ length definitions.now }
+    requires listed { Listed block.old (lists members.items) }
+    requires wide { (x k y : ℕ) → arg definitions.now x k ≡ Some y → k < vec_len buckets }
+    requires empty { (x : ℕ) → slice_index_or (lists buckets.items) x [] ≡ [] }
+    requires targets { vec_len target ≡ length definitions.now }
+    requires own { IsIdentity target.items (length definitions.now) }
+    ensures { OnOk result (Keeps definitions.now block.new) }
+{
+    let preds = predecessors(alloc, definitions)?;
+    let fuel = edges_of(definitions).saturating_mul(64);
+    let mut members = members;
+    let mut buckets = buckets;
+    let mut target = target;
+    let mut plan = plan;
+    work_off(
+        alloc,
+        definitions,
+        &preds,
+        block,
+        &mut members,
+        &mut buckets,
+        &mut target,
+        &mut plan,
+        fuel,
+    )?;
+    Ok(())
+}

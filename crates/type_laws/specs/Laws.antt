@@ -1,0 +1,32 @@
+-- What holds of the same type and of classes in every graph whose arguments are ids of it.
+use Rattle.std.specs.Prelude.{◌≡◌, ◌↔◌, ℕ, true, ◌<◌, ◌≤◌, List, length, map, slice_get}
+use Rattle.type_laws.specs.declared.definition.TypeDef.{TypeDef}
+use Rattle.type_laws.specs.Same.{alike, same, agree_at}
+use Rattle.type_laws.specs.Class.{class_of}
+use Rattle.type_laws.specs.Leaves.{leaves}
+
+-- the same type is an equivalence
+pub record IsEquivalence (graph : List TypeDef) : Type 0 where
+  pub reflexive : (a : ℕ) → a < length graph → same graph a a ≡ true
+  pub symmetric : (a b : ℕ) → same graph a b ≡ true → same graph b a ≡ true
+  pub transitive : (a b c : ℕ) → same graph a b ≡ true → same graph b c ≡ true → same graph a c ≡ true
+
+-- two are the same exactly where their definitions agree, with arguments that are the same
+abbrev pub IsCongruence : List TypeDef → Type 0
+IsCongruence graph = (a b : ℕ) → a < length graph → b < length graph →
+    (same graph a b ≡ true) ↔ (agree_at (same graph) (slice_get graph a) (slice_get graph b) ≡ true)
+
+-- two that are the same are alike to each depth
+abbrev pub IsSteady : List TypeDef → Type 0
+IsSteady graph = (depth a b : ℕ) → a < length graph → b < length graph → same graph a b ≡ true → alike graph depth a b ≡ true
+
+-- a class is no later than its types, and two classes are equal exactly for the same type
+pub record ClassesDecide (graph : List TypeDef) : Type 0 where
+  pub no_later : (a : ℕ) → a < length graph → class_of graph a ≤ a
+  pub of_it : (a : ℕ) → a < length graph → same graph (class_of graph a) a ≡ true
+  pub equal : (a b : ℕ) → a < length graph → b < length graph → (class_of graph a ≡ class_of graph b) ↔ (same graph a b ≡ true)
+
+-- the leaves of two that are the same type are the same types, one by one
+abbrev pub LeavesRespect : List TypeDef → Type 0
+LeavesRespect graph = (a b : ℕ) → a < length graph → b < length graph → same graph a b ≡ true →
+    map (class_of graph) (leaves graph a) ≡ map (class_of graph) (leaves graph b)

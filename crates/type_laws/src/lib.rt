@@ -1,0 +1,11 @@
+//! What types are: their definitions, when two of them are the same, what stands in a value of one, and the laws of this.
+#![tactic(auto)]
+
+mod definition;
+mod laws;
+
+pub use definition::TypeDef;
+pub use laws::{
+    classes_decide, leaves_respect_the_same_type, same_type_is_a_congruence,
+    same_type_is_an_equivalence, same_type_is_steady,
+};
