@@ -1,0 +1,6 @@
+//! Values of the machine.
+#![tactic(auto)]
+
+mod scalars;
+
+pub use scalars::{Scalar, Value};

@@ -1,0 +1,6 @@
+//! Cells of objects.
+#![tactic(auto)]
+
+mod cells;
+
+pub use cells::CellId;
