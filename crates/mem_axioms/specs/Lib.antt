@@ -39,3 +39,11 @@ pub mod Objects
 pub mod EventFits
 pub mod ExampleNames
 pub mod StackExamples
+pub mod StoreBufferingExamples
+pub mod MessagePassingExamples
+pub mod ReleaseSequenceExamples
+pub mod SequenceRunExamples
+pub mod IriwExamples
+pub mod CoherenceExamples
+pub mod ComparisonExamples
+pub mod WakeExamples
