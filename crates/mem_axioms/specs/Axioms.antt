@@ -5,7 +5,7 @@
 --      update that the read y reads. Let a be x, or a fence that happens before x; let b be y, or a fence that y happens
 --      before. Where a and b are SEQ_CST, a comes before b in the log.
 -- Axiom 3 has the shape of ISO/IEC 14882:2020, 31.4, with the order of the log for the single total order S.
-use Rattle.std.specs.Prelude.{◌≡◌, ◌⊎◌, ℕ, ◌<◌, ◌≤◌, Bool, true, false, not, ◌&&◌, ◌||◌, ◌==◌, nat_lt, List, Some}
+use Rattle.std.specs.Prelude.{◌≡◌, ◌⊎◌, ℕ, ◌<◌, ◌≤◌, Bool, true, not, ◌&&◌, ◌||◌, ◌==◌, nat_lt, List, Some}
 use Rattle.mu_values.specs.declared.scalars.Scalar.{Scalar}
 use Rattle.typed_heap.specs.declared.cells.CellId.{CellId}
 use Rattle.mem_axioms.specs.Events.{is_seq_cst, order_of, position_of, is_fence, is_read, is_modification, on_one_cell}
@@ -29,11 +29,11 @@ comes_first ex ey = on_one_cell ex ey && (nat_lt (position_of ex) (position_of e
 
 -- event a is event x, or a fence that happens before it
 abbrev pub is_or_fences : Rule → List Event → ℕ → Event → ℕ → Bool
-is_or_fences rule log a ea x = (a == x) || elim (is_fence ea) [ true ↦ happens_before rule log a x | false ↦ false ]
+is_or_fences rule log a ea x = (a == x) || (is_fence ea && happens_before rule log a x)
 
 -- event b is event y, or a fence that y happens before
 abbrev pub is_or_is_fenced : Rule → List Event → ℕ → ℕ → Event → Bool
-is_or_is_fenced rule log y b eb = (b == y) || elim (is_fence eb) [ true ↦ happens_before rule log y b | false ↦ false ]
+is_or_is_fenced rule log y b eb = (b == y) || (is_fence eb && happens_before rule log y b)
 
 abbrev pub has_seq_cst : ℕ → Event → Bool
 has_seq_cst i ei = is_seq_cst (order_of ei)

@@ -5,7 +5,7 @@
 -- other two stand only where the load is SEQ_CST, or the thread knows a SEQ_CST fence: let a be the load where it is
 -- SEQ_CST, else the last such fence. The second kind are the SEQ_CST accesses before a in the log. The third kind are the
 -- accesses that happen before a SEQ_CST fence that stands before a in the log.
-use Rattle.std.specs.Prelude.{ℕ, Bool, true, false, ◌&&◌, ◌||◌, nat_lt, List, ◌∷◌, length}
+use Rattle.std.specs.Prelude.{ℕ, Bool, ◌&&◌, ◌||◌, if◌then◌else◌, nat_lt, List, ◌∷◌, length}
 use Rattle.mu_base.specs.declared.status.Order.{Order}
 use Rattle.mu_base.specs.declared.status.Order.TheVariants.{NotAtomic}
 use Rattle.typed_heap.specs.declared.cells.CellId.{CellId}
@@ -26,22 +26,17 @@ is_known rule log thread i = happens_before rule (plain thread ∷ log) i (lengt
 
 -- the number of a, and 0 where there is none: no event is before number 0
 abbrev pub seq_cst_limit : Rule → List Event → ℕ → Order → ℕ
-seq_cst_limit rule log thread order = elim (is_seq_cst order) [
-  | true ↦ length log
-  | false ↦ last_number (λ a ea. elim (is_seq_cst_fence ea) [ true ↦ is_known rule log thread a | false ↦ false ]) log
-]
+seq_cst_limit rule log thread order =
+    if is_seq_cst order then length log else last_number (λ a ea. is_seq_cst_fence ea && is_known rule log thread a) log
 
 abbrev pub first_kind : Rule → List Event → ℕ → CellId → ℕ → Event → Bool
-first_kind rule log thread cell y ey = elim (accesses cell ey) [ true ↦ is_known rule log thread y | false ↦ false ]
+first_kind rule log thread cell y ey = accesses cell ey && is_known rule log thread y
 
 abbrev pub second_kind : ℕ → CellId → ℕ → Event → Bool
 second_kind limit cell y ey = accesses cell ey && is_seq_cst (order_of ey) && nat_lt y limit
 
 abbrev pub third_kind : Rule → List Event → ℕ → CellId → ℕ → Event → Bool
-third_kind rule log limit cell y ey = elim (accesses cell ey) [
-  | true ↦ any_event (λ b eb. elim (is_seq_cst_fence eb && nat_lt b limit) [ true ↦ happens_before rule log y b | false ↦ false ]) log
-  | false ↦ false
-]
+third_kind rule log limit cell y ey = accesses cell ey && any_event (λ b eb. is_seq_cst_fence eb && nat_lt b limit && happens_before rule log y b) log
 
 abbrev pub raises_floor : Rule → List Event → ℕ → ℕ → CellId → ℕ → Event → Bool
 raises_floor rule log limit thread cell y ey = first_kind rule log thread cell y ey || (second_kind limit cell y ey || third_kind rule log limit cell y ey)

@@ -1,6 +1,6 @@
 -- Happens-before (ISO/IEC 9899:2011, 5.1.2.4): the least transitive relation that holds sequenced-before and
 -- synchronizes-with. The initial write of each cell happens before every event.
-use Rattle.std.specs.Prelude.{◌≡◌, ℕ, ◌<◌, Bool, true, false, ◌||◌, ◌==◌, List, [], ◌∷◌, length, Some}
+use Rattle.std.specs.Prelude.{◌≡◌, ℕ, ◌<◌, Bool, true, false, ◌&&◌, ◌||◌, ◌==◌, if◌then◌else◌, List, [], ◌∷◌, length, Some}
 use Rattle.mem_axioms.specs.Logs.{event_at, past_of, any_event}
 use Rattle.mem_axioms.specs.Synchronizes.{synchronizes}
 use Rattle.mem_axioms.specs.declared.types.Rule.{Rule}
@@ -14,10 +14,10 @@ precedes rule past i ei e = (ei.thread == e.thread) || synchronizes rule past i 
 -- Event i happens before event j, judged by the last step on the way: some k precedes j, and k is i or i happens before k.
 unfoldable pub happens_before : Rule → List Event → ℕ → ℕ → Bool
 happens_before rule [] i j = false
-happens_before rule (e ∷ past) i j = elim (j == length past) [
-  | true ↦ any_event (λ k ek. elim (precedes rule past k ek e) [ true ↦ elim (k == i) [ true ↦ true | false ↦ happens_before rule past i k ] | false ↦ false ]) past
-  | false ↦ happens_before rule past i j
-]
+happens_before rule (e ∷ past) i j =
+    if j == length past
+    then any_event (λ k ek. precedes rule past k ek e && ((k == i) || happens_before rule past i k)) past
+    else happens_before rule past i j
 
 -- The same as a relation.
 pub data Before (rule : Rule) (log : List Event) : ℕ → ℕ → Type 0 where

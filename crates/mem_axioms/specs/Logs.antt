@@ -1,5 +1,5 @@
 -- Looking into a log, whose events stand newest first and are numbered from the oldest, which has number 0.
-use Rattle.std.specs.Prelude.{ℕ, suc, Bool, true, false, ◌==◌, if◌then◌else◌, max, List, [], ◌∷◌, length, Some, None, Option}
+use Rattle.std.specs.Prelude.{ℕ, suc, Bool, true, false, not, ◌==◌, if◌then◌else◌, ◌||◌, ◌&&◌, max, List, [], ◌∷◌, length, Some, None, Option}
 use Rattle.typed_heap.specs.declared.cells.CellId.{CellId}
 use Rattle.mem_axioms.specs.declared.types.Event.{Event}
 use Rattle.mem_axioms.specs.Events.{modifies, position_of}
@@ -17,16 +17,16 @@ past_of (e ∷ past) n = elim (n == length past) [ true ↦ past | false ↦ pas
 -- some event, with its number, passes the test
 abbrev pub any_event : (ℕ → Event → Bool) → List Event → Bool
 any_event test [] = false
-any_event test (e ∷ past) = elim (test (length past) e) [ true ↦ true | false ↦ any_event test past ]
+any_event test (e ∷ past) = test (length past) e || any_event test past
 
 -- each event does
 abbrev pub each_event : (ℕ → Event → Bool) → List Event → Bool
 each_event test [] = true
-each_event test (e ∷ past) = elim (test (length past) e) [ true ↦ each_event test past | false ↦ false ]
+each_event test (e ∷ past) = test (length past) e && each_event test past
 
 -- each event that passes the first test passes the second, which is asked of no other
 abbrev pub each_where : (ℕ → Event → Bool) → (ℕ → Event → Bool) → List Event → Bool
-each_where which test log = each_event (λ i ei. elim (which i ei) [ true ↦ test i ei | false ↦ true ]) log
+each_where which test log = each_event (λ i ei. not (which i ei) || test i ei) log
 
 -- how many events pass the test
 abbrev pub count_events : (Event → Bool) → List Event → ℕ
@@ -44,15 +44,12 @@ least_event test (e ∷ past) = elim (least_event test past) [
 -- the greatest number of an event that passes, or 0
 abbrev pub last_number : (ℕ → Event → Bool) → List Event → ℕ
 last_number test [] = 0
-last_number test (e ∷ past) = elim (test (length past) e) [ true ↦ length past | false ↦ last_number test past ]
+last_number test (e ∷ past) = if test (length past) e then length past else last_number test past
 
 -- the greatest position of the events that pass, or 0
 abbrev pub greatest_position : (ℕ → Event → Bool) → List Event → ℕ
 greatest_position test [] = 0
-greatest_position test (e ∷ past) = elim (test (length past) e) [
-  | true ↦ max (position_of e) (greatest_position test past)
-  | false ↦ greatest_position test past
-]
+greatest_position test (e ∷ past) = if test (length past) e then max (position_of e) (greatest_position test past) else greatest_position test past
 
 -- the newest position of a cell: how many writes and updates it has
 abbrev pub newest : List Event → CellId → ℕ

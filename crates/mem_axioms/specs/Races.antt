@@ -2,7 +2,7 @@
 --
 -- Two events race where both access one cell, their threads differ, one of them is a write or update, one of them is
 -- NOT_ATOMIC, and the earlier does not happen before the later. The later event counts with what it synchronizes with.
-use Rattle.std.specs.Prelude.{◌≡◌, ℕ, ◌<◌, Bool, true, false, not, ◌&&◌, ◌||◌, ◌==◌, is_none, List, [], ◌∷◌, length, Option, Some}
+use Rattle.std.specs.Prelude.{◌≡◌, ℕ, ◌<◌, Bool, true, not, ◌&&◌, ◌||◌, ◌==◌, is_none, List, [], ◌∷◌, length, Option, Some}
 use Rattle.mem_axioms.specs.Events.{is_atomic, order_of, is_modification, on_one_cell}
 use Rattle.mem_axioms.specs.Logs.{event_at, least_event}
 use Rattle.mem_axioms.specs.HappensBefore.{happens_before, Before}
@@ -16,7 +16,7 @@ may_race ei e = on_one_cell ei e && not (ei.thread == e.thread) && (is_modificat
 
 -- Event i of the past, which is ei, races with the event e that comes next.
 abbrev pub races : Rule → List Event → Event → ℕ → Event → Bool
-races rule past e i ei = elim (may_race ei e) [ true ↦ not (happens_before rule (e ∷ past) i (length past)) | false ↦ false ]
+races rule past e i ei = may_race ei e && not (happens_before rule (e ∷ past) i (length past))
 
 -- The least event that races with the event that comes next.
 unfoldable pub race : Rule → List Event → Event → Option ℕ
