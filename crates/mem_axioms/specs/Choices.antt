@@ -1,6 +1,6 @@
 -- The options of an access: what it may read.
 use Rattle.std.specs.Prelude.{ℕ, zero, suc, Bool, true, false, not, ◌||◌, if◌then◌else◌, List, [], ◌∷◌, ◌++◌, map, filter}
-use Rattle.mu_base.specs.declared.status.Order.{Order}
+use Rattle.mu_base.specs.declared.order.Order.{Order}
 use Rattle.mu_values.specs.declared.scalars.Scalar.{Scalar}
 use Rattle.mu_values.specs.SameScalar.{same_scalar}
 use Rattle.typed_heap.specs.declared.cells.CellId.{CellId}

@@ -1,7 +1,7 @@
 -- Coherence: reads of one cell do not go back. Clauses are of ISO/IEC 14882:2020, 6.9.2 (the four coherence rules).
 use Rattle.std.specs.Prelude.{◌≡◌, true, false, List, [], ◌∷◌, refl}
-use Rattle.mu_base.specs.declared.status.Order.{Order}
-use Rattle.mu_base.specs.declared.status.Order.TheVariants.{NotAtomic, Relaxed, Acquire, Release}
+use Rattle.mu_base.specs.declared.order.Order.{Order}
+use Rattle.mu_base.specs.declared.order.Order.TheVariants.{NotAtomic, Relaxed, Acquire, Release}
 use Rattle.mem_axioms.specs.HappensBefore.{happens_before}
 use Rattle.mem_axioms.specs.Axioms.{is_coherent, is_seq_cst_ordered, meets_axioms}
 use Rattle.mem_axioms.specs.Choices.{options}

@@ -1,6 +1,6 @@
 -- The options of a comparison: thread 1 compares x, which thread 0 has set from 0 to 1 (ISO/IEC 9899:2011, 7.17.7.4).
 use Rattle.std.specs.Prelude.{◌≡◌, ℕ, true, false, List, [], ◌∷◌, refl}
-use Rattle.mu_base.specs.declared.status.Order.TheVariants.{Relaxed, SeqCst}
+use Rattle.mu_base.specs.declared.order.Order.TheVariants.{Relaxed, SeqCst}
 use Rattle.mem_axioms.specs.HappensBefore.{happens_before}
 use Rattle.mem_axioms.specs.Axioms.{is_coherent, is_seq_cst_ordered, meets_axioms}
 use Rattle.mem_axioms.specs.Choices.{options, choices}

@@ -1,6 +1,6 @@
 -- Short names that the worked examples share. A log is written newest event first.
 use Rattle.std.specs.Prelude.{ℕ}
-use Rattle.mu_base.specs.declared.status.Order.{Order}
+use Rattle.mu_base.specs.declared.order.Order.{Order}
 use Rattle.mu_values.specs.declared.scalars.Scalar.{Scalar}
 use Rattle.mu_values.specs.declared.scalars.Scalar.TheVariants.{Int}
 use Rattle.typed_heap.specs.declared.cells.CellId.{CellId}

@@ -6,8 +6,8 @@
 -- SEQ_CST, else the last such fence. The second kind are the SEQ_CST accesses before a in the log. The third kind are the
 -- accesses that happen before a SEQ_CST fence that stands before a in the log.
 use Rattle.std.specs.Prelude.{ℕ, Bool, ◌&&◌, ◌||◌, if◌then◌else◌, nat_lt, List, ◌∷◌, length}
-use Rattle.mu_base.specs.declared.status.Order.{Order}
-use Rattle.mu_base.specs.declared.status.Order.TheVariants.{NotAtomic}
+use Rattle.mu_base.specs.declared.order.Order.{Order}
+use Rattle.mu_base.specs.declared.order.Order.TheVariants.{NotAtomic}
 use Rattle.typed_heap.specs.declared.cells.CellId.{CellId}
 use Rattle.mem_axioms.specs.Events.{accesses, order_of, is_seq_cst, is_seq_cst_fence}
 use Rattle.mem_axioms.specs.Logs.{any_event, last_number, greatest_position}

@@ -1,8 +1,8 @@
 -- Independent reads of independent writes: threads 0 and 1 write x and y; thread 2 reads x, then y, thread 3 reads y, then x.
 -- May they disagree about which write came first? Clauses are of ISO/IEC 14882:2020, 31.4.
 use Rattle.std.specs.Prelude.{◌≡◌, false, List, [], ◌∷◌, refl}
-use Rattle.mu_base.specs.declared.status.Order.{Order}
-use Rattle.mu_base.specs.declared.status.Order.TheVariants.{Relaxed, Acquire, Release, AcqRel, SeqCst}
+use Rattle.mu_base.specs.declared.order.Order.{Order}
+use Rattle.mu_base.specs.declared.order.Order.TheVariants.{Relaxed, Acquire, Release, AcqRel, SeqCst}
 use Rattle.mem_axioms.specs.HappensBefore.{happens_before}
 use Rattle.mem_axioms.specs.Axioms.{is_coherent, is_seq_cst_ordered, meets_axioms}
 use Rattle.mem_axioms.specs.Choices.{options}

@@ -1,8 +1,8 @@
 -- Message passing: thread 0 writes the data x, then the flag y; thread 1 reads the flag, then the data.
 -- Clauses are of ISO/IEC 9899:2011, 5.1.2.4 (happens-before, races) and 7.17.3, 7.17.4 (orders, fences).
 use Rattle.std.specs.Prelude.{◌≡◌, List, [], ◌∷◌, Some, None, refl}
-use Rattle.mu_base.specs.declared.status.Order.{Order}
-use Rattle.mu_base.specs.declared.status.Order.TheVariants.{NotAtomic, Relaxed, Consume, Acquire, Release, SeqCst}
+use Rattle.mu_base.specs.declared.order.Order.{Order}
+use Rattle.mu_base.specs.declared.order.Order.TheVariants.{NotAtomic, Relaxed, Consume, Acquire, Release, SeqCst}
 use Rattle.mem_axioms.specs.HappensBefore.{happens_before}
 use Rattle.mem_axioms.specs.Axioms.{is_coherent, is_seq_cst_ordered, meets_axioms}
 use Rattle.mem_axioms.specs.Races.{race}

@@ -2,7 +2,7 @@
 -- position and reads the data. Which writes of the flag may stand between? Under C11 updates and the own thread's atomic
 -- writes (ISO/IEC 9899:2011, 5.1.2.4); under Rmw updates alone (ISO/IEC 14882:2020, 6.9.2).
 use Rattle.std.specs.Prelude.{◌≡◌, List, [], ◌∷◌, refl}
-use Rattle.mu_base.specs.declared.status.Order.TheVariants.{NotAtomic, Relaxed, Acquire, Release, AcqRel}
+use Rattle.mu_base.specs.declared.order.Order.TheVariants.{NotAtomic, Relaxed, Acquire, Release, AcqRel}
 use Rattle.mem_axioms.specs.HappensBefore.{happens_before}
 use Rattle.mem_axioms.specs.Axioms.{is_coherent, is_seq_cst_ordered, meets_axioms}
 use Rattle.mem_axioms.specs.Choices.{options}

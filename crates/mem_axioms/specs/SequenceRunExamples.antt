@@ -1,6 +1,6 @@
 -- Release sequences in two logs of whole runs, with the races that they decide.
 use Rattle.std.specs.Prelude.{◌≡◌, true, List, [], ◌∷◌, Some, None, refl}
-use Rattle.mu_base.specs.declared.status.Order.TheVariants.{NotAtomic, Relaxed, Acquire, Release}
+use Rattle.mu_base.specs.declared.order.Order.TheVariants.{NotAtomic, Relaxed, Acquire, Release}
 use Rattle.mem_axioms.specs.HappensBefore.{happens_before}
 use Rattle.mem_axioms.specs.Axioms.{is_coherent, is_seq_cst_ordered, meets_axioms}
 use Rattle.mem_axioms.specs.Races.{race}

@@ -1,6 +1,6 @@
 -- A stack that moves to another thread takes along what its last thread knew when it left it.
 use Rattle.std.specs.Prelude.{◌≡◌, List, [], ◌∷◌, None, refl}
-use Rattle.mu_base.specs.declared.status.Order.TheVariants.{NotAtomic, Relaxed}
+use Rattle.mu_base.specs.declared.order.Order.TheVariants.{NotAtomic, Relaxed}
 use Rattle.mu_values.specs.declared.scalars.Scalar.{Scalar}
 use Rattle.mu_values.specs.declared.scalars.Scalar.TheVariants.{Null, Stack}
 use Rattle.typed_heap.specs.declared.cells.CellId.{CellId}

@@ -1,8 +1,8 @@
 -- Store buffering: thread 0 writes x and reads y, thread 1 writes y and reads x. Is 0 read twice?
 -- Clauses are of ISO/IEC 14882:2020, 31.4 (order of SEQ_CST) and 6.9.2 (happens-before, coherence).
 use Rattle.std.specs.Prelude.{◌≡◌, List, [], ◌∷◌, refl}
-use Rattle.mu_base.specs.declared.status.Order.{Order}
-use Rattle.mu_base.specs.declared.status.Order.TheVariants.{Relaxed, Acquire, Release, AcqRel, SeqCst}
+use Rattle.mu_base.specs.declared.order.Order.{Order}
+use Rattle.mu_base.specs.declared.order.Order.TheVariants.{Relaxed, Acquire, Release, AcqRel, SeqCst}
 use Rattle.mem_axioms.specs.HappensBefore.{happens_before}
 use Rattle.mem_axioms.specs.Axioms.{is_coherent, is_seq_cst_ordered, meets_axioms}
 use Rattle.mem_axioms.specs.Choices.{options}

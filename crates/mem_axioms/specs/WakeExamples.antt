@@ -1,6 +1,6 @@
 -- Wakes, the making of threads, and when an event may come next.
 use Rattle.std.specs.Prelude.{◌≡◌, true, false, List, [], ◌∷◌, Some, None, refl}
-use Rattle.mu_base.specs.declared.status.Order.TheVariants.{NotAtomic, Relaxed}
+use Rattle.mu_base.specs.declared.order.Order.TheVariants.{NotAtomic, Relaxed}
 use Rattle.mem_axioms.specs.HappensBefore.{happens_before}
 use Rattle.mem_axioms.specs.Form.{has_form, has_form_alone}
 use Rattle.mem_axioms.specs.Axioms.{is_coherent, is_seq_cst_ordered, meets_axioms}
