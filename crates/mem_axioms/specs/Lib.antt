@@ -37,6 +37,8 @@ pub mod Choices
 pub mod Floor
 pub mod Objects
 pub mod EventFits
+pub mod Rooms
+pub mod Sound
 pub mod ExampleNames
 pub mod StackExamples
 pub mod StoreBufferingExamples

@@ -1,6 +1,8 @@
 //! The memory of a run: its events, its axioms, and the memory that judges whole logs.
 #![tactic(auto)]
 
+mod memory;
 mod types;
 
-pub use types::{Chosen, Event, Kind, Mode, Race, Rule, Wanted};
+pub use memory::Memory;
+pub use types::{Chosen, Event, Kind, Mode, Race, Room, Rule, Wanted};

@@ -111,3 +111,14 @@ pub struct Race {
     /// The number of the earlier event: of all that race with the new one, the least.
     pub earlier: u32,
 }
+
+/// Room for the events of one step.
+#[derive(Clone, Copy, Debug, PartialEq, Eq)]
+pub struct Room {
+    /// The thread whose accesses it is for.
+    pub thread: u32,
+    /// The cell whose accesses it is for, if there are accesses.
+    pub cell: Option<CellId>,
+    /// How many events it is for.
+    pub events: u32,
+}
