@@ -1,7 +1,9 @@
 //! The memory of a run: its events, its axioms, and the memory that judges whole logs.
 #![tactic(auto)]
 
+mod event_facts;
 mod memory;
+mod synchronizing;
 mod types;
 
 pub use memory::Memory;
