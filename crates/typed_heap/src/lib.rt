@@ -2,5 +2,7 @@
 #![tactic(auto)]
 
 mod cells;
+mod laws;
 
 pub use cells::CellId;
+pub use laws::same_cell_is_equality;

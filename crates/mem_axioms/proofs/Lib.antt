@@ -1,0 +1,9 @@
+pub mod Numbers
+pub mod Steps
+pub mod Least
+pub mod Positions
+pub mod Relations
+pub mod Added
+pub mod Kept
+pub mod Floors
+pub mod Racings
