@@ -1,3 +1,5 @@
+pub mod Reversed
+pub mod RowLemmas
 pub mod Numbers
 pub mod Steps
 pub mod Least

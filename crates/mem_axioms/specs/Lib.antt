@@ -39,6 +39,7 @@ pub mod Objects
 pub mod EventFits
 pub mod Rooms
 pub mod Sound
+pub mod Flags
 pub mod ExampleNames
 pub mod StackExamples
 pub mod StoreBufferingExamples

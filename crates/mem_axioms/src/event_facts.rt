@@ -25,7 +25,8 @@ pub fn is_same_scalar(a: Scalar, b: Scalar) -> bool
         (Scalar::Int { width, bits }, Scalar::Int { width: w, bits: b }) => width == w && bits == b,
         (Scalar::Null, Scalar::Null) => true,
         (Scalar::Object(object), Scalar::Object(other)) => object == other,
-        (Scalar::Place { object, at }, Scalar::Place { object: o, at: a }) => object == o && at == a,
+        (Scalar::Place { object, at }, Scalar::Place { object: o, at: a }) => object == o
+            && at == a,
         (Scalar::Func(function), Scalar::Func(other)) => function == other,
         (Scalar::Stack(stack), Scalar::Stack(other)) => stack == other,
         (Scalar::Thread(thread), Scalar::Thread(other)) => thread == other,
@@ -51,7 +52,10 @@ pub fn seq_cst(order: Order) -> bool
 pub fn acquire(order: Order) -> bool
     ensures { result ≡ acquires order }
 {
-    matches!(order, Order::Consume | Order::Acquire | Order::AcqRel | Order::SeqCst)
+    matches!(
+        order,
+        Order::Consume | Order::Acquire | Order::AcqRel | Order::SeqCst
+    )
 }
 
 /// Whether a write, update or fence with this order is a release.
@@ -76,7 +80,11 @@ pub fn modifies_cell(event: &Event, cell: CellId) -> bool
     ensures { result ≡ modifies cell event.now }
 {
     match event.kind {
-        Kind::Access { mode, cell: other, .. } => !matches!(mode, Mode::Read) && is_same_cell(other, cell),
+        Kind::Access {
+            mode,
+            cell: other,
+            ..
+        } => !matches!(mode, Mode::Read) && is_same_cell(other, cell),
         _ => false,
     }
 }
@@ -127,7 +135,11 @@ pub fn taken_by(event: &Event) -> u32
     ensures { result ≡ position_taken event.now }
 {
     match event.kind {
-        Kind::Access { mode: Mode::Update, position, .. } => position.saturating_sub(1),
+        Kind::Access {
+            mode: Mode::Update,
+            position,
+            ..
+        } => position.saturating_sub(1),
         Kind::Access { position, .. } => position,
         _ => 0,
     }

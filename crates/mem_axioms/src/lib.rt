@@ -2,9 +2,12 @@
 #![tactic(auto)]
 
 mod event_facts;
+mod event_log;
 mod memory;
+mod rows;
 mod synchronizing;
 mod types;
 
+pub use event_log::Log;
 pub use memory::Memory;
 pub use types::{Chosen, Event, Kind, Mode, Race, Room, Rule, Wanted};

@@ -55,7 +55,13 @@ pub trait Memory {
         ensures same_rule { rule self.new ≡ rule self.old };
 
     /// How many options an access by the thread has. It has at least one.
-    fn options<L: Ledger>(&self, thread: u32, cell: CellId, wanted: &Wanted, steps: &mut Steps<L>) -> u32
+    fn options<L: Ledger>(
+        &self,
+        thread: u32,
+        cell: CellId,
+        wanted: &Wanted,
+        steps: &mut Steps<L>,
+    ) -> u32
         requires thread { is_thread (log self.now) thread ≡ true }
         requires cell { HasCell (objects self.now) cell }
         requires count { length (log self.now) + 1 < 4294967295 }
@@ -63,7 +69,14 @@ pub trait Memory {
         ensures some { 1 ≤ result };
 
     /// Option `n` of those that `options` counts, from 0.
-    fn choose<L: Ledger>(&self, thread: u32, cell: CellId, wanted: &Wanted, n: u32, steps: &mut Steps<L>) -> Chosen
+    fn choose<L: Ledger>(
+        &self,
+        thread: u32,
+        cell: CellId,
+        wanted: &Wanted,
+        n: u32,
+        steps: &mut Steps<L>,
+    ) -> Chosen
         requires thread { is_thread (log self.now) thread ≡ true }
         requires cell { HasCell (objects self.now) cell }
         requires count { length (log self.now) + 1 < 4294967295 }

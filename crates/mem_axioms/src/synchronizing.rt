@@ -6,7 +6,10 @@ ghost use Rattle.mem_axioms.specs.Logs.{any_event};
 ghost use Rattle.mem_axioms.specs.Synchronizes.{releases, continues, heads, fences, released, released_to, synchronizes_by_release, last_to_give_up, synchronizes_by_stack, makes_thread, synchronizes_by_wake, synchronizes};
 ghost use Rattle.mem_axioms.specs.HappensBefore.{precedes};
 
-use crate::event_facts::{acquire, atomic, fence, gives_up_stack, makes, modifies_cell, order_in, position_in, release, taken_by, update, wake};
+use crate::event_facts::{
+    acquire, atomic, fence, gives_up_stack, makes, modifies_cell, order_in, position_in, release,
+    taken_by, update, wake,
+};
 use crate::types::{Event, Kind, Mode, Rule};
 use typed_heap::CellId;
 
@@ -22,7 +25,14 @@ fn goes_on(rule: Rule, event: &Event, thread: u32) -> bool
 }
 
 /// Whether event `h`, which is `head`, heads a release sequence that has the position.
-fn heads_position(rule: Rule, events: &[Event], cell: CellId, position: u32, h: usize, head: &Event) -> bool
+fn heads_position(
+    rule: Rule,
+    events: &[Event],
+    cell: CellId,
+    position: u32,
+    h: usize,
+    head: &Event,
+) -> bool
     ensures { result ≡ heads rule (reverse events.now) cell position h head.now }
 {
     let mut at = position;
@@ -50,7 +60,14 @@ fn releases_by(i: usize, by: &Event, h: usize, head: &Event) -> bool
 }
 
 /// Whether event `i`, which is `by`, released the position.
-fn released_at(rule: Rule, events: &[Event], cell: CellId, position: u32, i: usize, by: &Event) -> bool
+fn released_at(
+    rule: Rule,
+    events: &[Event],
+    cell: CellId,
+    position: u32,
+    i: usize,
+    by: &Event,
+) -> bool
     ensures { result ≡ released rule (reverse events.now) cell position i by.now }
 {
     let mut found = false;
@@ -68,15 +85,30 @@ fn released_to_read(rule: Rule, events: &[Event], read: &Event, i: usize, by: &E
     ensures { result ≡ released_to rule (reverse events.now) read.now i by.now }
 {
     match read.kind {
-        Kind::Access { mode, cell, order, .. } => {
-            !matches!(mode, Mode::Write) && atomic(order) && released_at(rule, events, cell, taken_by(read), i, by)
+        Kind::Access {
+            mode,
+            cell,
+            order,
+            ..
+        } => {
+            !matches!(mode, Mode::Write)
+                && atomic(order)
+                && released_at(rule, events, cell, taken_by(read), i, by)
         }
         _ => false,
     }
 }
 
 /// Whether event `r`, which is `read`, is sequenced before `next` and takes what event `i` released.
-fn leaves_to(rule: Rule, events: &[Event], r: usize, read: &Event, i: usize, by: &Event, next: &Event) -> bool
+fn leaves_to(
+    rule: Rule,
+    events: &[Event],
+    r: usize,
+    read: &Event,
+    i: usize,
+    by: &Event,
+    next: &Event,
+) -> bool
     ensures { result ≡ (nat_lt i r && (read.now.thread == next.now.thread) && released_to rule (reverse events.now) read.now i by.now) }
 {
     i < r && read.thread == next.thread && released_to_read(rule, events, read, i, by)
@@ -100,7 +132,8 @@ fn reaches_acquire(rule: Rule, events: &[Event], i: usize, by: &Event, next: &Ev
     ensures { result ≡ synchronizes_by_release rule (reverse events.now) i by.now next.now }
 {
     acquire(order_in(next))
-        && (released_to_read(rule, events, next, i, by) || (fence(next) && left_for_fence(rule, events, i, by, next)))
+        && (released_to_read(rule, events, next, i, by)
+            || (fence(next) && left_for_fence(rule, events, i, by, next)))
 }
 
 /// Whether event `i` is the last that left or made the stack.
