@@ -40,6 +40,8 @@ pub mod EventFits
 pub mod Rooms
 pub mod Sound
 pub mod Flags
+pub mod Scalars
+pub mod PassedOver
 pub mod ExampleNames
 pub mod StackExamples
 pub mod StoreBufferingExamples

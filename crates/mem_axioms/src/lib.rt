@@ -1,9 +1,11 @@
 //! The memory of a run: its events, its axioms, and the memory that judges whole logs.
 #![tactic(auto)]
 
+mod cell_values;
 mod event_facts;
 mod event_log;
 mod memory;
+mod read_test;
 mod rows;
 mod synchronizing;
 mod types;
