@@ -7,5 +7,6 @@ pub mod Positions
 pub mod Relations
 pub mod Added
 pub mod Kept
+pub mod Passing
 pub mod Floors
 pub mod Racings
