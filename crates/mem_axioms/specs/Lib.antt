@@ -42,6 +42,8 @@ pub mod Sound
 pub mod Flags
 pub mod Scalars
 pub mod PassedOver
+pub mod Blanks
+pub mod Known
 pub mod ExampleNames
 pub mod StackExamples
 pub mod StoreBufferingExamples

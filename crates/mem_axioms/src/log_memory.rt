@@ -1,0 +1,129 @@
+// The memory that judges whole logs.
+ghost use Rattle.std.specs.Prelude.{◌≡◌, ◌+◌, ◌<◌, ◌≤◌, false, None, Some, List, [], ◌∷◌, ◌++◌, reverse, replicate, length, vec_len, vec_capacity, IfOk, OnOk, OnErr};
+ghost use Rattle.mem_axioms.specs.Sound.{IsSound};
+ghost use Rattle.mem_axioms.specs.Races.{race};
+ghost use Rattle.mem_axioms.specs.EventFits.{EventFits};
+ghost use Rattle.mem_axioms.specs.Rooms.{one_less};
+ghost use Rattle.mem_axioms.specs.Flags.{AreRowsOf};
+ghost use Rattle.mem_axioms.specs.Scalars.{scalars_of};
+ghost use Rattle.mem_axioms.specs.Blanks.{AreBlanks};
+ghost use Rattle.mem_axioms.specs.Known.{HasCells};
+
+use crate::rows::{Row, fill_row};
+use crate::types::{Event, Room, Rule};
+use mu_values::Value;
+use std::alloc::{AllocError, Global};
+use typed_heap::CellId;
+
+/// A memory that keeps the log of its run and tests each read and each event against the axioms on the whole of it. It is
+/// slow and plain: what an access may read, and whether it races, is the text of the definitions. Beside each event stands
+/// the row of the earlier ones that happen before it.
+#[derive(Drop)]
+pub struct LogMemory {
+    alloc: Global,
+    rule: Rule,
+    objects: Vec<Value>,
+    // In the order of the run.
+    events: Vec<Event>,
+    rows: Vec<Row>,
+    // Rows for the events that room was made for.
+    blanks: Vec<Row>,
+    room: Room,
+    ghost flags: { AreRowsOf rule (reverse events.items) rows.items },
+    ghost cells: { HasCells (scalars_of objects.items) (reverse events.items) },
+    ghost sound: { IsSound rule (scalars_of objects.items) (reverse events.items) },
+    ghost count: { length events.items < 4294967295 },
+    ghost events_fit: { vec_len events + room.events ≤ vec_capacity events },
+    ghost rows_fit: { vec_len rows + room.events ≤ vec_capacity rows },
+    ghost blanks_fit: { AreBlanks blanks.items (length events.items) room.events },
+}
+
+/// That many rows of that many flags, which are false.
+fn blank_rows(alloc: Global, count: u32, len: usize) -> Result<Vec<Row>, AllocError>
+    ensures { IfOk result (λ rows. rows.items ≡ replicate count (replicate len false)) }
+{
+    let mut rows = Vec::new(alloc);
+    for _ in 0..count {
+        rows.push(Row::blank(alloc, len)?)?;
+    }
+    Ok(rows)
+}
+
+/// Adds an item for which there is room.
+fn push_in_room<T: Drop>(items: &mut Vec<T>, item: T)
+    requires { vec_len items.old < vec_capacity items.old }
+    ensures items { items.new.items ≡ items.old.items ++ item ∷ [] }
+    ensures len { vec_len items.new ≡ vec_len items.old + 1 }
+    ensures capacity { vec_capacity items.old ≤ vec_capacity items.new }
+{
+    let Ok(()) = items.push(item) else {
+        unreachable!()
+    };
+}
+
+impl LogMemory {
+    /// A memory with an empty log, no objects and no room, whose release sequences follow the rule.
+    pub fn new(alloc: Global, rule: Rule) -> LogMemory {
+        LogMemory {
+            alloc,
+            rule,
+            objects: Vec::new(alloc),
+            events: Vec::new(alloc),
+            rows: Vec::new(alloc),
+            blanks: Vec::new(alloc),
+            room: Room {
+                thread: 0,
+                cell: None,
+                events: 0,
+            },
+        }
+    }
+
+    fn add(&mut self, event: Event)
+        requires fits { EventFits self.old.rule (scalars_of self.old.objects.items) (reverse self.old.events.items) event }
+        requires alone { race self.old.rule (reverse self.old.events.items) event ≡ None }
+        requires room { 0 < self.old.room.events }
+        requires count { length self.old.events.items + 1 < 4294967295 }
+        ensures events { self.new.events.items ≡ self.old.events.items ++ event ∷ [] }
+        ensures room { self.new.room ≡ one_less self.old.room }
+        ensures objects { self.new.objects.items ≡ self.old.objects.items }
+        ensures rule { self.new.rule ≡ self.old.rule }
+    {
+        let Some(mut row) = self.blanks.pop() else {
+            unreachable!()
+        };
+        fill_row(self.rule, &self.events, &self.rows, &event, &mut row);
+        push_in_room(&mut self.events, event);
+        push_in_room(&mut self.rows, row);
+        self.room.events -= 1;
+    }
+
+    fn make_room(&mut self, thread: u32, cell: Option<CellId>, events: u32) -> Result<(), AllocError>
+        ensures made { OnOk result (self.new.room ≡ record { thread = thread; cell = cell; events = events }) }
+        ensures events { self.new.events.items ≡ self.old.events.items }
+        ensures objects { self.new.objects.items ≡ self.old.objects.items }
+        ensures rule { self.new.rule ≡ self.old.rule }
+    {
+        let blanks = blank_rows(self.alloc, events, self.events.len() + events as usize)?;
+        self.events.reserve(events as usize)?;
+        self.rows.reserve(events as usize)?;
+        self.blanks = blanks;
+        self.room = Room {
+            thread,
+            cell,
+            events,
+        };
+        Ok(())
+    }
+
+    fn add_value(&mut self, initial: Value) -> Result<(), AllocError>
+        ensures added { OnOk result (scalars_of self.new.objects.items ≡ scalars_of self.old.objects.items ++ initial.members ∷ []) }
+        ensures refused { OnErr result (scalars_of self.new.objects.items ≡ scalars_of self.old.objects.items) }
+        ensures events { self.new.events.items ≡ self.old.events.items }
+        ensures room { self.new.room ≡ self.old.room }
+        ensures rule { self.new.rule ≡ self.old.rule }
+    {
+        self.objects.push(initial)?;
+        Ok(())
+    }
+}
