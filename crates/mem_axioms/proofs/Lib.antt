@@ -8,5 +8,7 @@ pub mod Relations
 pub mod Added
 pub mod Kept
 pub mod Passing
+pub mod Widening
+pub mod Growing
 pub mod Floors
 pub mod Racings
