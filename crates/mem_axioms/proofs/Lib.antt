@@ -10,5 +10,6 @@ pub mod Kept
 pub mod Passing
 pub mod Widening
 pub mod Growing
+pub mod Downward
 pub mod Floors
 pub mod Racings

@@ -1,5 +1,6 @@
 // Whether an event that comes next races.
-ghost use Rattle.std.specs.Prelude.{◌≡◌, ◌<◌, if◌then◌else◌, Some, None, length, reverse};
+ghost use Rattle.std.specs.Prelude.{◌≡◌, ◌+◌, ◌<◌, length, reverse, take};
+ghost use Rattle.mem_axioms.specs.Logs.{least_event};
 ghost use Rattle.mem_axioms.specs.Races.{may_race, races, race};
 ghost use Rattle.mem_axioms.specs.Flags.{AreRowsOf};
 
@@ -26,23 +27,24 @@ fn races_with(rule: Rule, events: &[Event], rows: &[Row], next: &Event, i: usize
     conflicts(event, next) && !happens_before_next(rule, events, rows, next, i)
 }
 
-/// The least racing event of those before event `i` and it, where `least` is that of those before it.
-fn least_with(
+/// The least racing event up to event `i`, where `least` is that of those before it.
+fn least_up_to(
     rule: Rule,
     events: &[Event],
     rows: &[Row],
     next: &Event,
     least: Option<u32>,
     i: usize,
-    event: &Event,
 ) -> Option<u32>
     requires rows { AreRowsOf rule (reverse events.now) rows.now }
-    requires count { i < 4294967295 }
-    ensures { result ≡ (elim least [ Some j ↦ Some j | None ↦ if races rule (reverse events.now) next.now i event.now then Some i else None ]) }
+    requires count { length events.now < 4294967295 }
+    requires i { i < length events.now }
+    requires least { least ≡ least_event (races rule (reverse events.now) next.now) (reverse (take i events.now)) }
+    ensures { result ≡ least_event (races rule (reverse events.now) next.now) (reverse (take (i + 1) events.now)) }
 {
     match least {
         Some(j) => Some(j),
-        None if races_with(rule, events, rows, next, i, event) => Some(i as u32),
+        None if races_with(rule, events, rows, next, i, &events[i]) => Some(i as u32),
         None => None,
     }
 }
@@ -55,7 +57,7 @@ pub fn least_race(rule: Rule, events: &[Event], rows: &[Row], next: &Event) -> O
 {
     let mut least = None;
     for i in 0..events.len() {
-        least = least_with(rule, events, rows, next, least, i, &events[i]);
+        least = least_up_to(rule, events, rows, next, least, i);
     }
     least
 }
