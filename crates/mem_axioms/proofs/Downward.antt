@@ -25,3 +25,35 @@ filter-below first second (suc n) = go (first n) (second n) refl (filter-below f
 pub below-same : (first second : ℕ → Bool) (n : ℕ) → ((p : ℕ) → p < n → first p ≡ second p) → below first n ≡ below second n
 below-same first second zero h = refl
 below-same first second (suc n) h = rw (h n (omega arith), below-same first second n (λ p l. h p (omega arith)))
+
+-- one position less
+pub below-in : (test : ℕ → Bool) (n left : ℕ) → 0 < n → test (n - 1) ≡ true → 0 < left → slice_get (below test n) left ≡ slice_get (below test (n - 1)) (left - 1)
+below-in test zero left h t l = absurd (omega arith)
+below-in test (suc n) zero h t l = absurd (omega arith)
+below-in test (suc n) (suc left) h t l =
+    let p : suc n - 1 ≡ n = omega arith in
+    let q : suc left - 1 ≡ left = omega arith in
+    let u : test n ≡ true = rw p at t in
+    rw (u, below, p, q)
+
+pub below-in-length : (test : ℕ → Bool) (n left : ℕ) → 0 < n → test (n - 1) ≡ true → 0 < left → left < length (below test n) → left - 1 < length (below test (n - 1))
+below-in-length test zero left h t l k = absurd (omega arith)
+below-in-length test (suc n) left h t l k =
+    let p : suc n - 1 ≡ n = omega arith in
+    let u : test n ≡ true = rw p at t in
+    let s : length (below test (suc n)) ≡ suc (length (below test n)) = rw (u, below) in
+    rw p (omega (arith, s))
+
+pub below-out : (test : ℕ → Bool) (n : ℕ) → 0 < n → test (n - 1) ≡ false → below test n ≡ below test (n - 1)
+below-out test zero h t = absurd (omega arith)
+below-out test (suc n) h t =
+    let p : suc n - 1 ≡ n = omega arith in
+    let u : test n ≡ false = rw p at t in
+    rw (u, below, p)
+
+pub below-here : (test : ℕ → Bool) (n : ℕ) → 0 < n → test (n - 1) ≡ true → slice_get (below test n) 0 ≡ Some (n - 1)
+below-here test zero h t = absurd (omega arith)
+below-here test (suc n) h t =
+    let p : suc n - 1 ≡ n = omega arith in
+    let u : test n ≡ true = rw p at t in
+    rw (u, below, p)

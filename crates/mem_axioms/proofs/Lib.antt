@@ -11,5 +11,6 @@ pub mod Passing
 pub mod Widening
 pub mod Growing
 pub mod Downward
+pub mod Offers
 pub mod Floors
 pub mod Racings

@@ -44,6 +44,7 @@ pub mod Scalars
 pub mod PassedOver
 pub mod Blanks
 pub mod Known
+pub mod Reads
 pub mod ExampleNames
 pub mod StackExamples
 pub mod StoreBufferingExamples

@@ -1,5 +1,5 @@
 // The positions of a cell, and their values.
-ghost use Rattle.std.specs.Prelude.{◌≡◌, ◌<◌, reverse, length};
+ghost use Rattle.std.specs.Prelude.{◌≡◌, ◌<◌, ◌≤◌, reverse, length};
 ghost use Rattle.mem_axioms.specs.Logs.{newest};
 ghost use Rattle.mem_axioms.specs.Form.{value_at};
 ghost use Rattle.mem_axioms.specs.Objects.{initial_of, HasCell};
@@ -13,7 +13,8 @@ use typed_heap::CellId;
 /// The newest position of the cell.
 pub fn newest_position(events: &[Event], cell: CellId) -> u32
     requires { length events.now < 4294967295 }
-    ensures { result ≡ newest (reverse events.now) cell }
+    ensures newest { result ≡ newest (reverse events.now) cell }
+    ensures at_most { result ≤ length events.now }
 {
     let mut count = 0;
     for event in events {

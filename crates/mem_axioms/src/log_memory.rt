@@ -1,5 +1,9 @@
 // The memory that judges whole logs.
-ghost use Rattle.std.specs.Prelude.{◌≡◌, ◌+◌, ◌<◌, ◌≤◌, false, None, Some, List, [], ◌∷◌, ◌++◌, reverse, replicate, length, vec_len, vec_capacity, IfOk, OnOk, OnErr};
+ghost use Rattle.std.specs.Prelude.{◌≡◌, ◌+◌, ◌<◌, ◌≤◌, ◌&&◌, false, None, Some, List, [], ◌∷◌, ◌++◌, reverse, replicate, length, slice_get, vec_len, vec_capacity, IfOk, OnOk, OnErr};
+ghost use Rattle.mem_axioms.specs.Logs.{newest};
+ghost use Rattle.mem_axioms.specs.Choices.{is_option, chosen_at, holds};
+ghost use Rattle.mem_axioms.specs.Objects.{initial_of, HasCell};
+ghost use Rattle.mem_axioms.specs.Reads.{is_kept, reads};
 ghost use Rattle.mem_axioms.specs.Sound.{IsSound};
 ghost use Rattle.mem_axioms.specs.Races.{race};
 ghost use Rattle.mem_axioms.specs.EventFits.{EventFits};
@@ -9,9 +13,13 @@ ghost use Rattle.mem_axioms.specs.Scalars.{scalars_of};
 ghost use Rattle.mem_axioms.specs.Blanks.{AreBlanks};
 ghost use Rattle.mem_axioms.specs.Known.{HasCells};
 
+use crate::cell_values::{newest_position, value_at_position};
+use crate::event_facts::is_same_scalar;
+use crate::read_test::may_come_next;
 use crate::rows::{Row, fill_row};
-use crate::types::{Event, Room, Rule};
-use mu_values::Value;
+use crate::types::{Chosen, Event, Kind, Mode, Room, Rule};
+use mu_base::Order;
+use mu_values::{Scalar, Value};
 use std::alloc::{AllocError, Global};
 use typed_heap::CellId;
 
@@ -125,5 +133,92 @@ impl LogMemory {
     {
         self.objects.push(initial)?;
         Ok(())
+    }
+
+    /// Whether the position is an option of a load.
+    fn is_load_option(&self, thread: u32, cell: CellId, order: Order, position: u32) -> bool
+        requires cell { HasCell (scalars_of self.now.objects.items) cell }
+        requires position { position ≤ newest (reverse self.now.events.items) cell }
+        ensures { result ≡ is_option self.now.rule (initial_of (scalars_of self.now.objects.items)) (reverse self.now.events.items) thread cell order position }
+    {
+        let read = Event {
+            thread,
+            kind: Kind::Access {
+                mode: Mode::Read,
+                cell,
+                order,
+                position,
+                value: value_at_position(&self.objects, &self.events, cell, position),
+            },
+        };
+        may_come_next(self.rule, &self.events, &self.rows, &read)
+    }
+
+    /// Whether the value at the position is the scalar.
+    fn holds(&self, cell: CellId, scalar: Scalar, position: u32) -> bool
+        requires { HasCell (scalars_of self.now.objects.items) cell }
+        ensures { result ≡ holds (initial_of (scalars_of self.now.objects.items)) (reverse self.now.events.items) cell scalar position }
+    {
+        is_same_scalar(value_at_position(&self.objects, &self.events, cell, position), scalar)
+    }
+
+    /// Whether the position may be read: it is an option of a load, and its value is not the excluded one.
+    fn may_take(&self, thread: u32, cell: CellId, order: Order, excluded: Option<Scalar>, position: u32) -> bool
+        requires cell { HasCell (scalars_of self.now.objects.items) cell }
+        requires position { position ≤ newest (reverse self.now.events.items) cell }
+        ensures { result ≡ (is_option self.now.rule (initial_of (scalars_of self.now.objects.items)) (reverse self.now.events.items) thread cell order position && is_kept (initial_of (scalars_of self.now.objects.items)) (reverse self.now.events.items) cell excluded position) }
+    {
+        let kept = match excluded {
+            Some(scalar) => !self.holds(cell, scalar, position),
+            None => true,
+        };
+        kept && self.is_load_option(thread, cell, order, position)
+    }
+
+    /// How many positions may be read.
+    fn count_reads(&self, thread: u32, cell: CellId, order: Order, excluded: Option<Scalar>) -> u32
+        requires cell { HasCell (scalars_of self.now.objects.items) cell }
+        requires count { length self.now.events.items + 1 < 4294967295 }
+        ensures count { result ≡ length (reads self.now.rule (initial_of (scalars_of self.now.objects.items)) (reverse self.now.events.items) thread cell order excluded) }
+        ensures at_most { result ≤ length self.now.events.items + 1 }
+    {
+        let mut count = 0;
+        for position in 0..newest_position(&self.events, cell) + 1 {
+            if self.may_take(thread, cell, order, excluded, position) {
+                count += 1;
+            }
+        }
+        count
+    }
+
+    /// The n-th of the positions that may be read, from the newest down.
+    fn nth_read(&self, thread: u32, cell: CellId, order: Order, excluded: Option<Scalar>, n: u32) -> u32
+        requires cell { HasCell (scalars_of self.now.objects.items) cell }
+        requires count { length self.now.events.items + 1 < 4294967295 }
+        requires n { n < length (reads self.now.rule (initial_of (scalars_of self.now.objects.items)) (reverse self.now.events.items) thread cell order excluded) }
+        ensures { slice_get (reads self.now.rule (initial_of (scalars_of self.now.objects.items)) (reverse self.now.events.items) thread cell order excluded) n ≡ Some result }
+    {
+        let mut left = n;
+        for position in (0..newest_position(&self.events, cell) + 1).rev() {
+            if self.may_take(thread, cell, order, excluded, position) {
+                if left == 0 {
+                    return position;
+                }
+                left -= 1;
+            }
+        }
+        unreachable!()
+    }
+
+    /// The position as an option.
+    fn chosen(&self, cell: CellId, success: bool, position: u32) -> Chosen
+        requires { HasCell (scalars_of self.now.objects.items) cell }
+        ensures { result ≡ chosen_at (initial_of (scalars_of self.now.objects.items)) (reverse self.now.events.items) cell success position }
+    {
+        Chosen {
+            position,
+            value: value_at_position(&self.objects, &self.events, cell, position),
+            success,
+        }
     }
 }
