@@ -1,5 +1,5 @@
 -- The options of what is wanted, by the positions that may be read.
-use Rattle.std.proofs.Common.{◌≡◌, ℕ, suc, ◌+◌, ◌-◌, ◌<◌, ◌≤◌, Bool, true, false, not, ◌&&◌, ◌||◌, if◌then◌else◌, cond, Option, Some, None, List, [], ◌∷◌, ◌++◌, length, length-append, filter, map, slice_get, refl, sym, ap, ◌∙◌, inl, inr, ◌⊎◌, arith}
+use Rattle.std.proofs.Common.{◌≡◌, ℕ, zero, suc, ◌+◌, ◌-◌, ◌<◌, ◌≤◌, Bool, true, false, not, ◌&&◌, ◌||◌, if◌then◌else◌, cond, Option, Some, None, List, [], ◌∷◌, ◌++◌, length, length-append, filter, map, slice_get, refl, sym, ap, ◌∙◌, inl, inr, ◌⊎◌, arith}
 use Rattle.std.proofs.lemmas.List.{length-map}
 use Rattle.std.proofs.lemmas.Option.{slice_get-map}
 use Rattle.std.proofs.lemmas.Bool.{false≢true}
@@ -22,6 +22,10 @@ use Rattle.mem_axioms.proofs.Downward.{below, down_from-below, filter-below}
 filter-all : {X : Type 0} (xs : List X) → filter (λ x. true) xs ≡ xs
 filter-all [] = refl
 filter-all (x ∷ xs) = ap (λ ys. x ∷ ys) (filter-all xs)
+
+one_on : (first : Chosen) (rest : List Chosen) (n : ℕ) → 0 < n → slice_get (first ∷ rest) n ≡ slice_get rest (n - 1)
+one_on first rest zero h = absurd (omega arith)
+one_on first rest (suc n) h = let p : suc n - 1 ≡ n = omega arith in rw p
 
 module _ (rule : Rule) (initial : CellId → Scalar) (log : List Event) (thread : ℕ) (cell : CellId) where
   -- a position that may be read
@@ -75,3 +79,36 @@ module _ (rule : Rule) (initial : CellId → Scalar) (log : List Event) (thread 
     pub some-compare : (failure : Order) (expected : Scalar) (weak : Bool) → holds initial log cell expected (newest log cell) ≡ false → 1 ≤ length (reads rule initial log thread cell failure (excluded_by weak expected))
     some-compare failure expected true h = newest-first failure None refl
     some-compare failure expected false h = newest-first failure (Some expected) (rw h)
+
+  -- how many options there are
+  pub count-load : (order : Order) → length (reads rule initial log thread cell order None) ≡ length (choices rule initial log thread cell (Load order))
+  count-load order = sym (ap (λ (options : List Chosen). length options) (choices-load order) ∙ length-map (reads rule initial log thread cell order None) (chosen_at initial log cell false))
+
+  pub count-swap : 1 ≡ length (choices rule initial log thread cell Swap)
+  count-swap = sym (ap (λ (options : List Chosen). length options) choices-swap)
+
+  module _ (success failure : Order) (expected : Scalar) (weak : Bool) where
+    with_success : holds initial log cell expected (newest log cell) ≡ true → choices rule initial log thread cell (Compare success failure expected weak) ≡ chosen_at initial log cell true (newest log cell) ∷ map (chosen_at initial log cell false) (reads rule initial log thread cell failure (excluded_by weak expected))
+    with_success h = rw h at (choices-compare success failure expected weak)
+
+    without_success : holds initial log cell expected (newest log cell) ≡ false → choices rule initial log thread cell (Compare success failure expected weak) ≡ map (chosen_at initial log cell false) (reads rule initial log thread cell failure (excluded_by weak expected))
+    without_success h = rw h at (choices-compare success failure expected weak)
+
+    pub count-success : holds initial log cell expected (newest log cell) ≡ true → length (reads rule initial log thread cell failure (excluded_by weak expected)) + 1 ≡ length (choices rule initial log thread cell (Compare success failure expected weak))
+    count-success h =
+        let p = ap (λ (options : List Chosen). length options) (with_success h) in
+        let q = length-map (reads rule initial log thread cell failure (excluded_by weak expected)) (chosen_at initial log cell false) in
+        omega (arith, p, q)
+
+    pub count-failure : holds initial log cell expected (newest log cell) ≡ false → length (reads rule initial log thread cell failure (excluded_by weak expected)) ≡ length (choices rule initial log thread cell (Compare success failure expected weak))
+    count-failure h = sym (ap (λ (options : List Chosen). length options) (without_success h) ∙ length-map (reads rule initial log thread cell failure (excluded_by weak expected)) (chosen_at initial log cell false))
+
+    -- which the n-th is
+    pub nth-success : holds initial log cell expected (newest log cell) ≡ true → slice_get (choices rule initial log thread cell (Compare success failure expected weak)) 0 ≡ Some (chosen_at initial log cell true (newest log cell))
+    nth-success h = ap (λ (options : List Chosen). slice_get options 0) (with_success h)
+
+    pub nth-after : (n : ℕ) → holds initial log cell expected (newest log cell) ≡ true → 0 < n → slice_get (choices rule initial log thread cell (Compare success failure expected weak)) n ≡ slice_get (map (chosen_at initial log cell false) (reads rule initial log thread cell failure (excluded_by weak expected))) (n - 1)
+    nth-after n h l = ap (λ (options : List Chosen). slice_get options n) (with_success h) ∙ one_on (chosen_at initial log cell true (newest log cell)) (map (chosen_at initial log cell false) (reads rule initial log thread cell failure (excluded_by weak expected))) n l
+
+    pub nth-failure : (n : ℕ) → holds initial log cell expected (newest log cell) ≡ false → slice_get (choices rule initial log thread cell (Compare success failure expected weak)) n ≡ slice_get (map (chosen_at initial log cell false) (reads rule initial log thread cell failure (excluded_by weak expected))) n
+    nth-failure n h = ap (λ (options : List Chosen). slice_get options n) (without_success h)

@@ -1,9 +1,9 @@
 // The memory that judges whole logs.
-ghost use Rattle.std.specs.Prelude.{◌≡◌, ◌+◌, ◌<◌, ◌≤◌, ◌&&◌, false, None, Some, List, [], ◌∷◌, ◌++◌, reverse, replicate, length, slice_get, vec_len, vec_capacity, IfOk, OnOk, OnErr};
+ghost use Rattle.std.specs.Prelude.{◌≡◌, ◌+◌, ◌<◌, ◌≤◌, ◌&&◌, true, false, None, Some, List, [], ◌∷◌, ◌++◌, map, reverse, replicate, length, slice_get, vec_len, vec_capacity, IfOk, OnOk, OnErr};
 ghost use Rattle.mem_axioms.specs.Logs.{newest};
 ghost use Rattle.mem_axioms.specs.Choices.{is_option, chosen_at, holds};
 ghost use Rattle.mem_axioms.specs.Objects.{initial_of, HasCell};
-ghost use Rattle.mem_axioms.specs.Reads.{is_kept, reads};
+ghost use Rattle.mem_axioms.specs.Reads.{is_kept, reads, excluded_by};
 ghost use Rattle.mem_axioms.specs.Sound.{IsSound};
 ghost use Rattle.mem_axioms.specs.Races.{race};
 ghost use Rattle.mem_axioms.specs.EventFits.{EventFits};
@@ -15,12 +15,15 @@ ghost use Rattle.mem_axioms.specs.Known.{HasCells};
 
 use crate::cell_values::{newest_position, value_at_position};
 use crate::event_facts::is_same_scalar;
+use crate::memory::Memory;
+use crate::racing::least_race;
 use crate::read_test::may_come_next;
 use crate::rows::{Row, fill_row};
-use crate::types::{Chosen, Event, Kind, Mode, Room, Rule};
-use mu_base::Order;
+use crate::types::{Chosen, Event, Kind, Mode, Race, Room, Rule, Wanted};
+use mu_base::{Order, Steps};
 use mu_values::{Scalar, Value};
 use std::alloc::{AllocError, Global};
+use std::sync::ledger::Ledger;
 use typed_heap::CellId;
 
 /// A memory that keeps the log of its run and tests each read and each event against the axioms on the whole of it. It is
@@ -87,6 +90,7 @@ impl LogMemory {
         }
     }
 
+    /// Adds an event that races with no earlier one.
     fn add(&mut self, event: Event)
         requires fits { EventFits self.old.rule (scalars_of self.old.objects.items) (reverse self.old.events.items) event }
         requires alone { race self.old.rule (reverse self.old.events.items) event ≡ None }
@@ -104,35 +108,6 @@ impl LogMemory {
         push_in_room(&mut self.events, event);
         push_in_room(&mut self.rows, row);
         self.room.events -= 1;
-    }
-
-    fn make_room(&mut self, thread: u32, cell: Option<CellId>, events: u32) -> Result<(), AllocError>
-        ensures made { OnOk result (self.new.room ≡ record { thread = thread; cell = cell; events = events }) }
-        ensures events { self.new.events.items ≡ self.old.events.items }
-        ensures objects { self.new.objects.items ≡ self.old.objects.items }
-        ensures rule { self.new.rule ≡ self.old.rule }
-    {
-        let blanks = blank_rows(self.alloc, events, self.events.len() + events as usize)?;
-        self.events.reserve(events as usize)?;
-        self.rows.reserve(events as usize)?;
-        self.blanks = blanks;
-        self.room = Room {
-            thread,
-            cell,
-            events,
-        };
-        Ok(())
-    }
-
-    fn add_value(&mut self, initial: Value) -> Result<(), AllocError>
-        ensures added { OnOk result (scalars_of self.new.objects.items ≡ scalars_of self.old.objects.items ++ initial.members ∷ []) }
-        ensures refused { OnErr result (scalars_of self.new.objects.items ≡ scalars_of self.old.objects.items) }
-        ensures events { self.new.events.items ≡ self.old.events.items }
-        ensures room { self.new.room ≡ self.old.room }
-        ensures rule { self.new.rule ≡ self.old.rule }
-    {
-        self.objects.push(initial)?;
-        Ok(())
     }
 
     /// Whether the position is an option of a load.
@@ -221,4 +196,108 @@ impl LogMemory {
             success,
         }
     }
+
+    /// The n-th of the positions that may be read, as an option that changes nothing.
+    fn read_chosen(&self, thread: u32, cell: CellId, order: Order, excluded: Option<Scalar>, n: u32) -> Chosen
+        requires cell { HasCell (scalars_of self.now.objects.items) cell }
+        requires count { length self.now.events.items + 1 < 4294967295 }
+        requires n { n < length (reads self.now.rule (initial_of (scalars_of self.now.objects.items)) (reverse self.now.events.items) thread cell order excluded) }
+        ensures { slice_get (map (chosen_at (initial_of (scalars_of self.now.objects.items)) (reverse self.now.events.items) cell false) (reads self.now.rule (initial_of (scalars_of self.now.objects.items)) (reverse self.now.events.items) thread cell order excluded)) n ≡ Some result }
+    {
+        let position = self.nth_read(thread, cell, order, excluded, n);
+        self.chosen(cell, false, position)
+    }
+
+    /// The newest position, as an option that updates the cell.
+    fn update_chosen(&self, cell: CellId) -> Chosen
+        requires { HasCell (scalars_of self.now.objects.items) cell }
+        ensures { result ≡ chosen_at (initial_of (scalars_of self.now.objects.items)) (reverse self.now.events.items) cell true (newest (reverse self.now.events.items) cell) }
+    {
+        self.chosen(cell, true, newest_position(&self.events, cell))
+    }
+
+    /// Whether a comparison may succeed: the newest position holds the expected scalar.
+    fn may_succeed(&self, cell: CellId, expected: Scalar) -> bool
+        requires { HasCell (scalars_of self.now.objects.items) cell }
+        ensures { result ≡ holds (initial_of (scalars_of self.now.objects.items)) (reverse self.now.events.items) cell expected (newest (reverse self.now.events.items) cell) }
+    {
+        self.holds(cell, expected, newest_position(&self.events, cell))
+    }
+}
+
+/// What a comparison may not read: the expected scalar, where it is strong.
+fn excluded(weak: bool, expected: Scalar) -> Option<Scalar>
+    ensures { result ≡ excluded_by weak expected }
+{
+    if weak { None } else { Some(expected) }
+}
+
+impl Memory for LogMemory {
+    ghost log = { λ memory. reverse memory.events.items };
+
+    ghost objects = { λ memory. scalars_of memory.objects.items };
+
+    ghost rule = { λ memory. memory.rule };
+
+    ghost room = { λ memory. memory.room };
+
+    fn add_object(&mut self, initial: Value) -> Result<(), AllocError> {
+        self.objects.push(initial)?;
+        Ok(())
+    }
+
+    fn reserve(&mut self, thread: u32, cell: Option<CellId>, events: u32) -> Result<(), AllocError> {
+        let blanks = blank_rows(self.alloc, events, self.events.len() + events as usize)?;
+        self.events.reserve(events as usize)?;
+        self.rows.reserve(events as usize)?;
+        self.blanks = blanks;
+        self.room = Room {
+            thread,
+            cell,
+            events,
+        };
+        Ok(())
+    }
+
+    fn options<L: Ledger>(&self, thread: u32, cell: CellId, wanted: &Wanted, _steps: &mut Steps<L>) -> u32 {
+        match *wanted {
+            Wanted::Load { order } => self.count_reads(thread, cell, order, None),
+            Wanted::Swap => 1,
+            Wanted::Compare { failure, expected, weak, .. } => {
+                let failures = self.count_reads(thread, cell, failure, excluded(weak, expected));
+                if self.may_succeed(cell, expected) {
+                    return failures + 1;
+                }
+                failures
+            }
+        }
+    }
+
+    fn choose<L: Ledger>(&self, thread: u32, cell: CellId, wanted: &Wanted, n: u32, _steps: &mut Steps<L>) -> Chosen {
+        match *wanted {
+            Wanted::Load { order } => self.read_chosen(thread, cell, order, None, n),
+            Wanted::Swap => self.update_chosen(cell),
+            Wanted::Compare { failure, expected, weak, .. } => {
+                if !self.may_succeed(cell, expected) {
+                    return self.read_chosen(thread, cell, failure, excluded(weak, expected), n);
+                }
+                if n == 0 {
+                    return self.update_chosen(cell);
+                }
+                self.read_chosen(thread, cell, failure, excluded(weak, expected), n - 1)
+            }
+        }
+    }
+
+    fn commit<L: Ledger>(&mut self, event: Event, _steps: &mut Steps<L>) -> Option<Race> {
+        match least_race(self.rule, &self.events, &self.rows, &event) {
+            Some(earlier) => Some(Race { earlier }),
+            None => {
+                self.add(event);
+                None
+            }
+        }
+    }
+
+    ghost sound = { λ memory. memory.sound };
 }

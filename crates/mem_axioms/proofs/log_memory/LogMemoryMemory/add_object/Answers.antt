@@ -8,7 +8,7 @@ use Rattle.mem_axioms.specs.Scalars.{scalars_of}
 use Rattle.mem_axioms.specs.declared.types.Event.{Event}
 use Rattle.mem_axioms.specs.declared.types.Rule.{Rule}
 use Rattle.mem_axioms.proofs.Widening.{cells-wider, sound-wider}
-use Rattle.mem_axioms.proofs.log_memory.LogMemory.add_value.Goals as goal
+use Rattle.mem_axioms.proofs.log_memory.LogMemoryMemory.add_object.Goals as goal
 
 cells_if : (added : Bool) (values : List (Roomy Scalar)) (more : Roomy Scalar) (log : List Event) → HasCells (scalars_of values) log → HasCells (scalars_of (cond added (values ++ more ∷ []) values)) log
 cells_if true values more log h = rw (map_push (λ value. value.members) values more) (cells-wider (scalars_of values) more.members log h)
