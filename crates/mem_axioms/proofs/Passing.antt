@@ -49,7 +49,7 @@ module _ (rule : Rule) (log : List Event) (read : Event) (is : is_read read ≡ 
       | inr p ↦ (let less = before-less rule (read ∷ log) a (length log) p.1 in
           let at : event_at log a ≡ Some ea = sym (event-older read log a less.0) ∙ l.at_a in
           or_right (is_seq_cst (order_of read)) _ (any-from (λ a ea. is_seq_cst_fence ea && leb b a && happens_before rule (read ∷ log) a (length log)) log a ea at
-              (and_from (is_seq_cst_fence ea && leb b a) _ (and_from (is_seq_cst_fence ea) (leb b a) (and_from (is_fence ea) (is_seq_cst (order_of ea)) p.0 l.seq_a) (le-leb b a h)) p.1)))
+          (and_from (is_seq_cst_fence ea && leb b a) _ (and_from (is_seq_cst_fence ea) (leb b a) (and_from (is_fence ea) (is_seq_cst (order_of ea)) p.0 l.seq_a) (le-leb b a h)) p.1)))
     ]
 
     fenced_there : (a b y : ℕ) (ea eb ey : Event) → Linked rule (read ∷ log) a b (length log) y ea eb read ey → b < length log → is_or_is_fenced rule log y b eb ≡ true

@@ -39,7 +39,14 @@ pub fn value_at_position(objects: &[Value], events: &[Event], cell: CellId, posi
     ensures { result ≡ value_at (initial_of (scalars_of objects.now)) (reverse events.now) cell position }
 {
     for i in (0..events.len()).rev() {
-        if let Kind::Access { mode, cell: of, position: made, value, .. } = events[i].kind {
+        if let Kind::Access {
+            mode,
+            cell: of,
+            position: made,
+            value,
+            ..
+        } = events[i].kind
+        {
             if !matches!(mode, Mode::Read) && is_same_cell(of, cell) && made == position {
                 return value;
             }

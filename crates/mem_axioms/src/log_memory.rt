@@ -74,7 +74,12 @@ fn push_in_room<T: Drop>(items: &mut Vec<T>, item: T)
 
 impl LogMemory {
     /// A memory with an empty log, no objects and no room, whose release sequences follow the rule.
-    pub fn new(alloc: Global, rule: Rule) -> LogMemory {
+    pub fn new(alloc: Global, rule: Rule) -> LogMemory
+        ensures log { ⟦<LogMemory as Memory>⟧.log result ≡ [] }
+        ensures objects { ⟦<LogMemory as Memory>⟧.objects result ≡ [] }
+        ensures rule { ⟦<LogMemory as Memory>⟧.rule result ≡ rule }
+        ensures room { ⟦<LogMemory as Memory>⟧.room result ≡ record { thread = 0; cell = None; events = 0 } }
+    {
         LogMemory {
             alloc,
             rule,
@@ -134,11 +139,21 @@ impl LogMemory {
         requires { HasCell (scalars_of self.now.objects.items) cell }
         ensures { result ≡ holds (initial_of (scalars_of self.now.objects.items)) (reverse self.now.events.items) cell scalar position }
     {
-        is_same_scalar(value_at_position(&self.objects, &self.events, cell, position), scalar)
+        is_same_scalar(
+            value_at_position(&self.objects, &self.events, cell, position),
+            scalar,
+        )
     }
 
     /// Whether the position may be read: it is an option of a load, and its value is not the excluded one.
-    fn may_take(&self, thread: u32, cell: CellId, order: Order, excluded: Option<Scalar>, position: u32) -> bool
+    fn may_take(
+        &self,
+        thread: u32,
+        cell: CellId,
+        order: Order,
+        excluded: Option<Scalar>,
+        position: u32,
+    ) -> bool
         requires cell { HasCell (scalars_of self.now.objects.items) cell }
         requires position { position ≤ newest (reverse self.now.events.items) cell }
         ensures { result ≡ (is_option self.now.rule (initial_of (scalars_of self.now.objects.items)) (reverse self.now.events.items) thread cell order position && is_kept (initial_of (scalars_of self.now.objects.items)) (reverse self.now.events.items) cell excluded position) }
@@ -167,7 +182,14 @@ impl LogMemory {
     }
 
     /// The n-th of the positions that may be read, from the newest down.
-    fn nth_read(&self, thread: u32, cell: CellId, order: Order, excluded: Option<Scalar>, n: u32) -> u32
+    fn nth_read(
+        &self,
+        thread: u32,
+        cell: CellId,
+        order: Order,
+        excluded: Option<Scalar>,
+        n: u32,
+    ) -> u32
         requires cell { HasCell (scalars_of self.now.objects.items) cell }
         requires count { length self.now.events.items + 1 < 4294967295 }
         requires n { n < length (reads self.now.rule (initial_of (scalars_of self.now.objects.items)) (reverse self.now.events.items) thread cell order excluded) }
@@ -198,7 +220,14 @@ impl LogMemory {
     }
 
     /// The n-th of the positions that may be read, as an option that changes nothing.
-    fn read_chosen(&self, thread: u32, cell: CellId, order: Order, excluded: Option<Scalar>, n: u32) -> Chosen
+    fn read_chosen(
+        &self,
+        thread: u32,
+        cell: CellId,
+        order: Order,
+        excluded: Option<Scalar>,
+        n: u32,
+    ) -> Chosen
         requires cell { HasCell (scalars_of self.now.objects.items) cell }
         requires count { length self.now.events.items + 1 < 4294967295 }
         requires n { n < length (reads self.now.rule (initial_of (scalars_of self.now.objects.items)) (reverse self.now.events.items) thread cell order excluded) }
@@ -246,7 +275,12 @@ impl Memory for LogMemory {
         Ok(())
     }
 
-    fn reserve(&mut self, thread: u32, cell: Option<CellId>, events: u32) -> Result<(), AllocError> {
+    fn reserve(
+        &mut self,
+        thread: u32,
+        cell: Option<CellId>,
+        events: u32,
+    ) -> Result<(), AllocError> {
         let blanks = blank_rows(self.alloc, events, self.events.len() + events as usize)?;
         self.events.reserve(events as usize)?;
         self.rows.reserve(events as usize)?;
@@ -259,11 +293,22 @@ impl Memory for LogMemory {
         Ok(())
     }
 
-    fn options<L: Ledger>(&self, thread: u32, cell: CellId, wanted: &Wanted, _steps: &mut Steps<L>) -> u32 {
+    fn options<L: Ledger>(
+        &self,
+        thread: u32,
+        cell: CellId,
+        wanted: &Wanted,
+        _steps: &mut Steps<L>,
+    ) -> u32 {
         match *wanted {
             Wanted::Load { order } => self.count_reads(thread, cell, order, None),
             Wanted::Swap => 1,
-            Wanted::Compare { failure, expected, weak, .. } => {
+            Wanted::Compare {
+                failure,
+                expected,
+                weak,
+                ..
+            } => {
                 let failures = self.count_reads(thread, cell, failure, excluded(weak, expected));
                 if self.may_succeed(cell, expected) {
                     return failures + 1;
@@ -273,11 +318,23 @@ impl Memory for LogMemory {
         }
     }
 
-    fn choose<L: Ledger>(&self, thread: u32, cell: CellId, wanted: &Wanted, n: u32, _steps: &mut Steps<L>) -> Chosen {
+    fn choose<L: Ledger>(
+        &self,
+        thread: u32,
+        cell: CellId,
+        wanted: &Wanted,
+        n: u32,
+        _steps: &mut Steps<L>,
+    ) -> Chosen {
         match *wanted {
             Wanted::Load { order } => self.read_chosen(thread, cell, order, None, n),
             Wanted::Swap => self.update_chosen(cell),
-            Wanted::Compare { failure, expected, weak, .. } => {
+            Wanted::Compare {
+                failure,
+                expected,
+                weak,
+                ..
+            } => {
                 if !self.may_succeed(cell, expected) {
                     return self.read_chosen(thread, cell, failure, excluded(weak, expected), n);
                 }

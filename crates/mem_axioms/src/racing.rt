@@ -20,7 +20,14 @@ fn conflicts(event: &Event, next: &Event) -> bool
 }
 
 /// Whether event `i`, which is `event`, races with `next`.
-fn races_with(rule: Rule, events: &[Event], rows: &[Row], next: &Event, i: usize, event: &Event) -> bool
+fn races_with(
+    rule: Rule,
+    events: &[Event],
+    rows: &[Row],
+    next: &Event,
+    i: usize,
+    event: &Event,
+) -> bool
     requires { AreRowsOf rule (reverse events.now) rows.now }
     ensures { result ≡ races rule (reverse events.now) next.now i event.now }
 {

@@ -33,7 +33,15 @@ fn passes_over(read: &Event, other: &Event) -> bool
 }
 
 /// Whether event `a`, which is `event`, is a SEQ_CST fence at `b` or after it that happens before the read.
-fn is_fence_from(rule: Rule, events: &[Event], rows: &[Row], read: &Event, b: usize, a: usize, event: &Event) -> bool
+fn is_fence_from(
+    rule: Rule,
+    events: &[Event],
+    rows: &[Row],
+    read: &Event,
+    b: usize,
+    a: usize,
+    event: &Event,
+) -> bool
     requires { AreRowsOf rule (reverse events.now) rows.now }
     ensures { result ≡ (is_seq_cst_fence event.now && nat_le b a && happens_before rule (read.now ∷ reverse events.now) a (length events.now)) }
 {
@@ -55,7 +63,15 @@ fn is_seq_cst_from(rule: Rule, events: &[Event], rows: &[Row], read: &Event, b: 
 }
 
 /// Whether event `b`, which is `event`, is SEQ_CST, is access `y` or a fence that `y` happens before, and binds the read.
-fn binds(rule: Rule, events: &[Event], rows: &[Row], read: &Event, y: usize, b: usize, event: &Event) -> bool
+fn binds(
+    rule: Rule,
+    events: &[Event],
+    rows: &[Row],
+    read: &Event,
+    y: usize,
+    b: usize,
+    event: &Event,
+) -> bool
     requires rows { AreRowsOf rule (reverse events.now) rows.now }
     requires b { b < length events.now }
     ensures { result ≡ (has_seq_cst b event.now && is_or_is_fenced rule (reverse events.now) y b event.now && has_seq_cst_from rule (reverse events.now) read.now b) }
@@ -80,12 +96,20 @@ fn is_barred(rule: Rule, events: &[Event], rows: &[Row], read: &Event, y: usize)
 }
 
 /// Whether the read passes over access `y`, which is `event`, against an axiom.
-fn is_breach(rule: Rule, events: &[Event], rows: &[Row], read: &Event, y: usize, event: &Event) -> bool
+fn is_breach(
+    rule: Rule,
+    events: &[Event],
+    rows: &[Row],
+    read: &Event,
+    y: usize,
+    event: &Event,
+) -> bool
     requires { AreRowsOf rule (reverse events.now) rows.now }
     ensures { result ≡ is_passed rule (reverse events.now) read.now y event.now }
 {
     passes_over(read, event)
-        && (happens_before_next(rule, events, rows, read, y) || is_barred(rule, events, rows, read, y))
+        && (happens_before_next(rule, events, rows, read, y)
+            || is_barred(rule, events, rows, read, y))
 }
 
 /// Whether the read passes over no access against an axiom.

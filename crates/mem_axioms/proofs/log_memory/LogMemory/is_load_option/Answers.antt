@@ -17,9 +17,9 @@ returns c =
     let log = reverse memory.events.items in
     let initial = initial_of (scalars_of memory.objects.items) in
     let value : c.value_at_position.result ≡ value_at initial log c.args.cell c.args.position =
-        c.value_at_position.ensures
-        ∙ (ap (λ (objects : List (Roomy Scalar)). value_at (initial_of (scalars_of objects)) (reverse c.deref-2.result.now) c.args.cell c.args.position) c.deref.ensures.value
-        ∙ ap (λ (events : List Event). value_at initial (reverse events) c.args.cell c.args.position) c.deref-2.ensures.value) in
+    c.value_at_position.ensures
+    ∙ (ap (λ (objects : List (Roomy Scalar)). value_at (initial_of (scalars_of objects)) (reverse c.deref-2.result.now) c.args.cell c.args.position) c.deref.ensures.value
+    ∙ ap (λ (events : List Event). value_at initial (reverse events) c.args.cell c.args.position) c.deref-2.ensures.value) in
     c.may_come_next.ensures
     ∙ (ap (λ (events : List Event). may_read memory.rule (reverse events) (record { thread = c.args.thread; kind = Access Read c.args.cell c.args.order c.args.position c.value_at_position.result })) c.deref-3.ensures.value
     ∙ (ap (λ (scalar : Scalar). may_read memory.rule log (record { thread = c.args.thread; kind = Access Read c.args.cell c.args.order c.args.position scalar })) value

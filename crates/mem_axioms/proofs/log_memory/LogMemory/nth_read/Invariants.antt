@@ -10,5 +10,5 @@ abbrev pub invariant-loop-position : goal.invariant-loop-position
 invariant-loop-position l = record {
   there : l.left < length (below (may_take l.self.rule (initial_of (scalars_of l.self.objects.items)) (reverse l.self.events.items) l.thread l.cell l.order l.excluded) l.position);
   same : slice_get (reads l.self.rule (initial_of (scalars_of l.self.objects.items)) (reverse l.self.events.items) l.thread l.cell l.order l.excluded) l.n
-  ≡ slice_get (below (may_take l.self.rule (initial_of (scalars_of l.self.objects.items)) (reverse l.self.events.items) l.thread l.cell l.order l.excluded) l.position) l.left;
+      ≡ slice_get (below (may_take l.self.rule (initial_of (scalars_of l.self.objects.items)) (reverse l.self.events.items) l.thread l.cell l.order l.excluded) l.position) l.left;
 }
