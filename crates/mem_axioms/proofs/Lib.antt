@@ -7,3 +7,5 @@ pub mod Added
 pub mod Kept
 pub mod Floors
 pub mod Racings
+pub mod Options
+pub mod Values

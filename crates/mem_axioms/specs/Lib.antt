@@ -37,6 +37,7 @@ pub mod Choices
 pub mod Floor
 pub mod Objects
 pub mod EventFits
+pub mod Theorems
 pub mod ExampleNames
 pub mod StackExamples
 pub mod StoreBufferingExamples
