@@ -9,3 +9,4 @@ pub mod Floors
 pub mod Racings
 pub mod Options
 pub mod Values
+pub mod Initials

@@ -104,7 +104,7 @@ form-value initial (e ∷ past) i ei c f h a = go (form-value initial past i ei 
         ih p.1 a ∙ sym (value-older (is_value_at initial) initial past e c (position_of ei) fits le)
 
 -- A read fits alone where the value is the only one of its position.
-fits-alone-kind : (right right' : List Event → CellId → ℕ → Scalar → Bool) (past : List Event) (t : ℕ) (k : Kind)
+pub fits-alone-kind : (right right' : List Event → CellId → ℕ → Scalar → Bool) (past : List Event) (t : ℕ) (k : Kind)
     → ((c : CellId) (p : ℕ) (v : Scalar) → p ≤ newest past c → right past c p v ≡ true → right' past c p v ≡ true)
     → fits_form_by right past (record { thread = t; kind = k }) ≡ true → fits_form_by right' past (record { thread = t; kind = k }) ≡ true
 fits-alone-kind right right' past t (Access Read cell order position value) h f =
@@ -120,7 +120,7 @@ fits-alone-kind right right' past t (Enter o) h f = refl
 fits-alone-kind right right' past t (Wake o n) h f = refl
 fits-alone-kind right right' past t (Woken o) h f = refl
 
-form-more : (right right' : List Event → CellId → ℕ → Scalar → Bool) (e : Event) (past : List Event)
+pub form-more : (right right' : List Event → CellId → ℕ → Scalar → Bool) (e : Event) (past : List Event)
     → ((c : CellId) (p : ℕ) (v : Scalar) → p ≤ newest past c → right past c p v ≡ true → right' past c p v ≡ true)
     → fits_form_by right past e ≡ true → has_form_by right' past ≡ true → has_form_by right' (e ∷ past) ≡ true
 form-more right right' e past h f g = and_from (fits_form_by right' past e) (has_form_by right' past) (fits-alone-kind right right' past e.thread e.kind h f) g

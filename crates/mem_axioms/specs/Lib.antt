@@ -38,6 +38,7 @@ pub mod Floor
 pub mod Objects
 pub mod EventFits
 pub mod Theorems
+pub mod OptionTheorems
 pub mod ExampleNames
 pub mod StackExamples
 pub mod StoreBufferingExamples
@@ -48,3 +49,4 @@ pub mod IriwExamples
 pub mod CoherenceExamples
 pub mod ComparisonExamples
 pub mod WakeExamples
+pub mod EventFitsExamples

@@ -1,6 +1,8 @@
 // Laws of the memory model, each the contract of a function that does nothing: to call it is to know its law. They hold
-// under both rules of release sequences; `specs/Theorems.antt` has their statements.
-ghost use Rattle.mem_axioms.specs.Theorems.{EventsStay, PastsStay, HappensBeforeStays, HeadsRise, ReleasedIsAllowed, HappensBeforeIsLeast, HappensBeforeGoesOn, CoherentIsRelation, SeqCstOrderedIsRelation, MeetsAxiomsIsRelation, RaceIsLeast, RaceFreeIsRelation, OptionsReachFloor, OptionIsFromFloor, FloorIsReached, OptionsAreCounted, OptionsAreNumbered, NewestIsOption, NewestIsFirst, SomeChoice, ChoicesDiffer, ModificationsKeepAxioms, OthersKeepAxioms, FittingEventsKeepAxioms, FormStandsAlone};
+// under both rules of release sequences; `specs/Theorems.antt` and
+// `specs/OptionTheorems.antt` have their statements.
+ghost use Rattle.mem_axioms.specs.Theorems.{EventsStay, PastsStay, HappensBeforeStays, HeadsRise, ReleasedIsAllowed, HappensBeforeIsLeast, HappensBeforeGoesOn, CoherentIsRelation, SeqCstOrderedIsRelation, MeetsAxiomsIsRelation, RaceIsLeast, RaceFreeIsRelation, FormStandsAlone, FormHasInitials, OtherInitialsDoNotMatter};
+ghost use Rattle.mem_axioms.specs.OptionTheorems.{OptionsReachFloor, OptionIsFromFloor, FloorIsReached, OptionsAreCounted, OptionsAreNumbered, NewestIsOption, NewestIsFirst, SomeChoice, ChoicesDiffer, ModificationsKeepAxioms, OthersKeepAxioms, FittingEventsKeepAxioms};
 
 /// Extension: adding an event at the end changes neither synchronizes-with nor happens-before between earlier events.
 pub fn earlier_order_stays()
@@ -64,7 +66,10 @@ pub fn axioms_are_kept()
     ensures fitting { FittingEventsKeepAxioms }
 {}
 
-/// A log that has the form with some initial scalars has it without.
-pub fn form_stands_alone()
-    ensures { FormStandsAlone }
+/// A log has the form without initial scalars exactly where it has it with some; and only the initial scalars of the cells
+/// that it accesses matter.
+pub fn accessed_initials_matter()
+    ensures alone { FormStandsAlone }
+    ensures initials { FormHasInitials }
+    ensures others { OtherInitialsDoNotMatter }
 {}

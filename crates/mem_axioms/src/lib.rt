@@ -5,8 +5,8 @@ mod laws;
 mod types;
 
 pub use laws::{
-    axioms_are_kept, axioms_are_relations, choices_differ, earlier_order_stays, form_stands_alone,
-    happens_before_is_least, least_race_is_named, newest_is_an_option, options_reach_a_floor,
-    released_position_is_allowed,
+    accessed_initials_matter, axioms_are_kept, axioms_are_relations, choices_differ,
+    earlier_order_stays, happens_before_is_least, least_race_is_named, newest_is_an_option,
+    options_reach_a_floor, released_position_is_allowed,
 };
 pub use types::{Chosen, Event, Kind, Mode, Race, Rule, Wanted};

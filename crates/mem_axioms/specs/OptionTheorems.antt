@@ -1,0 +1,75 @@
+-- The laws on the options of an access, and on what keeps the axioms. Each is the contract of a function of `laws` that
+-- does nothing, and each holds under both rules of release sequences.
+use Rattle.std.specs.Prelude.{◌≡◌, ◌↔◌, ℕ, suc, ◌+◌, ◌-◌, ◌<◌, ◌≤◌, nat_le, true, false, List, ◌∷◌, length, slice_get, Some, AllPairs}
+use Rattle.mu_base.specs.declared.order.Order.{Order}
+use Rattle.mu_values.specs.declared.scalars.Scalar.{Scalar}
+use Rattle.typed_heap.specs.declared.cells.CellId.{CellId}
+use Rattle.mem_axioms.specs.Events.{is_access, modifies, position_of}
+use Rattle.mem_axioms.specs.Logs.{newest}
+use Rattle.mem_axioms.specs.Axioms.{meets_axioms}
+use Rattle.mem_axioms.specs.Choices.{down_from, is_option, options, choices}
+use Rattle.mem_axioms.specs.Floor.{floor}
+use Rattle.mem_axioms.specs.Objects.{initial_of}
+use Rattle.mem_axioms.specs.EventFits.{EventFits}
+use Rattle.mem_axioms.specs.declared.types.Event.{Event}
+use Rattle.mem_axioms.specs.declared.types.Rule.{Rule}
+use Rattle.mem_axioms.specs.declared.types.Wanted.{Wanted}
+
+-- ---- Floor: the options of a load are all positions from the newest down to the floor.
+
+abbrev pub OptionsReachFloor : Type 0
+OptionsReachFloor = (rule : Rule) (initial : CellId → Scalar) (log : List Event) (thread : ℕ) (cell : CellId) (order : Order) → meets_axioms rule initial log ≡ true →
+    options rule initial log thread cell order ≡ down_from (λ position. nat_le (floor rule log thread cell order) position) (newest log cell)
+
+abbrev pub OptionIsFromFloor : Type 0
+OptionIsFromFloor = (rule : Rule) (initial : CellId → Scalar) (log : List Event) (thread : ℕ) (cell : CellId) (order : Order) → meets_axioms rule initial log ≡ true →
+    (position : ℕ) → position ≤ newest log cell → (is_option rule initial log thread cell order position ≡ true) ↔ (floor rule log thread cell order ≤ position)
+
+abbrev pub FloorIsReached : Type 0
+FloorIsReached = (rule : Rule) (initial : CellId → Scalar) (log : List Event) (thread : ℕ) (cell : CellId) (order : Order) → meets_axioms rule initial log ≡ true →
+    floor rule log thread cell order ≤ newest log cell
+
+abbrev pub OptionsAreCounted : Type 0
+OptionsAreCounted = (rule : Rule) (initial : CellId → Scalar) (log : List Event) (thread : ℕ) (cell : CellId) (order : Order) → meets_axioms rule initial log ≡ true →
+    length (options rule initial log thread cell order) ≡ suc (newest log cell) - floor rule log thread cell order
+
+abbrev pub OptionsAreNumbered : Type 0
+OptionsAreNumbered = (rule : Rule) (initial : CellId → Scalar) (log : List Event) (thread : ℕ) (cell : CellId) (order : Order) → meets_axioms rule initial log ≡ true →
+    (n : ℕ) → floor rule log thread cell order + n ≤ newest log cell → slice_get (options rule initial log thread cell order) n ≡ Some (newest log cell - n)
+
+-- ---- The newest position is an option of every load, and the first; and whatever is wanted has an option.
+
+abbrev pub NewestIsOption : Type 0
+NewestIsOption = (rule : Rule) (initial : CellId → Scalar) (log : List Event) (thread : ℕ) (cell : CellId) (order : Order) → meets_axioms rule initial log ≡ true →
+    is_option rule initial log thread cell order (newest log cell) ≡ true
+
+abbrev pub NewestIsFirst : Type 0
+NewestIsFirst = (rule : Rule) (initial : CellId → Scalar) (log : List Event) (thread : ℕ) (cell : CellId) (order : Order) → meets_axioms rule initial log ≡ true →
+    slice_get (options rule initial log thread cell order) 0 ≡ Some (newest log cell)
+
+abbrev pub SomeChoice : Type 0
+SomeChoice = (rule : Rule) (initial : CellId → Scalar) (log : List Event) (thread : ℕ) (cell : CellId) (wanted : Wanted) → meets_axioms rule initial log ≡ true →
+    0 < length (choices rule initial log thread cell wanted)
+
+-- ---- No two options of what is wanted are the same choice: they differ in position or in success.
+
+abbrev pub ChoicesDiffer : Type 0
+ChoicesDiffer = (rule : Rule) (initial : CellId → Scalar) (log : List Event) (thread : ℕ) (cell : CellId) (wanted : Wanted) →
+    AllPairs (λ a b. a.position ≡ b.position → a.success ≡ b.success → ⊥) (choices rule initial log thread cell wanted)
+
+-- ---- Preservation: a log that meets the axioms meets them again ..
+
+-- .. after a write or update at the next position;
+abbrev pub ModificationsKeepAxioms : Type 0
+ModificationsKeepAxioms = (rule : Rule) (initial : CellId → Scalar) (log : List Event) → meets_axioms rule initial log ≡ true →
+    (e : Event) (cell : CellId) → modifies cell e ≡ true → position_of e ≡ suc (newest log cell) → meets_axioms rule initial (e ∷ log) ≡ true
+
+-- .. after any event that is no access;
+abbrev pub OthersKeepAxioms : Type 0
+OthersKeepAxioms = (rule : Rule) (initial : CellId → Scalar) (log : List Event) → meets_axioms rule initial log ≡ true →
+    (e : Event) → is_access (λ mode cell order position. true) e ≡ false → meets_axioms rule initial (e ∷ log) ≡ true
+
+-- .. and so after every event that fits a run, a read of an option among them.
+abbrev pub FittingEventsKeepAxioms : Type 0
+FittingEventsKeepAxioms = (rule : Rule) (objects : List (List Scalar)) (log : List Event) → meets_axioms rule (initial_of objects) log ≡ true →
+    (e : Event) → EventFits rule objects log e → meets_axioms rule (initial_of objects) (e ∷ log) ≡ true
