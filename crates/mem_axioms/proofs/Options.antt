@@ -2,13 +2,14 @@
 use Rattle.std.proofs.Common.{◌≡◌, ℕ, suc, zero, ◌+◌, ◌-◌, ◌<◌, ◌≤◌, Bool, true, false, not, ◌||◌, leb, List, [], ◌∷◌, length, map, filter, All, AllPairs, slice_get, Some, refl, sym, ap, ◌∙◌, inl, inr, ◌⊎◌, ◌↔◌, arith}
 use Rattle.std.proofs.lemmas.Bool.{cases_lt, le-leb, lt-leb, false≢true}
 use Rattle.std.proofs.lemmas.List.Kept.{AllPairs-cons, AllPairs-filter}
-use Rattle.std.proofs.lemmas.List.Elements.{All-map}
+use Rattle.std.proofs.lemmas.List.Elements.{All-map, All-filter}
 use Rattle.mu_base.specs.declared.order.Order.{Order}
 use Rattle.mu_values.specs.declared.scalars.Scalar.{Scalar}
 use Rattle.typed_heap.specs.declared.cells.CellId.{CellId}
 use Rattle.mem_axioms.specs.Logs.{newest}
 use Rattle.mem_axioms.specs.Axioms.{meets_axioms}
 use Rattle.mem_axioms.specs.Choices.{down_from, is_option, options, chosen_at, holds, choices}
+use Rattle.mem_axioms.specs.OptionTheorems.{order_to_read, ChoiceStands}
 use Rattle.mem_axioms.specs.Floor.{floor}
 use Rattle.mem_axioms.proofs.Kept.{newest-allowed}
 use Rattle.mem_axioms.proofs.Floors.{options-floor, option-iff}
@@ -149,3 +150,62 @@ module _ (rule : Rule) (initial : CellId → Scalar) (log : List Event) (thread 
 
     pub options-nth : (order : Order) (n : ℕ) → floor rule log thread cell order + n ≤ newest log cell → slice_get (options rule initial log thread cell order) n ≡ Some (newest log cell - n)
     options-nth order n le = rw (options-floor rule initial log thread cell order m) (down_from-nth (floor rule log thread cell order) (newest log cell) n le)
+
+-- ---- what each choice is
+
+at-each : {X : Type 0} (P : X → Type 0) (xs : List X) → All P xs → (n : ℕ) (c : X) → slice_get xs n ≡ Some c → P c
+at-each P [] h n c g = absurd (cc)
+at-each P (x ∷ xs) h zero c g = let q : x ≡ c = cc in rw (sym q) (h 0 x (omega arith))
+at-each P (x ∷ xs) h (suc n) c g = at-each P xs (λ k d l. h (suc k) d (omega arith)) n c g
+
+all-cons : {X : Type 0} (P : X → Type 0) (x : X) (xs : List X) → P x → All P xs → All P (x ∷ xs)
+all-cons P x xs p h zero d l = p
+all-cons P x xs p h (suc k) d l = h k d (omega arith)
+
+down_from-passes : (test : ℕ → Bool) (n : ℕ) → All (λ q. test q ≡ true) (down_from test n)
+down_from-passes test zero = go (test 0) refl
+  where
+    go : (b : Bool) → test 0 ≡ b → All (λ q. test q ≡ true) (down_from test 0)
+    go true p = rw (p, down_from) (all-cons (λ q. test q ≡ true) 0 [] p (λ k d l. absurd (omega arith)))
+    go false p = rw (p, down_from) (λ k d l. absurd (omega arith))
+down_from-passes test (suc n) = go (test (suc n)) refl (down_from-passes test n)
+  where
+    go : (b : Bool) → test (suc n) ≡ b → All (λ q. test q ≡ true) (down_from test n) → All (λ q. test q ≡ true) (down_from test (suc n))
+    go true p ih = rw (p, down_from) (all-cons (λ q. test q ≡ true) (suc n) (down_from test n) p ih)
+    go false p ih = rw (p, down_from) ih
+
+module _ (rule : Rule) (initial : CellId → Scalar) (log : List Event) (thread : ℕ) (cell : CellId) where
+  failure-stands : (wanted : Wanted) (q : ℕ) → is_option rule initial log thread cell (order_to_read wanted) q ≡ true → ChoiceStands rule initial log thread cell wanted (chosen_at initial log cell false q)
+  failure-stands wanted q o = record { value = refl; success = λ s. absurd (false≢true s); failure = λ s. o }
+
+  success-stands : (wanted : Wanted) → ChoiceStands rule initial log thread cell wanted (chosen_at initial log cell true (newest log cell))
+  success-stands wanted = record { value = refl; success = λ s. refl; failure = λ s. absurd (false≢true (sym s)) }
+
+  failures-stand : (wanted : Wanted) (ps : List ℕ) → All (λ q. is_option rule initial log thread cell (order_to_read wanted) q ≡ true) ps
+      → All (ChoiceStands rule initial log thread cell wanted) (map (chosen_at initial log cell false) ps)
+  failures-stand wanted ps h = All-map (ChoiceStands rule initial log thread cell wanted) (chosen_at initial log cell false) ps (λ k d l. failure-stands wanted _ (h k d l))
+
+  all-stand : (wanted : Wanted) → All (ChoiceStands rule initial log thread cell wanted) (choices rule initial log thread cell wanted)
+  unfolding choices options
+  all-stand (Load order) = failures-stand (Load order) (options rule initial log thread cell order) (down_from-passes (is_option rule initial log thread cell order) (newest log cell))
+  all-stand Swap = all-cons (ChoiceStands rule initial log thread cell Swap) (chosen_at initial log cell true (newest log cell)) [] (success-stands Swap) (λ k d l. absurd (omega arith))
+  all-stand (Compare success failure expected weak) = go (holds initial log cell expected (newest log cell)) refl
+    where
+      wanted : Wanted
+      wanted = Compare success failure expected weak
+
+      rest : List ℕ
+      rest = filter (λ position. weak || not (holds initial log cell expected position)) (options rule initial log thread cell failure)
+
+      passes : All (λ q. is_option rule initial log thread cell failure q ≡ true) rest
+      passes = All-filter (λ position. weak || not (holds initial log cell expected position)) (λ q. is_option rule initial log thread cell failure q ≡ true) (options rule initial log thread cell failure)
+          (down_from-passes (is_option rule initial log thread cell failure) (newest log cell))
+
+      go : (b : Bool) → holds initial log cell expected (newest log cell) ≡ b
+          → All (ChoiceStands rule initial log thread cell (Compare success failure expected weak)) (choices rule initial log thread cell (Compare success failure expected weak))
+      go true p = rw p (all-cons (ChoiceStands rule initial log thread cell (Compare success failure expected weak)) (chosen_at initial log cell true (newest log cell)) (map (chosen_at initial log cell false) rest)
+          (success-stands (Compare success failure expected weak)) (failures-stand (Compare success failure expected weak) rest passes))
+      go false p = rw p (failures-stand (Compare success failure expected weak) rest passes)
+
+  pub choice-stands : (wanted : Wanted) (n : ℕ) (c : Chosen) → slice_get (choices rule initial log thread cell wanted) n ≡ Some c → ChoiceStands rule initial log thread cell wanted c
+  choice-stands wanted n c g = at-each (ChoiceStands rule initial log thread cell wanted) (choices rule initial log thread cell wanted) (all-stand wanted) n c g

@@ -50,3 +50,4 @@ pub mod CoherenceExamples
 pub mod ComparisonExamples
 pub mod WakeExamples
 pub mod EventFitsExamples
+pub mod LeftOutExamples

@@ -2,6 +2,7 @@
 -- does nothing, and each holds under both rules of release sequences.
 use Rattle.std.specs.Prelude.{◌≡◌, ◌↔◌, ℕ, suc, ◌+◌, ◌-◌, ◌<◌, ◌≤◌, nat_le, true, false, List, ◌∷◌, length, slice_get, Some, AllPairs}
 use Rattle.mu_base.specs.declared.order.Order.{Order}
+use Rattle.mu_base.specs.declared.order.Order.TheVariants.{NotAtomic}
 use Rattle.mu_values.specs.declared.scalars.Scalar.{Scalar}
 use Rattle.typed_heap.specs.declared.cells.CellId.{CellId}
 use Rattle.mem_axioms.specs.Events.{is_access, modifies, position_of}
@@ -13,7 +14,10 @@ use Rattle.mem_axioms.specs.Objects.{initial_of}
 use Rattle.mem_axioms.specs.EventFits.{EventFits}
 use Rattle.mem_axioms.specs.declared.types.Event.{Event}
 use Rattle.mem_axioms.specs.declared.types.Rule.{Rule}
+use Rattle.mem_axioms.specs.Form.{value_at}
 use Rattle.mem_axioms.specs.declared.types.Wanted.{Wanted}
+use Rattle.mem_axioms.specs.declared.types.Wanted.TheVariants.{Load, Swap, Compare}
+use Rattle.mem_axioms.specs.declared.types.Chosen.{Chosen}
 
 -- ---- Floor: the options of a load are all positions from the newest down to the floor.
 
@@ -56,6 +60,24 @@ SomeChoice = (rule : Rule) (initial : CellId → Scalar) (log : List Event) (thr
 abbrev pub ChoicesDiffer : Type 0
 ChoicesDiffer = (rule : Rule) (initial : CellId → Scalar) (log : List Event) (thread : ℕ) (cell : CellId) (wanted : Wanted) →
     AllPairs (λ a b. a.position ≡ b.position → a.success ≡ b.success → ⊥) (choices rule initial log thread cell wanted)
+
+-- ---- Each choice has the value at its position. One that succeeds has the newest position; one that does not has an option of
+-- a load of the order that it reads with.
+
+-- a swap reads with no order of its own, as it always succeeds
+abbrev pub order_to_read : Wanted → Order
+order_to_read (Load order) = order
+order_to_read Swap = NotAtomic
+order_to_read (Compare success failure expected weak) = failure
+
+pub record ChoiceStands (rule : Rule) (initial : CellId → Scalar) (log : List Event) (thread : ℕ) (cell : CellId) (wanted : Wanted) (c : Chosen) : Type 0 where
+  pub value : c.value ≡ value_at initial log cell c.position
+  pub success : c.success ≡ true → c.position ≡ newest log cell
+  pub failure : c.success ≡ false → is_option rule initial log thread cell (order_to_read wanted) c.position ≡ true
+
+abbrev pub ChoicesStand : Type 0
+ChoicesStand = (rule : Rule) (initial : CellId → Scalar) (log : List Event) (thread : ℕ) (cell : CellId) (wanted : Wanted) →
+    (n : ℕ) (c : Chosen) → slice_get (choices rule initial log thread cell wanted) n ≡ Some c → ChoiceStands rule initial log thread cell wanted c
 
 -- ---- Preservation: a log that meets the axioms meets them again ..
 
