@@ -1,5 +1,6 @@
 -- The options of an access: the newest position is among them, and no two are the same choice.
 use Rattle.std.proofs.Common.{◌≡◌, ℕ, suc, zero, ◌+◌, ◌-◌, ◌<◌, ◌≤◌, Bool, true, false, not, ◌||◌, leb, List, [], ◌∷◌, length, map, filter, All, AllPairs, slice_get, Some, refl, sym, ap, ◌∙◌, inl, inr, ◌⊎◌, ◌↔◌, arith}
+use Rattle.std.specs.Bool.{⊤}
 use Rattle.std.proofs.lemmas.Bool.{cases_lt, le-leb, lt-leb, false≢true}
 use Rattle.std.proofs.lemmas.List.Kept.{AllPairs-cons, AllPairs-filter}
 use Rattle.std.proofs.lemmas.List.Elements.{All-map, All-filter}
@@ -11,6 +12,10 @@ use Rattle.mem_axioms.specs.Axioms.{meets_axioms}
 use Rattle.mem_axioms.specs.Choices.{down_from, is_option, options, chosen_at, holds, choices}
 use Rattle.mem_axioms.specs.OptionTheorems.{order_to_read, ChoiceStands}
 use Rattle.mem_axioms.specs.Floor.{floor}
+use Rattle.mem_axioms.specs.Objects.{initial_of, HasCell}
+use Rattle.mem_axioms.specs.EventFits.{is_thread, EventFits}
+use Rattle.mem_axioms.specs.declared.types.Mode.TheVariants.{Read, Update}
+use Rattle.mem_axioms.specs.declared.types.Kind.TheVariants.{Access}
 use Rattle.mem_axioms.proofs.Kept.{newest-allowed}
 use Rattle.mem_axioms.proofs.Floors.{options-floor, option-iff}
 use Rattle.mem_axioms.specs.declared.types.Event.{Event}
@@ -175,25 +180,25 @@ down_from-passes test (suc n) = go (test (suc n)) refl (down_from-passes test n)
     go false p ih = rw (p, down_from) ih
 
 module _ (rule : Rule) (initial : CellId → Scalar) (log : List Event) (thread : ℕ) (cell : CellId) where
-  failure-stands : (wanted : Wanted) (q : ℕ) → is_option rule initial log thread cell (order_to_read wanted) q ≡ true → ChoiceStands rule initial log thread cell wanted (chosen_at initial log cell false q)
-  failure-stands wanted q o = record { value = refl; success = λ s. absurd (false≢true s); failure = λ s. o }
+  abbrev Certain : Wanted → Bool → Type 0
+  Certain wanted success = elim wanted as (λ _. Type 0) [ Load order ↦ success ≡ false | Swap ↦ success ≡ true | Compare s f e w ↦ ⊤ ]
 
-  success-stands : (wanted : Wanted) → ChoiceStands rule initial log thread cell wanted (chosen_at initial log cell true (newest log cell))
-  success-stands wanted = record { value = refl; success = λ s. refl; failure = λ s. absurd (false≢true (sym s)) }
+  failure-stands : (wanted : Wanted) (q : ℕ) → Certain wanted false → is_option rule initial log thread cell (order_to_read wanted) q ≡ true → ChoiceStands rule initial log thread cell wanted (chosen_at initial log cell false q)
+  failure-stands wanted q k o = record { value = refl; success = λ s. absurd (false≢true s); failure = λ s. o; certain = k }
 
-  failures-stand : (wanted : Wanted) (ps : List ℕ) → All (λ q. is_option rule initial log thread cell (order_to_read wanted) q ≡ true) ps
+  success-stands : (wanted : Wanted) → Certain wanted true → ChoiceStands rule initial log thread cell wanted (chosen_at initial log cell true (newest log cell))
+  success-stands wanted k = record { value = refl; success = λ s. refl; failure = λ s. absurd (false≢true (sym s)); certain = k }
+
+  failures-stand : (wanted : Wanted) (ps : List ℕ) → Certain wanted false → All (λ q. is_option rule initial log thread cell (order_to_read wanted) q ≡ true) ps
       → All (ChoiceStands rule initial log thread cell wanted) (map (chosen_at initial log cell false) ps)
-  failures-stand wanted ps h = All-map (ChoiceStands rule initial log thread cell wanted) (chosen_at initial log cell false) ps (λ k d l. failure-stands wanted _ (h k d l))
+  failures-stand wanted ps k h = All-map (ChoiceStands rule initial log thread cell wanted) (chosen_at initial log cell false) ps (λ i d l. failure-stands wanted _ k (h i d l))
 
   all-stand : (wanted : Wanted) → All (ChoiceStands rule initial log thread cell wanted) (choices rule initial log thread cell wanted)
   unfolding choices options
-  all-stand (Load order) = failures-stand (Load order) (options rule initial log thread cell order) (down_from-passes (is_option rule initial log thread cell order) (newest log cell))
-  all-stand Swap = all-cons (ChoiceStands rule initial log thread cell Swap) (chosen_at initial log cell true (newest log cell)) [] (success-stands Swap) (λ k d l. absurd (omega arith))
+  all-stand (Load order) = failures-stand (Load order) (options rule initial log thread cell order) refl (down_from-passes (is_option rule initial log thread cell order) (newest log cell))
+  all-stand Swap = all-cons (ChoiceStands rule initial log thread cell Swap) (chosen_at initial log cell true (newest log cell)) [] (success-stands Swap refl) (λ k d l. absurd (omega arith))
   all-stand (Compare success failure expected weak) = go (holds initial log cell expected (newest log cell)) refl
     where
-      wanted : Wanted
-      wanted = Compare success failure expected weak
-
       rest : List ℕ
       rest = filter (λ position. weak || not (holds initial log cell expected position)) (options rule initial log thread cell failure)
 
@@ -204,8 +209,21 @@ module _ (rule : Rule) (initial : CellId → Scalar) (log : List Event) (thread 
       go : (b : Bool) → holds initial log cell expected (newest log cell) ≡ b
           → All (ChoiceStands rule initial log thread cell (Compare success failure expected weak)) (choices rule initial log thread cell (Compare success failure expected weak))
       go true p = rw p (all-cons (ChoiceStands rule initial log thread cell (Compare success failure expected weak)) (chosen_at initial log cell true (newest log cell)) (map (chosen_at initial log cell false) rest)
-          (success-stands (Compare success failure expected weak)) (failures-stand (Compare success failure expected weak) rest passes))
-      go false p = rw p (failures-stand (Compare success failure expected weak) rest passes)
+          (success-stands (Compare success failure expected weak) tt) (failures-stand (Compare success failure expected weak) rest tt passes))
+      go false p = rw p (failures-stand (Compare success failure expected weak) rest tt passes)
 
   pub choice-stands : (wanted : Wanted) (n : ℕ) (c : Chosen) → slice_get (choices rule initial log thread cell wanted) n ≡ Some c → ChoiceStands rule initial log thread cell wanted c
   choice-stands wanted n c g = at-each (ChoiceStands rule initial log thread cell wanted) (choices rule initial log thread cell wanted) (all-stand wanted) n c g
+
+-- what was chosen fits a run
+pub choice-fits : (rule : Rule) (objects : List (List Scalar)) (log : List Event) (thread : ℕ) (cell : CellId) (wanted : Wanted) (n : ℕ) (c : Chosen)
+    → is_thread log thread ≡ true → HasCell objects cell → slice_get (choices rule (initial_of objects) log thread cell wanted) n ≡ Some c
+    → (c.success ≡ false → EventFits rule objects log (record { thread = thread; kind = Access Read cell (order_to_read wanted) c.position c.value }))
+    × (c.success ≡ true → (order : Order) (value : Scalar) → EventFits rule objects log (record { thread = thread; kind = Access Update cell order (suc c.position) value }))
+choice-fits rule objects log thread cell wanted n c made there g = (
+  λ f. record { thread = made; child = tt; cell = there; wake = tt; position = (stands.failure f, stands.value) },
+  λ t order value. record { thread = made; child = tt; cell = there; wake = tt; position = ap suc (stands.success t) },
+)
+  where
+    stands : ChoiceStands rule (initial_of objects) log thread cell wanted c
+    stands = choice-stands rule (initial_of objects) log thread cell wanted n c g

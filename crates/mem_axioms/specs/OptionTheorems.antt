@@ -1,6 +1,6 @@
 -- The laws on the options of an access, and on what keeps the axioms. Each is the contract of a function of `laws` that
 -- does nothing, and each holds under both rules of release sequences.
-use Rattle.std.specs.Prelude.{◌≡◌, ◌↔◌, ℕ, suc, ◌+◌, ◌-◌, ◌<◌, ◌≤◌, nat_le, true, false, List, ◌∷◌, length, slice_get, Some, AllPairs}
+use Rattle.std.specs.Prelude.{⊤, ◌≡◌, ◌↔◌, ℕ, suc, ◌+◌, ◌-◌, ◌<◌, ◌≤◌, nat_le, true, false, List, ◌∷◌, length, slice_get, Some, AllPairs}
 use Rattle.mu_base.specs.declared.order.Order.{Order}
 use Rattle.mu_base.specs.declared.order.Order.TheVariants.{NotAtomic}
 use Rattle.mu_values.specs.declared.scalars.Scalar.{Scalar}
@@ -10,8 +10,10 @@ use Rattle.mem_axioms.specs.Logs.{newest}
 use Rattle.mem_axioms.specs.Axioms.{meets_axioms}
 use Rattle.mem_axioms.specs.Choices.{down_from, is_option, options, choices}
 use Rattle.mem_axioms.specs.Floor.{floor}
-use Rattle.mem_axioms.specs.Objects.{initial_of}
-use Rattle.mem_axioms.specs.EventFits.{EventFits}
+use Rattle.mem_axioms.specs.Objects.{initial_of, HasCell}
+use Rattle.mem_axioms.specs.EventFits.{is_thread, EventFits}
+use Rattle.mem_axioms.specs.declared.types.Mode.TheVariants.{Read, Update}
+use Rattle.mem_axioms.specs.declared.types.Kind.TheVariants.{Access}
 use Rattle.mem_axioms.specs.declared.types.Event.{Event}
 use Rattle.mem_axioms.specs.declared.types.Rule.{Rule}
 use Rattle.mem_axioms.specs.Form.{value_at}
@@ -74,10 +76,20 @@ pub record ChoiceStands (rule : Rule) (initial : CellId → Scalar) (log : List 
   pub value : c.value ≡ value_at initial log cell c.position
   pub success : c.success ≡ true → c.position ≡ newest log cell
   pub failure : c.success ≡ false → is_option rule initial log thread cell (order_to_read wanted) c.position ≡ true
+  -- a load does not succeed, and a swap does
+  pub certain : elim wanted as (λ _. Type 0) [ Load order ↦ c.success ≡ false | Swap ↦ c.success ≡ true | Compare success failure expected weak ↦ ⊤ ]
 
 abbrev pub ChoicesStand : Type 0
 ChoicesStand = (rule : Rule) (initial : CellId → Scalar) (log : List Event) (thread : ℕ) (cell : CellId) (wanted : Wanted) →
     (n : ℕ) (c : Chosen) → slice_get (choices rule initial log thread cell wanted) n ≡ Some c → ChoiceStands rule initial log thread cell wanted c
+
+-- So what was chosen may come next in the log of a run: where it succeeds an update, of whatever order and value, that makes the
+-- position after it, else a read of its position and value.
+abbrev pub ChoicesFit : Type 0
+ChoicesFit = (rule : Rule) (objects : List (List Scalar)) (log : List Event) (thread : ℕ) (cell : CellId) (wanted : Wanted) (n : ℕ) (c : Chosen) →
+    is_thread log thread ≡ true → HasCell objects cell → slice_get (choices rule (initial_of objects) log thread cell wanted) n ≡ Some c →
+    (c.success ≡ false → EventFits rule objects log (record { thread = thread; kind = Access Read cell (order_to_read wanted) c.position c.value }))
+    × (c.success ≡ true → (order : Order) (value : Scalar) → EventFits rule objects log (record { thread = thread; kind = Access Update cell order (suc c.position) value }))
 
 -- ---- Preservation: a log that meets the axioms meets them again ..
 

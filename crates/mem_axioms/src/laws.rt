@@ -2,7 +2,7 @@
 // under both rules of release sequences; `specs/Theorems.antt` and
 // `specs/OptionTheorems.antt` have their statements.
 ghost use Rattle.mem_axioms.specs.Theorems.{EventsStay, PastsStay, HappensBeforeStays, HeadsRise, ReleasedIsAllowed, HappensBeforeIsLeast, HappensBeforeGoesOn, CoherentIsRelation, SeqCstOrderedIsRelation, MeetsAxiomsIsRelation, RaceIsLeast, RaceFreeIsRelation, FormStandsAlone, FormHasInitials, OtherInitialsDoNotMatter};
-ghost use Rattle.mem_axioms.specs.OptionTheorems.{OptionsReachFloor, OptionIsFromFloor, FloorIsReached, OptionsAreCounted, OptionsAreNumbered, NewestIsOption, NewestIsFirst, SomeChoice, ChoicesDiffer, ChoicesStand, ModificationsKeepAxioms, OthersKeepAxioms, FittingEventsKeepAxioms};
+ghost use Rattle.mem_axioms.specs.OptionTheorems.{OptionsReachFloor, OptionIsFromFloor, FloorIsReached, OptionsAreCounted, OptionsAreNumbered, NewestIsOption, NewestIsFirst, SomeChoice, ChoicesDiffer, ChoicesStand, ChoicesFit, ModificationsKeepAxioms, OthersKeepAxioms, FittingEventsKeepAxioms};
 
 /// Extension: adding an event at the end changes neither synchronizes-with nor happens-before between earlier events.
 pub fn earlier_order_stays()
@@ -53,11 +53,16 @@ pub fn newest_is_an_option()
     ensures choice { SomeChoice }
 {}
 
-/// No two options of what is wanted are the same choice. Each has the value at its position, and may be taken: at the newest
-/// position where it succeeds, else at an option of a load.
+/// No two options of what is wanted are the same choice.
 pub fn choices_differ()
-    ensures differ { ChoicesDiffer }
+    ensures { ChoicesDiffer }
+{}
+
+/// Each choice has the value at its position, which is the newest where it succeeds, else an option of a load. So the read or
+/// update that it stands for may come next.
+pub fn choices_may_be_taken()
     ensures stand { ChoicesStand }
+    ensures fit { ChoicesFit }
 {}
 
 /// Preservation: a log that meets the axioms meets them again after a write or update at the next position, after an
