@@ -26,6 +26,7 @@
 -- need an S that is not the order of the log. Their absence says nothing about an implementation.
 --
 -- A log is best read from its newest event back: each rule speaks of one event and of its past.
+-- The model, in reading order.
 pub mod Events
 pub mod Logs
 pub mod Synchronizes
@@ -37,8 +38,10 @@ pub mod Choices
 pub mod Floor
 pub mod Objects
 pub mod EventFits
+-- Its laws.
 pub mod Theorems
 pub mod OptionTheorems
+-- Worked examples: litmus tests and logs of whole runs.
 pub mod ExampleNames
 pub mod StackExamples
 pub mod StoreBufferingExamples
