@@ -49,6 +49,8 @@ pub mod MessagePassingExamples
 pub mod ReleaseSequenceExamples
 pub mod SequenceRunExamples
 pub mod IriwExamples
+pub mod RaceExamples
+pub mod FenceExamples
 pub mod CoherenceExamples
 pub mod ComparisonExamples
 pub mod WakeExamples
