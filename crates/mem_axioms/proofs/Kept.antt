@@ -1,5 +1,5 @@
 -- What may be added to a log that meets the axioms.
-use Rattle.std.proofs.Common.{◌≡◌, ◌≢◌, ℕ, suc, ◌<◌, ◌≤◌, Bool, true, false, ◌&&◌, ◌||◌, eqb, ltb, leb, List, ◌∷◌, Some, refl, sym, ap, ◌∙◌, inl, inr, ◌⊎◌, arith}
+use Rattle.std.proofs.Common.{◌≡◌, ℕ, suc, ◌<◌, ◌≤◌, Bool, true, false, ◌&&◌, ◌||◌, eqb, ltb, leb, List, ◌∷◌, Some, refl, sym, ◌∙◌, inl, inr, ◌⊎◌, arith}
 use Rattle.std.proofs.lemmas.Bool.{eq-eqb, eqb-true, or_cases, and_from, and_parts, false≢true, ltb-true, le-leb}
 use Rattle.mu_base.specs.declared.order.Order.{Order}
 use Rattle.mu_values.specs.declared.scalars.Scalar.{Scalar}
@@ -12,7 +12,7 @@ use Rattle.mem_axioms.specs.Events.{accesses, modifies, position_of, stores, is_
 use Rattle.mem_axioms.specs.Logs.{event_at, newest}
 use Rattle.mem_axioms.specs.Form.{fits_form, has_form, is_value_at, value_at}
 use Rattle.mem_axioms.specs.Axioms.{is_coherent, is_seq_cst_ordered, meets_axioms, comes_first}
-use Rattle.mem_axioms.specs.Choices.{read_at, is_option}
+use Rattle.mem_axioms.specs.Choices.{read_at}
 use Rattle.mem_axioms.specs.EventFits.{EventFits}
 use Rattle.mem_axioms.specs.Objects.{initial_of}
 use Rattle.mem_axioms.proofs.Numbers.{event-older}
@@ -126,7 +126,6 @@ newest-allowed rule initial past t c o m = (meets-newest rule (read_at initial p
         let p = first-cases (read_at initial past t c o (newest past c)) ey h in
         let k = form-position (is_value_at initial) past y ey c f at p.0 in
         elim p.1 [ inl q ↦ omega (arith, k, q) | inr q ↦ false≢true q.0 ]
-
 
 -- a test of an access, and the test that an event is an access
 abbrev pub is_any_access : Event → Bool

@@ -1,7 +1,6 @@
 -- Happens-before computes the least transitive relation.
-use Rattle.std.proofs.Common.{◌≡◌, ℕ, ◌<◌, true, eqb, List, [], ◌∷◌, length, refl, sym, ◌∙◌, inl, inr, ◌⊎◌, ◌↔◌, arith}
-use Rattle.std.proofs.lemmas.Bool.{ne_eqb, eqb-true, cases_eq, or_cases, false≢true}
-use Rattle.mem_axioms.specs.Synchronizes.{synchronizes}
+use Rattle.std.proofs.Common.{◌≡◌, ℕ, ◌<◌, true, eqb, List, [], ◌∷◌, length, sym, ◌∙◌, inl, inr, ◌⊎◌, ◌↔◌, arith}
+use Rattle.std.proofs.lemmas.Bool.{eqb-true, cases_eq, or_cases, false≢true}
 use Rattle.mem_axioms.specs.HappensBefore.{happens_before, Before, sequenced, synchronized, through}
 use Rattle.mem_axioms.proofs.Numbers.{event-below, event-kept, event-newest, past_of-newest, past_of-older}
 use Rattle.mem_axioms.proofs.Steps.{Step, newest-step, before-older, before-less, before-trans, in-order, edge-before}

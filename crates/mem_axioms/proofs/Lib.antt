@@ -14,3 +14,6 @@ pub mod Downward
 pub mod Offers
 pub mod Floors
 pub mod Racings
+pub mod Options
+pub mod Values
+pub mod Initials

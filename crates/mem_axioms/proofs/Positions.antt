@@ -1,6 +1,6 @@
 -- What the form of a log says of positions, whatever the values.
-use Rattle.std.proofs.Common.{◌≡◌, ℕ, suc, ◌-◌, ◌<◌, ◌≤◌, Bool, true, false, cond, ◌&&◌, ◌||◌, eqb, ltb, leb, List, [], ◌∷◌, length, Some, refl, sym, ap, ◌∙◌, inl, inr, ◌⊎◌, arith}
-use Rattle.std.proofs.lemmas.Bool.{eq-eqb, eqb-true, cases_eq, or_cases, and_from, and_parts, false≢true, leb-true, ltb-true}
+use Rattle.std.proofs.Common.{◌≡◌, ℕ, suc, ◌-◌, ◌<◌, ◌≤◌, Bool, true, false, cond, ◌&&◌, ◌||◌, eqb, ltb, leb, List, [], ◌∷◌, length, Some, refl, sym, ◌∙◌, inl, inr, ◌⊎◌, arith}
+use Rattle.std.proofs.lemmas.Bool.{eqb-true, cases_eq, or_cases, and_parts, false≢true, leb-true, ltb-true}
 use Rattle.mem_axioms.specs.Events.{accesses, modifies, position_of, order_of, is_atomic, is_fence}
 use Rattle.mem_axioms.specs.Logs.{event_at, count_events, newest}
 use Rattle.mem_axioms.specs.Synchronizes.{heads, released, continues, fences, releases}

@@ -1,11 +1,11 @@
 -- The least event that races.
-use Rattle.std.proofs.Common.{◌≡◌, ℕ, ◌<◌, ◌≤◌, Bool, true, false, not, ◌&&◌, cond, is_none, List, [], ◌∷◌, length, Some, None, Option, refl, sym, ◌∙◌, inl, inr, ◌⊎◌, ◌↔◌, arith, MatchOption}
+use Rattle.std.proofs.Common.{◌≡◌, ℕ, ◌<◌, ◌≤◌, Bool, true, false, not, cond, is_none, List, [], ◌∷◌, length, Some, None, Option, refl, sym, ◌∙◌, inl, inr, ◌⊎◌, arith, MatchOption}
 use Rattle.std.proofs.lemmas.Bool.{false≢true, and_from, and_parts}
 use Rattle.mem_axioms.specs.Logs.{event_at, least_event}
-use Rattle.mem_axioms.specs.HappensBefore.{happens_before, Before}
+use Rattle.mem_axioms.specs.HappensBefore.{happens_before}
 use Rattle.mem_axioms.specs.Races.{may_race, races, race, is_race_free, Racing}
 use Rattle.mem_axioms.proofs.Numbers.{event-below, event-kept, event-cases, event-newest, event-older}
-use Rattle.mem_axioms.proofs.Steps.{before-older, before-less}
+use Rattle.mem_axioms.proofs.Steps.{before-older}
 use Rattle.mem_axioms.proofs.Least.{before-from, before-is}
 use Rattle.mem_axioms.specs.declared.types.Event.{Event}
 use Rattle.mem_axioms.specs.declared.types.Rule.{Rule}
@@ -77,7 +77,7 @@ module _ (rule : Rule) where
       let s : r.ej ≡ e = cc in (
         older,
         and_from (may_race r.ei e) (not (happens_before rule (e ∷ past) i (length past))) (rw s at r.conflict)
-        (test_not (happens_before rule (e ∷ past) i (length past)) (λ b. r.apart (before-is rule (e ∷ past) i (length past) b))),
+            (test_not (happens_before rule (e ∷ past) i (length past)) (λ b. r.apart (before-is rule (e ∷ past) i (length past) b))),
       )
 
   -- the answer of `race`, as a relation

@@ -4,10 +4,10 @@ use Rattle.std.proofs.lemmas.Bool.{false≢true, eq-eqb, eqb-true, cases_lt, or_
 use Rattle.mu_values.specs.declared.scalars.Scalar.{Scalar}
 use Rattle.typed_heap.specs.declared.cells.CellId.{CellId}
 use Rattle.mem_axioms.specs.Events.{position_of, order_of, is_fence, is_read, is_seq_cst, on_one_cell}
-use Rattle.mem_axioms.specs.Logs.{event_at, each_event, each_where}
+use Rattle.mem_axioms.specs.Logs.{event_at, each_where}
 use Rattle.mem_axioms.specs.HappensBefore.{happens_before}
 use Rattle.mem_axioms.specs.Form.{has_form}
-use Rattle.mem_axioms.specs.Axioms.{reads_older, is_coherent, is_seq_cst_ordered, meets_axioms, comes_first, is_or_fences, is_or_is_fenced, has_seq_cst, ReadAfter, Coherent, SeqCstLinked, SeqCstOrdered, MeetsAxioms}
+use Rattle.mem_axioms.specs.Axioms.{reads_older, is_coherent, is_seq_cst_ordered, meets_axioms, comes_first, is_or_fences, is_or_is_fenced, has_seq_cst, Coherent, SeqCstOrdered, MeetsAxioms}
 use Rattle.mem_axioms.proofs.Numbers.{each-at, each-from}
 use Rattle.mem_axioms.proofs.Least.{before-from, before-is}
 use Rattle.mem_axioms.specs.declared.types.Event.{Event}
@@ -71,7 +71,7 @@ module _ (rule : Rule) where
       go (inl p) =
           let q = each-at (λ j ej. each_where (λ i ei. reads_older ej ei) (λ i ei. not (happens_before rule log i j)) log) log j ej h n.at_j in
           let r = where-at (λ i ei. reads_older ej ei) (λ i ei. not (happens_before rule log i j)) log i ei q n.at_i
-              (and_from (on_one_cell ei ej && is_read ej) (ltb (position_of ej) (position_of ei)) (and_from (on_one_cell ei ej) (is_read ej) n.cell n.read) (lt-ltb (position_of ej) (position_of ei) p)) in
+          (and_from (on_one_cell ei ej && is_read ej) (ltb (position_of ej) (position_of ei)) (and_from (on_one_cell ei ej) (is_read ej) n.cell n.read) (lt-ltb (position_of ej) (position_of ei) p)) in
           absurd (absurd_not (happens_before rule log i j) r n.before)
 
   pub coherence-from : (log : List Event) → Coherence log → is_coherent rule log ≡ true
@@ -175,9 +175,9 @@ module _ (rule : Rule) where
   unfolding meets_axioms
   meets-iff initial log = (
     λ h.
-      let p = and_parts (has_form initial log && is_coherent rule log) (is_seq_cst_ordered rule log) h in
-      let q = and_parts (has_form initial log) (is_coherent rule log) p.0 in
-      record { form = q.0; coherent = (coherent-iff log).0 q.1; seq_cst_ordered = (seq_cst_ordered-iff log).0 p.1 },
+        let p = and_parts (has_form initial log && is_coherent rule log) (is_seq_cst_ordered rule log) h in
+        let q = and_parts (has_form initial log) (is_coherent rule log) p.0 in
+        record { form = q.0; coherent = (coherent-iff log).0 q.1; seq_cst_ordered = (seq_cst_ordered-iff log).0 p.1 },
     λ m. and_from (has_form initial log && is_coherent rule log) (is_seq_cst_ordered rule log)
         (and_from (has_form initial log) (is_coherent rule log) m.form ((coherent-iff log).1 m.coherent)) ((seq_cst_ordered-iff log).1 m.seq_cst_ordered),
   )

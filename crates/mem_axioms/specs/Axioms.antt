@@ -35,10 +35,11 @@ is_or_fences rule log a ea x = (a == x) || (is_fence ea && happens_before rule l
 abbrev pub is_or_is_fenced : Rule → List Event → ℕ → ℕ → Event → Bool
 is_or_is_fenced rule log y b eb = (b == y) || (is_fence eb && happens_before rule log y b)
 
+-- the event is SEQ_CST, whatever its number
 abbrev pub has_seq_cst : ℕ → Event → Bool
 has_seq_cst i ei = is_seq_cst (order_of ei)
 
--- Axiom 3: where a is not before b, nothing at or after a comes first of something at or before b.
+-- Axiom 3, turned round: where a and b are SEQ_CST and a is not before b, no x and y stand between them as told above.
 unfoldable pub is_seq_cst_ordered : Rule → List Event → Bool
 is_seq_cst_ordered rule log =
     each_where has_seq_cst (λ a ea.

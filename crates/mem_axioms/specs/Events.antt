@@ -63,13 +63,15 @@ accesses cell e = is_access (λ mode of order position. same_cell of cell) e
 abbrev pub modifies : CellId → Event → Bool
 modifies cell e = is_access (λ mode of order position. stores mode && same_cell of cell) e
 
--- a read, an update, a write or update, of whatever cell
+-- a read, of whatever cell
 abbrev pub is_read : Event → Bool
 is_read e = is_access (λ mode of order position. elim mode [ Read ↦ true | Write ↦ false | Update ↦ false ]) e
 
+-- an update, of whatever cell
 abbrev pub is_update : Event → Bool
 is_update e = is_access (λ mode of order position. elim mode [ Read ↦ false | Write ↦ false | Update ↦ true ]) e
 
+-- a write or update, of whatever cell
 abbrev pub is_modification : Event → Bool
 is_modification e = is_access (λ mode of order position. stores mode) e
 

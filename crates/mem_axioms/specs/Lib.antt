@@ -26,6 +26,7 @@
 -- need an S that is not the order of the log. Their absence says nothing about an implementation.
 --
 -- A log is best read from its newest event back: each rule speaks of one event and of its past.
+-- The model, in reading order.
 pub mod Events
 pub mod Logs
 pub mod Synchronizes
@@ -37,14 +38,20 @@ pub mod Choices
 pub mod Floor
 pub mod Objects
 pub mod EventFits
+-- The memory of a run: what it promises.
 pub mod Rooms
 pub mod Sound
-pub mod Flags
+-- What the memory that judges whole logs keeps and tests, for its own functions alone.
 pub mod Scalars
-pub mod PassedOver
+pub mod Flags
 pub mod Blanks
 pub mod Known
+pub mod PassedOver
 pub mod Reads
+-- Its laws.
+pub mod Theorems
+pub mod OptionTheorems
+-- Worked examples: litmus tests and logs of whole runs.
 pub mod ExampleNames
 pub mod StackExamples
 pub mod StoreBufferingExamples
@@ -52,6 +59,10 @@ pub mod MessagePassingExamples
 pub mod ReleaseSequenceExamples
 pub mod SequenceRunExamples
 pub mod IriwExamples
+pub mod RaceExamples
+pub mod FenceExamples
 pub mod CoherenceExamples
 pub mod ComparisonExamples
 pub mod WakeExamples
+pub mod EventFitsExamples
+pub mod LeftOutExamples

@@ -82,3 +82,12 @@ not_atomic_write_ends_it = refl
 pub fence_before_a_relaxed_head : options C11 zeros (read 1 Acquire y 2 2 ∷ update 2 Relaxed y 2 2 ∷ write 0 Relaxed y 1 1 ∷ fence 0 Release ∷ write 0 NotAtomic x 1 40 ∷ []) 1 x NotAtomic ≡ 1 ∷ []
 unfolding happens_before is_coherent is_seq_cst_ordered meets_axioms options
 fence_before_a_relaxed_head = refl
+
+-- The last two under Rmw.
+pub not_atomic_write_ends_it_under_rmw : options Rmw zeros (read 1 Acquire y 2 2 ∷ write 0 NotAtomic y 2 2 ∷ sent) 1 x NotAtomic ≡ 1 ∷ 0 ∷ []
+unfolding happens_before is_coherent is_seq_cst_ordered meets_axioms options
+not_atomic_write_ends_it_under_rmw = refl
+
+pub fence_before_a_relaxed_head_under_rmw : options Rmw zeros (read 1 Acquire y 2 2 ∷ update 2 Relaxed y 2 2 ∷ write 0 Relaxed y 1 1 ∷ fence 0 Release ∷ write 0 NotAtomic x 1 40 ∷ []) 1 x NotAtomic ≡ 1 ∷ []
+unfolding happens_before is_coherent is_seq_cst_ordered meets_axioms options
+fence_before_a_relaxed_head_under_rmw = refl

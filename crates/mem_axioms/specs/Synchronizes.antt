@@ -1,4 +1,4 @@
--- Acquire, release, release sequences, synchronizes-with (ISO/IEC 9899:2011, 5.1.2.4 and 7.17; ISO/IEC 14882:2020, 6.9.2.2 and 31.11).
+-- Acquire, release, release sequences, synchronizes-with (ISO/IEC 9899:2011, 5.1.2.4 and 7.17; ISO/IEC 14882:2020, 6.9.2 and 31.11).
 use Rattle.std.specs.Prelude.{ℕ, ◌-◌, Bool, true, false, ◌&&◌, ◌||◌, ◌==◌, nat_lt, List, [], ◌∷◌, length}
 use Rattle.mu_base.specs.declared.order.Order.{Order}
 use Rattle.mu_base.specs.declared.order.Order.TheVariants.{NotAtomic, Relaxed, Consume, Acquire, Release, AcqRel, SeqCst}

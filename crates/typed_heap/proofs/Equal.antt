@@ -1,5 +1,5 @@
 -- The test of two cells is their equality.
-use Rattle.std.proofs.Common.{◌≡◌, ◌↔◌, ◌&&◌, eqb, ℕ, true, refl, ap, ◌∙◌}
+use Rattle.std.proofs.Common.{◌≡◌, ◌↔◌, eqb, ℕ, true, refl, ap, ◌∙◌}
 use Rattle.std.proofs.lemmas.Bool.{eq-eqb, eqb-true, and_from, and_parts}
 use Rattle.typed_heap.specs.SameCell.{same_cell}
 use Rattle.typed_heap.specs.declared.cells.CellId.{CellId}
