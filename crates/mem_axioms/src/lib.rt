@@ -22,3 +22,6 @@ pub use laws::{
 pub use log_memory::LogMemory;
 pub use memory::Memory;
 pub use types::{Chosen, Event, Kind, Mode, Race, Room, Rule, Wanted};
+
+#[cfg(test)]
+mod tests;
