@@ -1,0 +1,116 @@
+-- What a memory of whole logs keeps as its log grows.
+use Rattle.std.proofs.Common.{◌≡◌, ℕ, suc, ◌+◌, ◌-◌, ◌<◌, ◌≤◌, Bool, true, false, ◌&&◌, is_none, List, [], ◌∷◌, ◌++◌, length, length-append, slice_index_or, replicate, None, Some, refl, sym, ap, ◌∙◌, inl, inr, ◌⊎◌, arith}
+use Rattle.std.proofs.lemmas.List.{get_or_append_left, get_or_push, get_or-replicate, get_or_past, length-replicate}
+use Rattle.std.proofs.lemmas.Bool.{cases_lt, cases_eq, and_from, false≢true}
+use Rattle.mu_values.specs.declared.scalars.Scalar.{Scalar}
+use Rattle.typed_heap.specs.declared.cells.CellId.{CellId}
+use Rattle.typed_heap.proofs.Equal.{same_cell-true}
+use Rattle.mem_axioms.specs.Events.{accesses}
+use Rattle.mem_axioms.specs.Logs.{event_at}
+use Rattle.mem_axioms.specs.HappensBefore.{happens_before}
+use Rattle.mem_axioms.specs.Axioms.{is_coherent, is_seq_cst_ordered, meets_axioms}
+use Rattle.mem_axioms.specs.Races.{race, is_race_free}
+use Rattle.mem_axioms.specs.Objects.{initial_of, HasCell}
+use Rattle.mem_axioms.specs.EventFits.{EventFits}
+use Rattle.mem_axioms.specs.Known.{HasCells}
+use Rattle.mem_axioms.specs.Sound.{IsSound}
+use Rattle.mem_axioms.specs.Flags.{flag, AreRowsOf}
+use Rattle.mem_axioms.specs.Blanks.{AreBlanks}
+use Rattle.mem_axioms.specs.declared.types.Event.{Event}
+use Rattle.mem_axioms.specs.declared.types.Rule.{Rule}
+use Rattle.mem_axioms.specs.declared.types.Kind.{Kind}
+use Rattle.mem_axioms.specs.declared.types.Kind.TheVariants.{Access, Fence, NewStack, NewThread, Leave, Enter, Wake, Woken}
+use Rattle.mem_axioms.proofs.Numbers.{event-cases}
+use Rattle.mem_axioms.proofs.Steps.{before-older}
+use Rattle.mem_axioms.proofs.Kept.{keeps-fit}
+
+pub rows-none : (rule : Rule) → AreRowsOf rule [] []
+rows-none rule = record { size = refl; right = λ k i h. absurd (omega arith) }
+
+pub cells-none : (objects : List (List Scalar)) → HasCells objects []
+cells-none objects = record { each = λ i e c at a. absurd (cc) }
+
+pub sound-none : (rule : Rule) (objects : List (List Scalar)) → IsSound rule objects []
+unfolding meets_axioms is_coherent is_seq_cst_ordered
+sound-none rule objects = record { axioms = refl; race_free = refl }
+
+pub blanks-none : (events : ℕ) → AreBlanks [] events 0
+blanks-none events = record { enough = omega arith; long = λ k h. absurd (omega arith); blank = λ k i. refl }
+
+pub blanks-made : (events room : ℕ) → AreBlanks (replicate room (replicate (events + room) false)) events room
+blanks-made events room = record {
+  enough = omega (arith, length-replicate room (replicate (events + room) false));
+  long = λ k h. rw (get_or-replicate room k (replicate (events + room) false) [] (omega (arith, length-replicate room (replicate (events + room) false)))) (omega (arith, length-replicate (events + room) false));
+  blank = λ k i. row k i (cases_lt k room);
+}
+  where
+    one : (i : ℕ) → (i < events + room) ⊎ (events + room ≤ i) → flag (replicate (events + room) false) i ≡ false
+    one i (inl l) = get_or-replicate (events + room) i false false l
+    one i (inr l) = get_or_past (replicate (events + room) false) i false (omega (arith, length-replicate (events + room) false))
+
+    row : (k i : ℕ) → (k < room) ⊎ (room ≤ k) → flag (slice_index_or (replicate room (replicate (events + room) false)) k []) i ≡ false
+    row k i (inl l) = rw (get_or-replicate room k (replicate (events + room) false) [] l) (one i (cases_lt i (events + room)))
+    row k i (inr l) = rw (get_or_past (replicate room (replicate (events + room) false)) k [] (omega (arith, length-replicate room (replicate (events + room) false)))) refl
+
+pub blanks-less : (all rest : List (List Bool)) (row : List Bool) (events room : ℕ) → all ≡ rest ++ row ∷ [] → 0 < room → AreBlanks all events room → AreBlanks rest (events + 1) (room - 1)
+blanks-less all rest row events room p h b = record {
+  enough = let e = b.enough in omega (arith, e, sizes);
+  long = λ k l. (let u = b.long k (omega (arith, sizes)) in let v = same k l in let w : length (slice_index_or all k []) ≡ length (slice_index_or rest k []) = ap (λ r. length r) v in omega (arith, u, w));
+  blank = λ k i. none k i (cases_lt k (length rest));
+}
+  where
+    sizes : length all ≡ length rest + 1
+    sizes = ap (λ l. length l) p ∙ length-append rest (row ∷ [])
+
+    same : (k : ℕ) → k < length rest → slice_index_or all k [] ≡ slice_index_or rest k []
+    same k l = ap (λ xs. slice_index_or xs k []) p ∙ get_or_append_left rest (row ∷ []) [] k l
+
+    none : (k i : ℕ) → (k < length rest) ⊎ (length rest ≤ k) → flag (slice_index_or rest k []) i ≡ false
+    none k i (inl l) = ap (λ r. flag r i) (sym (same k l)) ∙ b.blank k i
+    none k i (inr l) = rw (get_or_past rest k [] l) refl
+
+-- the last of the blank rows
+pub blanks-last : (all rest : List (List Bool)) (row : List Bool) (events room : ℕ) → all ≡ rest ++ row ∷ [] → AreBlanks all events room → (events + room ≤ length row) × ((i : ℕ) → flag row i ≡ false)
+blanks-last all rest row events room p b =
+    let here : slice_index_or all (length rest) [] ≡ row = ap (λ xs. slice_index_or xs (length rest) []) p ∙ get_or_push rest row [] (length rest) refl in
+    let sizes : length all ≡ length rest + 1 = ap (λ l. length l) p ∙ length-append rest (row ∷ []) in
+    let long = b.long (length rest) (omega (arith, sizes)) in
+    (rw here at long, λ i. ap (λ r. flag r i) (sym here) ∙ b.blank (length rest) i)
+
+pub rows-more : (rule : Rule) (log : List Event) (rows : List (List Bool)) (e : Event) (row : List Bool) → AreRowsOf rule log rows → ((i : ℕ) → flag row i ≡ happens_before rule (e ∷ log) i (length log)) → AreRowsOf rule (e ∷ log) (rows ++ row ∷ [])
+rows-more rule log rows e row r h = record {
+  size = let s = r.size in omega (arith, length-append rows (row ∷ []), s);
+  right = λ k i l. go k i l (cases_eq k (length log));
+}
+  where
+    go : (k i : ℕ) → k < suc (length log) → (k ≡ length log) ⊎ (k ≡ length log → ⊥) → flag (slice_index_or (rows ++ row ∷ []) k []) i ≡ happens_before rule (e ∷ log) i k
+    go k i l (inl p) = rw (p, get_or_push rows row [] (length log) r.size) (h i)
+    go k i l (inr n) =
+        let b : k < length log = omega arith in
+        let s = r.size in
+        let c : k < length rows = omega arith in
+        rw (get_or_append_left rows (row ∷ []) [] k c) (r.right k i b ∙ sym (before-older rule e log i k b))
+
+cells-kind : (rule : Rule) (objects : List (List Scalar)) (log : List Event) (t : ℕ) (k : Kind) (c : CellId) → EventFits rule objects log (record { thread = t; kind = k }) → accesses c (record { thread = t; kind = k }) ≡ true → HasCell objects c
+cells-kind rule objects log t (Access mode cell order position value) c f a = rw (same_cell-true cell c a) at f.cell
+cells-kind rule objects log t (Fence o) c f a = absurd (false≢true a)
+cells-kind rule objects log t (NewStack o) c f a = absurd (false≢true a)
+cells-kind rule objects log t (NewThread o) c f a = absurd (false≢true a)
+cells-kind rule objects log t (Leave o) c f a = absurd (false≢true a)
+cells-kind rule objects log t (Enter o) c f a = absurd (false≢true a)
+cells-kind rule objects log t (Wake o n) c f a = absurd (false≢true a)
+cells-kind rule objects log t (Woken o) c f a = absurd (false≢true a)
+
+pub cells-more : (rule : Rule) (objects : List (List Scalar)) (log : List Event) (e : Event) → EventFits rule objects log e → HasCells objects log → HasCells objects (e ∷ log)
+cells-more rule objects log e f h = record {
+  each = λ i ei c at a. elim (event-cases e log i ei at) [
+    | inl p ↦ cells-kind rule objects log e.thread e.kind c f (rw p.1 at a)
+    | inr p ↦ h.each i ei c p.1 a
+  ];
+}
+
+pub sound-more : (rule : Rule) (objects : List (List Scalar)) (log : List Event) (e : Event) → EventFits rule objects log e → race rule log e ≡ None → IsSound rule objects log → IsSound rule objects (e ∷ log)
+sound-more rule objects log e f n s = record {
+  axioms = keeps-fit rule objects log s.axioms e f;
+  race_free = and_from (is_none (race rule log e)) (is_race_free rule log) (ap (λ r. is_none r) n) s.race_free;
+}

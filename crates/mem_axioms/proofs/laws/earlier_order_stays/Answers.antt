@@ -1,0 +1,5 @@
+use Rattle.mem_axioms.proofs.Steps.{before-older}
+use Rattle.mem_axioms.proofs.laws.earlier_order_stays.Goals as goal
+
+pub returns-clause-happens_before : goal.returns-clause-happens_before
+returns-clause-happens_before c = before-older

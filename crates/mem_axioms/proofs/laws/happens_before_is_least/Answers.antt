@@ -1,0 +1,9 @@
+use Rattle.mem_axioms.proofs.Least.{before-iff}
+use Rattle.mem_axioms.proofs.Steps.{before-less}
+use Rattle.mem_axioms.proofs.laws.happens_before_is_least.Goals as goal
+
+pub returns-clause-least : goal.returns-clause-least
+returns-clause-least c = before-iff
+
+pub returns-clause-order : goal.returns-clause-order
+returns-clause-order c = before-less

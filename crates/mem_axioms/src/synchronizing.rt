@@ -1,0 +1,187 @@
+// Whether an event synchronizes with the one that comes next. Each function is the test of its name in the definitions,
+// on the events of a log in their order.
+ghost use Rattle.std.specs.Prelude.{◌≡◌, ◌&&◌, ◌||◌, ◌==◌, nat_lt, reverse};
+ghost use Rattle.mem_axioms.specs.Events.{order_of};
+ghost use Rattle.mem_axioms.specs.Logs.{any_event};
+ghost use Rattle.mem_axioms.specs.Synchronizes.{releases, continues, heads, fences, released, released_to, synchronizes_by_release, last_to_give_up, synchronizes_by_stack, makes_thread, synchronizes_by_wake, synchronizes};
+ghost use Rattle.mem_axioms.specs.HappensBefore.{precedes};
+
+use crate::event_facts::{
+    acquire, atomic, fence, gives_up_stack, makes, modifies_cell, order_in, position_in, release,
+    taken_by, update, wake,
+};
+use crate::types::{Event, Kind, Mode, Rule};
+use typed_heap::CellId;
+
+/// Whether a write or update goes on a release sequence whose head is by the thread.
+fn goes_on(rule: Rule, event: &Event, thread: u32) -> bool
+    ensures { result ≡ continues rule event.now thread }
+{
+    let own = match rule {
+        Rule::C11 => atomic(order_in(event)) && event.thread == thread,
+        Rule::Rmw => false,
+    };
+    update(event) || own
+}
+
+/// Whether event `h`, which is `head`, heads a release sequence that has the position.
+fn heads_position(
+    rule: Rule,
+    events: &[Event],
+    cell: CellId,
+    position: u32,
+    h: usize,
+    head: &Event,
+) -> bool
+    ensures { result ≡ heads rule (reverse events.now) cell position h head.now }
+{
+    let mut at = position;
+    for i in (0..events.len()).rev() {
+        let event = &events[i];
+        if modifies_cell(event, cell) && position_in(event) == at {
+            if atomic(order_in(event)) && h == i {
+                return true;
+            }
+            if !goes_on(rule, event, head.thread) {
+                return false;
+            }
+            at = at.saturating_sub(1);
+        }
+    }
+    false
+}
+
+/// Whether event `i`, which is `by`, is the head `h` and a release, or a release fence before it.
+fn releases_by(i: usize, by: &Event, h: usize, head: &Event) -> bool
+    ensures { result ≡ (((i == h) && releases (order_of head.now)) || fences i by.now h head.now) }
+{
+    let is_fence = i < h && by.thread == head.thread && fence(by) && release(order_in(by));
+    (i == h && release(order_in(head))) || is_fence
+}
+
+/// Whether event `i`, which is `by`, released the position.
+fn released_at(
+    rule: Rule,
+    events: &[Event],
+    cell: CellId,
+    position: u32,
+    i: usize,
+    by: &Event,
+) -> bool
+    ensures { result ≡ released rule (reverse events.now) cell position i by.now }
+{
+    let mut found = false;
+    for h in 0..events.len() {
+        let head = &events[h];
+        if releases_by(i, by, h, head) && heads_position(rule, events, cell, position, h, head) {
+            found = true;
+        }
+    }
+    found
+}
+
+/// The same for the position that an atomic read or update takes.
+fn released_to_read(rule: Rule, events: &[Event], read: &Event, i: usize, by: &Event) -> bool
+    ensures { result ≡ released_to rule (reverse events.now) read.now i by.now }
+{
+    match read.kind {
+        Kind::Access {
+            mode,
+            cell,
+            order,
+            ..
+        } => {
+            !matches!(mode, Mode::Write)
+                && atomic(order)
+                && released_at(rule, events, cell, taken_by(read), i, by)
+        }
+        _ => false,
+    }
+}
+
+/// Whether event `r`, which is `read`, is sequenced before `next` and takes what event `i` released.
+fn leaves_to(
+    rule: Rule,
+    events: &[Event],
+    r: usize,
+    read: &Event,
+    i: usize,
+    by: &Event,
+    next: &Event,
+) -> bool
+    ensures { result ≡ (nat_lt i r && (read.now.thread == next.now.thread) && released_to rule (reverse events.now) read.now i by.now) }
+{
+    i < r && read.thread == next.thread && released_to_read(rule, events, read, i, by)
+}
+
+/// Whether a read before the fence `next` takes what event `i` released.
+fn left_for_fence(rule: Rule, events: &[Event], i: usize, by: &Event, next: &Event) -> bool
+    ensures { result ≡ any_event (λ r er. nat_lt i r && (er.thread == next.now.thread) && released_to rule (reverse events.now) er i by.now) (reverse events.now) }
+{
+    let mut found = false;
+    for r in 0..events.len() {
+        if leaves_to(rule, events, r, &events[r], i, by, next) {
+            found = true;
+        }
+    }
+    found
+}
+
+/// Case 1: by what was released.
+fn reaches_acquire(rule: Rule, events: &[Event], i: usize, by: &Event, next: &Event) -> bool
+    ensures { result ≡ synchronizes_by_release rule (reverse events.now) i by.now next.now }
+{
+    acquire(order_in(next))
+        && (released_to_read(rule, events, next, i, by)
+            || (fence(next) && left_for_fence(rule, events, i, by, next)))
+}
+
+/// Whether event `i` is the last that left or made the stack.
+fn is_last_to_give_up(events: &[Event], stack: u32, i: usize) -> bool
+    ensures { result ≡ last_to_give_up (reverse events.now) stack i }
+{
+    let mut last = false;
+    for k in 0..events.len() {
+        if gives_up_stack(&events[k], stack) {
+            last = i == k;
+        }
+    }
+    last
+}
+
+/// Case 2: by the entering of a stack.
+fn enters_stack(events: &[Event], i: usize, next: &Event) -> bool
+    ensures { result ≡ synchronizes_by_stack (reverse events.now) i next.now }
+{
+    match next.kind {
+        Kind::Enter { stack } => is_last_to_give_up(events, stack, i),
+        _ => false,
+    }
+}
+
+/// Case 4: by a wake.
+fn woken_by(i: usize, by: &Event, next: &Event) -> bool
+    ensures { result ≡ synchronizes_by_wake i by.now next.now }
+{
+    match next.kind {
+        Kind::Woken { wake: woke } => i == woke as usize && wake(by),
+        _ => false,
+    }
+}
+
+/// Whether event `i`, which is `by`, synchronizes with `next`.
+fn synchronizes_with(rule: Rule, events: &[Event], i: usize, by: &Event, next: &Event) -> bool
+    ensures { result ≡ synchronizes rule (reverse events.now) i by.now next.now }
+{
+    reaches_acquire(rule, events, i, by, next)
+        || enters_stack(events, i, next)
+        || makes(by, next.thread)
+        || woken_by(i, by, next)
+}
+
+/// Whether event `i`, which is `by`, is sequenced before `next` or synchronizes with it.
+pub fn precedes_next(rule: Rule, events: &[Event], i: usize, by: &Event, next: &Event) -> bool
+    ensures { result ≡ precedes rule (reverse events.now) i by.now next.now }
+{
+    by.thread == next.thread || synchronizes_with(rule, events, i, by, next)
+}
