@@ -60,6 +60,16 @@ pub read_is_no_release : options C11 zeros (read 1 Acquire y 0 0 ∷ read 0 SeqC
 unfolding happens_before is_coherent is_seq_cst_ordered meets_axioms options
 read_is_no_release = refl
 
+-- A SEQ_CST access is no fence: it puts neither the RELAXED write before it into S ..
+pub access_after_a_relaxed_write : options C11 zeros (write 0 SeqCst y 1 1 ∷ write 0 Relaxed x 1 1 ∷ []) 1 x SeqCst ≡ 1 ∷ 0 ∷ []
+unfolding happens_before is_coherent is_seq_cst_ordered meets_axioms options
+access_after_a_relaxed_write = refl
+
+-- .. nor the RELAXED read after it.
+pub access_before_a_relaxed_read : options C11 zeros (read 1 SeqCst y 0 0 ∷ write 0 SeqCst x 1 1 ∷ []) 1 x Relaxed ≡ 1 ∷ 0 ∷ []
+unfolding happens_before is_coherent is_seq_cst_ordered meets_axioms options
+access_before_a_relaxed_read = refl
+
 -- A stack that was made and never left goes on from its making.
 pub making_of_a_stack_counts : options C11 zeros (by 1 (Enter 1) ∷ by 0 (NewStack 1) ∷ write 0 NotAtomic x 1 40 ∷ []) 1 x NotAtomic ≡ 1 ∷ []
 unfolding happens_before is_coherent is_seq_cst_ordered meets_axioms options
