@@ -1,0 +1,34 @@
+// The program.
+#![tactic(auto)]
+
+use mu_base::{FileInputs, Status, StdSink, Words};
+use std::alloc::AllocError;
+use std::env;
+use std::rt::Env;
+use std::process::ExitCode;
+use mu_command::mu;
+
+// The words of the command line, but for the program's name.
+fn read_words<R: Env + AllocGlobal>(rt: &R) -> Option<Result<Words, AllocError>> {
+    let mut words = Words::new(rt.alloc());
+    let Ok(all) = env::args(rt) else {
+        return None;
+    };
+    for word in all.skip(1) {
+        if let Err(error) = words.push(word.as_str()) {
+            return Some(Err(error));
+        }
+    }
+    Some(Ok(words))
+}
+
+fn main(rt: HostRuntime) -> ExitCode {
+    let words = match read_words(&rt) {
+        None => return ExitCode::from(14),
+        Some(Err(_)) => return ExitCode::from(Status::Memory.code()),
+        Some(Ok(words)) => words,
+    };
+    let mut inputs = FileInputs::new(&rt);
+    let mut out = StdSink::new(&rt);
+    ExitCode::from(mu(rt.alloc(), &words, &mut inputs, &mut out).code())
+}

@@ -1,0 +1,6 @@
+pub mod Together
+pub mod Puts
+pub mod InTurn
+pub mod Answering
+pub mod Completeness
+pub mod Causes

@@ -1,0 +1,9 @@
+use Rattle.mu_command.proofs.Causes.{refused_cause}
+use Rattle.mu_command.proofs.Completeness.{complete}
+use Rattle.mu_command.proofs.program.mu.Goals as goal
+
+pub returns-clause-refused : goal.returns-clause-refused
+returns-clause-refused g c = λ s. refused_cause _ _ _ _ _ _ _ c.answer.ensures.answered s
+
+pub returns-clause-complete : goal.returns-clause-complete
+returns-clause-complete g c = λ files told quiet. complete _ files _ _ _ _ _ _ c.answer.ensures.answered told quiet

@@ -1,0 +1,101 @@
+-- What the program answers to its words, and to what the fetches of its files come to.
+use Rattle.std.specs.Prelude.{ℕ, List, [], ◌∷◌, ◌++◌, map, Option, None, Some, Result, Ok, Err, codes, decimal}
+use Rattle.mu_base.specs.declared.status.Status.{Status}
+use Rattle.mu_base.specs.declared.status.Status.TheVariants.{Usage, ReadFault, Refused, TooLong, Memory}
+use Rattle.mu_base.specs.Outcome.{Outcome, got, failed, too_long}
+use Rattle.ir_text.specs.declared.tree.Item.{Item}
+use Rattle.ir_text.specs.declared.fault.TextFault.{TextFault}
+use Rattle.ir_text.specs.declared.fault.TextFault.TheVariants as text_faults
+use Rattle.ir_text.specs.NotBuilt.{text_answer}
+use Rattle.bundle_check.specs.declared.fault.CheckFault.{CheckFault}
+use Rattle.bundle_check.specs.declared.fault.CheckFault.TheVariants as check_faults
+use Rattle.bundle_check.specs.Checking.{check_demands}
+use Rattle.bundle_check.specs.Demands.{first_unmet}
+use Rattle.bundle_check.specs.Functions.{function_number}
+use Rattle.mu_step.specs.Run.{Run as RunOfMachine, run}
+use Rattle.mu_command.specs.declared.job.Job.{Job}
+use Rattle.mu_command.specs.declared.job.Job.TheVariants.{Run}
+use Rattle.mu_command.specs.declared.what.What.{What}
+use Rattle.mu_command.specs.declared.what.What.TheVariants.{Bundle}
+use Rattle.mu_command.specs.Job.{name_of, word}
+use Rattle.mu_command.specs.Lines.{line_text, ending_text, ending_status}
+use Rattle.mu_command.specs.Refusals.{text_fault_name, check_fault_name}
+
+-- What is to be written, in the pieces that are put one by one, and the status that goes with it.
+pub record Answer : Type 0 where
+  pub pieces : List (List ℕ)
+  pub status : Status
+
+-- one line, in one piece
+abbrev pub line : List ℕ → Status → Answer
+line words status = record { pieces = (words ++ 10 ∷ []) ∷ []; status = status }
+
+-- An answer that no call can end with: a definition gives it where, by a law, it is never asked.
+abbrev pub no_answer : Answer
+no_answer = record { pieces = []; status = Memory }
+
+-- What a part of the way comes to: something to go on with, or the answer that ends it.
+abbrev pub Part : Type 0 → Type 0
+Part A = Result A Answer
+
+infixl 10 ◌>>=◌
+abbrev pub ◌>>=◌ : {A B : Type 0} → Part A → (A → Part B) → Part B
+(Ok x) >>= more = more x
+(Err answer) >>= more = Err answer
+
+-- a fetch gives the file's bytes, or a line that names the file
+abbrev pub fetched : What → Outcome → Part (List ℕ)
+fetched what (got bytes) = Ok bytes
+fetched what failed = Err (line (codes "read fault " ++ name_of what) ReadFault)
+fetched what too_long = Err (line (codes "too long " ++ name_of what) TooLong)
+
+-- `refused WHAT PLACE FAULT`
+abbrev pub refused : What → ℕ → List ℕ → Answer
+refused what place fault = line (codes "refused " ++ name_of what ++ codes " " ++ decimal place ++ codes " " ++ fault) Refused
+
+-- a text is a bundle, or has a first fault
+abbrev pub read_part : Result (List Item) TextFault → Part (List Item)
+read_part (Ok bundle) = Ok bundle
+read_part (Err (text_faults.At kind place)) = Err (refused Bundle place (text_fault_name kind))
+read_part (Err text_faults.Memory) = Err no_answer
+
+-- a bundle meets its demands, or there is a first one that it does not
+abbrev pub check_part : List Item → Option CheckFault → Part (List Item)
+check_part bundle None = Ok bundle
+check_part bundle (Some (check_faults.At kind place)) = Err (refused Bundle place (check_fault_name kind))
+check_part bundle (Some check_faults.Memory) = Err no_answer
+
+-- the bundle that a text is, where it meets its demands
+abbrev pub accepted : List ℕ → Part (List Item)
+accepted bytes = read_part (text_answer bytes) >>= λ bundle. check_part bundle (first_unmet (check_demands bundle))
+
+-- the function that the run begins with
+abbrev pub entry_part : Option ℕ → Part ℕ
+entry_part (Some n) = Ok n
+entry_part None = Err (line (codes "refused entry Unknown") Refused)
+
+abbrev pub entered : List Item → List ℕ → Part ℕ
+entered bundle name = entry_part (function_number bundle name)
+
+-- the lines of the run, a piece each, and then its ending; a run that is stuck would have no answer
+abbrev pub run_answer : Option RunOfMachine → Answer
+run_answer (Some r) = record { pieces = map line_text r.lines ++ ending_text r.ending ∷ []; status = ending_status r.ending }
+run_answer None = no_answer
+
+-- what is found on the way to a run: a bundle, and a function of it
+abbrev pub found : List (List ℕ) → ℕ → Outcome → Part (List Item × ℕ)
+found words entry bundle =
+    fetched Bundle bundle >>= λ bytes. accepted bytes >>= λ code. entered code (word words entry) >>= λ n. Ok (code, n)
+
+abbrev pub run_part : Part (List Item × ℕ) → Answer
+run_part (Ok (code, n)) = run_answer (run code n)
+run_part (Err answer) = answer
+
+-- What the fetches come to, file by file.
+abbrev pub Outcomes : Type 0
+Outcomes = What → Outcome
+
+-- The answer to the words and the outcomes: no job; the first fetch that gives no file; the first refusal; else the run.
+abbrev pub answer_of : List (List ℕ) → Option Job → Outcomes → Answer
+answer_of words None outcomes = line (codes "usage") Usage
+answer_of words (Some (Run file entry)) outcomes = run_part (found words entry (outcomes Bundle))

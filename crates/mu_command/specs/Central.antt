@@ -1,0 +1,80 @@
+-- The one statement about the program, and the causes of its statuses.
+use Rattle.std.specs.Prelude.{◌≡◌, ◌⊎◌, ℕ, ◌-◌, ◌^◌, ◌<◌, List, [], length, Option, None, Some, Ok, Err, nat_le, if◌then◌else◌}
+use Rattle.mu_base.specs.declared.status.Status.{Status}
+use Rattle.mu_base.specs.Faults.{Rose}
+use Rattle.mu_base.specs.Files.{Files, file, IsMissing}
+use Rattle.mu_base.specs.Outcome.{Outcome, got, failed, too_long, IsLonger}
+use Rattle.ir_text.specs.declared.tree.Item.{Item}
+use Rattle.mu_command.specs.declared.job.Job.{Job}
+use Rattle.mu_command.specs.declared.job.Job.TheVariants.{Run}
+use Rattle.mu_command.specs.declared.what.What.{What}
+use Rattle.mu_command.specs.declared.what.What.TheVariants.{Bundle}
+use Rattle.mu_command.specs.Job.{job_of, file_of, slot_of, word}
+use Rattle.mu_command.specs.Answer.{Answer, Outcomes, ◌>>=◌, accepted, entered, answer_of}
+use Rattle.mu_command.specs.Allowed.{Seen, AllowsWord, AllowsJob, file_limit}
+use Rattle.mu_command.specs.Written.{Writes}
+
+-- There are outcomes that the inputs allow, and the answer to them is what is written.
+pub record Answered (seen : Seen) (words : List (List ℕ)) (written new_written marks new_marks : Option (List ℕ)) (status : Status) : Type 0 where
+  pub outcomes : Outcomes
+  pub allowed : AllowsJob seen words (job_of words) outcomes
+  pub writes : Writes (answer_of words (job_of words) outcomes) written new_written marks new_marks status
+
+-- ---- causes
+
+-- one of the files that the job names has that
+abbrev pub SomeFile : (What → ℕ → Type 0) → Option Job → Type 0
+SomeFile P None = ⊥
+SomeFile P (Some job) = (what : What) × (n : ℕ) × (file_of job what ≡ Some n) × P what n
+
+-- a fetch of the file that a word names may have failed: its count rose, or it is told that there is no such file
+abbrev pub MayFail : Seen → List (List ℕ) → What → ℕ → Type 0
+MayFail seen words what n = Rose (seen.before (slot_of what)) (seen.now (slot_of what)) ⊎ IsMissing seen.told (word words n)
+
+-- the file that a word names is past the limit, and its count stayed
+abbrev pub IsPast : Seen → List (List ℕ) → What → ℕ → Type 0
+IsPast seen words what n = IsLonger seen.told (word words n) file_limit × (seen.now (slot_of what) ≡ seen.before (slot_of what))
+
+-- the bytes of a bundle's file, a function's name, and what they come to: accepted, or refused
+pub record IsAccepted (seen : Seen) (words : List (List ℕ)) (file entry : ℕ) : Type 0 where
+  pub bytes : List ℕ
+  pub held : AllowsWord seen words Bundle file (got bytes)
+  pub code : List Item
+  pub number : ℕ
+  pub is_code : accepted bytes ≡ Ok code
+  pub is_entry : entered code (word words entry) ≡ Ok number
+
+pub record IsRefused (seen : Seen) (words : List (List ℕ)) (file entry : ℕ) : Type 0 where
+  pub bytes : List ℕ
+  pub held : AllowsWord seen words Bundle file (got bytes)
+  pub refusal : Answer
+  pub is : (accepted bytes >>= λ code. entered code (word words entry)) ≡ Err refusal
+
+abbrev pub Running : (ℕ → ℕ → Type 0) → Option Job → Type 0
+Running P None = ⊥
+Running P (Some (Run file entry)) = P file entry
+
+-- ---- completeness
+
+-- what a fetch comes to where files are told and nothing fails
+abbrev pub outcome_of : Option (List ℕ) → Outcome
+outcome_of None = failed
+outcome_of (Some bytes) = if nat_le (length bytes) file_limit then got bytes else too_long
+
+abbrev pub outcome_named : Files → List (List ℕ) → Option ℕ → Outcome
+outcome_named files words None = got []
+outcome_named files words (Some n) = outcome_of (file files (word words n))
+
+-- what the fetches of a job come to
+abbrev pub outcomes_of : Files → List (List ℕ) → Option Job → Outcomes
+outcomes_of files words None what = got []
+outcomes_of files words (Some job) what = outcome_named files words (file_of job what)
+
+-- the count did not rise and stands below its last value
+abbrev pub IsQuiet : Seen → ℕ → Type 0
+IsQuiet seen slot = (seen.now slot ≡ seen.before slot) × (seen.now slot < 2 ^ 64 - 1)
+
+-- Where files are told and no count rises, all outcomes that are allowed have one answer.
+abbrev pub OneAnswer : Type 0
+OneAnswer = (seen : Seen) (files : Files) (words : List (List ℕ)) (o p : Outcomes) → seen.told ≡ Some files → ((s : ℕ) → IsQuiet seen s) →
+    AllowsJob seen words (job_of words) o → AllowsJob seen words (job_of words) p → answer_of words (job_of words) o ≡ answer_of words (job_of words) p

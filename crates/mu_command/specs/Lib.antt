@@ -1,0 +1,9 @@
+pub mod Job
+pub mod Lines
+pub mod Refusals
+pub mod Answer
+pub mod Allowed
+pub mod Written
+pub mod Parts
+pub mod Central
+pub mod Examples

@@ -1,0 +1,42 @@
+// Fetches a file of the job.
+ghost use Rattle.std.specs.Prelude.{◌≡◌, ◌≢◌, ◌<◌, ◌≤◌, ℕ, length};
+ghost use Rattle.mu_command.specs.Job.{slot_of};
+ghost use Rattle.mu_command.specs.Parts.{IsLoaded};
+
+use crate::refusals::naming;
+use crate::stop::Stop;
+use crate::what::What;
+use mu_base::{FetchFault, Inputs, Status, Words};
+use std::alloc::Global;
+
+// The most bytes of a file.
+const FILE_LIMIT: usize = 1_048_576;
+
+/// Fetches the file that a word names.
+pub fn load<I: Inputs>(
+    alloc: Global,
+    words: &Words,
+    what: What,
+    n: usize,
+    inputs: &mut I,
+) -> Result<Vec<u8>, Stop>
+    requires { n < length words.now }
+    ensures same { I.holds inputs.new ≡ I.holds inputs.old }
+    ensures other_slots { (s : ℕ) → s ≢ slot_of what → I.faults inputs.new s ≡ I.faults inputs.old s }
+    ensures never_falls { (s : ℕ) → I.faults inputs.old s ≤ I.faults inputs.new s }
+    ensures loaded { IsLoaded (record { told = I.holds inputs.old; before = I.faults inputs.old; now = I.faults inputs.new }) words.now what n result }
+{
+    let mut bytes = Vec::new(alloc);
+    match inputs.fetch(what.slot(), words.word(n), FILE_LIMIT, &mut bytes) {
+        Ok(()) => Ok(bytes),
+        Err(FetchFault::Fault) => Err(Stop::Line(
+            naming(alloc, "read fault ", what)?,
+            Status::ReadFault,
+        )),
+        Err(FetchFault::TooLong) => Err(Stop::Line(
+            naming(alloc, "too long ", what)?,
+            Status::TooLong,
+        )),
+        Err(FetchFault::Memory) => Err(Stop::Memory),
+    }
+}

@@ -1,0 +1,67 @@
+// The top call.
+ghost use Rattle.std.specs.Prelude.{◌≡◌, ℕ, None, Some};
+ghost use Rattle.mu_base.specs.Faults.{Rose};
+ghost use Rattle.mu_base.specs.Files.{Files};
+ghost use Rattle.mu_command.specs.Answer.{answer_of};
+ghost use Rattle.mu_command.specs.Central.{Answered, MayFail, IsPast, SomeFile, Running, IsAccepted, IsRefused, IsQuiet, outcomes_of, OneAnswer};
+ghost use Rattle.mu_command.specs.Job.{job_of};
+ghost use Rattle.mu_command.specs.Written.{IsWhole, Writes};
+
+use crate::finding::find;
+use crate::running::write_run;
+use crate::stop::Stop;
+use crate::writing::put_line;
+use mu_base::{Inputs, Sink, Status, Words};
+use std::alloc::Global;
+
+// Finds the answer and writes it.
+#[tactic(auto, using(crate::proofs::Answering::answering))]
+fn answer<I: Inputs, S: Sink>(alloc: Global, words: &Words, inputs: &mut I, out: &mut S) -> Status
+    ensures answered { Answered (record { told = I.holds inputs.old; before = I.faults inputs.old; now = I.faults inputs.new }) words.now
+        (S.written out.old) (S.written out.new) (S.ends out.old) (S.ends out.new) result }
+    ensures sink_fault { result ≡ Status.SinkFault → Rose (S.faults out.old) (S.faults out.new) }
+{
+    match find(alloc, words, inputs) {
+        Ok(ready) => write_run(alloc, &ready, out),
+        Err(Stop::Line(text, status)) => put_line(out, text, status),
+        Err(Stop::Memory) => Status::Memory,
+    }
+}
+
+/// Does what the words ask for, and writes what it comes to. It has no condition.
+///
+/// The words are `run FILE --entry NAME`: the bundle in the file is read, checked, and run from the function with that
+/// name. What is written is the text of the run, or one line that names the first fault of what was given. After every
+/// status a prefix of that text was written; after each but `SinkFault` and `Memory` it is the whole text.
+pub fn mu<I: Inputs, S: Sink>(alloc: Global, words: &Words, inputs: &mut I, out: &mut S) -> Status
+    // There are outcomes of the fetches that the inputs allow, and the answer to them is what is written.
+    ensures answered { Answered (record { told = I.holds inputs.old; before = I.faults inputs.old; now = I.faults inputs.new }) words.now
+        (S.written out.old) (S.written out.new) (S.ends out.old) (S.ends out.new) result }
+
+    // The causes of the statuses.
+    ensures usage { job_of words.now ≡ None → IsWhole result → result ≡ Status.Usage }
+    ensures usage_only { result ≡ Status.Usage → job_of words.now ≡ None }
+    ensures read_fault { result ≡ Status.ReadFault → SomeFile
+        (MayFail (record { told = I.holds inputs.old; before = I.faults inputs.old; now = I.faults inputs.new }) words.now) (job_of words.now) }
+    ensures too_long { result ≡ Status.TooLong → SomeFile
+        (IsPast (record { told = I.holds inputs.old; before = I.faults inputs.old; now = I.faults inputs.new }) words.now) (job_of words.now) }
+    ensures refused { result ≡ Status.Refused → Running
+        (IsRefused (record { told = I.holds inputs.old; before = I.faults inputs.old; now = I.faults inputs.new }) words.now) (job_of words.now) }
+    ensures done { result ≡ Status.Done → Running
+        (IsAccepted (record { told = I.holds inputs.old; before = I.faults inputs.old; now = I.faults inputs.new }) words.now) (job_of words.now) }
+    ensures sink_fault { result ≡ Status.SinkFault → Rose (S.faults out.old) (S.faults out.new) }
+
+    // Where the inputs tell their files and no count rises, the answer is that to the files.
+    ensures complete { (files : Files) → I.holds inputs.old ≡ Some files
+        → ((s : ℕ) → IsQuiet (record { told = I.holds inputs.old; before = I.faults inputs.old; now = I.faults inputs.new }) s)
+        → Writes (answer_of words.now (job_of words.now) (outcomes_of files words.now (job_of words.now)))
+        (S.written out.old) (S.written out.new) (S.ends out.old) (S.ends out.new) result }
+{
+    answer(alloc, words, inputs, out)
+}
+
+/// The law that there is one answer: where the inputs tell their files and no count rises, all outcomes that they allow
+/// have the same.
+pub fn answer_is_one()
+    ensures { OneAnswer }
+{}

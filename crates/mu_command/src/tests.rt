@@ -1,0 +1,196 @@
+use super::mu;
+use mu_base::{File, MemoryInputs, MemorySink, Status, Text, Words};
+use std::alloc::{AllocError, Global};
+use std::process::Abort;
+use std::test::Fail;
+
+const ADDS_40_AND_2: &str =
+    ".typedef @i64 = int<64> .funcsig @mi = () -> (@i64) .const @a <@i64> = 40 .const @b <@i64> = 2 \
+    .funcdef @main VERSION %v <@mi> { %e(): %c = ADD <@i64> @a @b RET (%c) }";
+
+const RUN: &[&str] = &["run", "b", "--entry", "@main"];
+
+// A call of the program, and what it must come to.
+#[derive(Clone, Copy)]
+struct Row {
+    words: &'static [&'static str],
+    bundle: &'static str,
+    failing_fetches: &'static [u32],
+    failing_puts: &'static [u32],
+    text: &'static str,
+    status: Status,
+}
+
+// A run of a bundle where nothing fails.
+fn run(bundle: &'static str, text: &'static str, status: Status) -> Row {
+    Row {
+        words: RUN,
+        bundle,
+        failing_fetches: &[],
+        failing_puts: &[],
+        text,
+        status,
+    }
+}
+
+fn words_of(alloc: Global, all: &[&str]) -> Result<Words, AllocError> {
+    let mut words = Words::new(alloc);
+    for word in all {
+        words.push(word)?;
+    }
+    Ok(words)
+}
+
+fn file(alloc: Global, name: &str, bytes: &[u8]) -> Result<File, AllocError> {
+    Ok(File {
+        name: Text::from_vec(Vec::from_slice(alloc, name.as_bytes())?),
+        bytes: Text::from_vec(Vec::from_slice(alloc, bytes)?),
+    })
+}
+
+fn comes_to(rt: &impl Abort, alloc: Global, row: &Row) -> Result<(), AllocError> {
+    let words = words_of(alloc, row.words)?;
+    let files = vec![in alloc; file(alloc, "b", row.bundle.as_bytes())?]?;
+    let mut inputs = MemoryInputs::new(files, Vec::from_slice(alloc, row.failing_fetches)?);
+    let mut out = MemorySink::new(alloc, Vec::from_slice(alloc, row.failing_puts)?);
+    let status = mu(alloc, &words, &mut inputs, &mut out);
+    assert_eq!(rt; out.bytes(), row.text.as_bytes());
+    assert!(rt; status == row.status);
+    Ok(())
+}
+
+#[test]
+fn runs(rt: HostRuntime) -> Result<(), Fail> {
+    let rows = [
+        run(ADDS_40_AND_2, "returned t0 42\ndone\n", Status::Done),
+        run("", "refused entry Unknown\n", Status::Refused),
+        run(
+            ".funcdef @f VERSION %v <@s> { %e(): RET",
+            "refused bundle 39 Unexpected\n",
+            Status::Refused,
+        ),
+        run(".global", "refused bundle 0 NotBuilt\n", Status::Refused),
+        run("@", "refused bundle 0 BadName\n", Status::Refused),
+        run(
+            ".typedef @i64 = int<09>",
+            "refused bundle 20 BadByte\n",
+            Status::Refused,
+        ),
+        run(
+            ".typedef @i32 = int<32> .foo",
+            "refused bundle 20 NotBuilt\n",
+            Status::Refused,
+        ),
+        run(
+            ".typedef @a = int<64> .typedef @a = int<64>",
+            "refused bundle 31 NotBuilt\n",
+            Status::Refused,
+        ),
+    ];
+    for row in &rows {
+        comes_to(&rt, rt.alloc(), row)?;
+    }
+    Ok(())
+}
+
+#[test]
+fn other_words_and_faults(rt: HostRuntime) -> Result<(), Fail> {
+    let adds = run(ADDS_40_AND_2, "returned t0 42\ndone\n", Status::Done);
+    let rows = [
+        Row {
+            words: &["run", "b"],
+            text: "usage\n",
+            status: Status::Usage,
+            ..adds
+        },
+        Row {
+            words: &["run", "b", "--entry", "main"],
+            text: "refused entry Unknown\n",
+            status: Status::Refused,
+            ..adds
+        },
+        Row {
+            words: &["run", "c", "--entry", "@main"],
+            text: "read fault bundle\n",
+            status: Status::ReadFault,
+            ..adds
+        },
+        Row {
+            failing_fetches: &[0],
+            text: "read fault bundle\n",
+            status: Status::ReadFault,
+            ..adds
+        },
+        Row {
+            failing_puts: &[0],
+            text: "",
+            status: Status::SinkFault,
+            ..adds
+        },
+        Row {
+            failing_puts: &[1],
+            text: "returned t0 42\n",
+            status: Status::SinkFault,
+            ..adds
+        },
+        Row {
+            failing_fetches: &[1],
+            failing_puts: &[2],
+            ..adds
+        },
+        Row {
+            failing_fetches: &[0],
+            failing_puts: &[0],
+            text: "",
+            status: Status::SinkFault,
+            ..adds
+        },
+    ];
+    for row in &rows {
+        comes_to(&rt, rt.alloc(), row)?;
+    }
+    Ok(())
+}
+
+// A file of that many spaces.
+fn blanks(
+    rt: &impl Abort,
+    alloc: Global,
+    count: usize,
+    text: &str,
+    status: Status,
+) -> Result<(), AllocError> {
+    let words = words_of(alloc, RUN)?;
+    let bytes = vec![in alloc; b' '; count]?;
+    let files = vec![in alloc;
+        File {
+            name: Text::from_vec(Vec::from_slice(alloc, b"b")?),
+            bytes: Text::from_vec(bytes)
+        },
+    ]?;
+    let mut inputs = MemoryInputs::new(files, Vec::new(alloc));
+    let mut out = MemorySink::new(alloc, Vec::new(alloc));
+    let answer = mu(alloc, &words, &mut inputs, &mut out);
+    assert_eq!(rt; out.bytes(), text.as_bytes());
+    assert!(rt; answer == status);
+    Ok(())
+}
+
+#[test]
+fn files_at_the_limit(rt: HostRuntime) -> Result<(), Fail> {
+    blanks(
+        &rt,
+        rt.alloc(),
+        1_048_576,
+        "refused entry Unknown\n",
+        Status::Refused,
+    )?;
+    blanks(
+        &rt,
+        rt.alloc(),
+        1_048_577,
+        "too long bundle\n",
+        Status::TooLong,
+    )?;
+    Ok(())
+}

@@ -1,0 +1,34 @@
+// Puts pieces to the sink.
+ghost use Rattle.std.specs.Prelude.{◌≡◌, ◌≤◌};
+ghost use Rattle.mu_base.specs.Faults.{Rose};
+ghost use Rattle.mu_command.specs.Answer.{line};
+ghost use Rattle.mu_command.specs.Written.{Writes, IsWhole, stopped};
+
+use mu_base::{PutFault, Sink, Status};
+
+/// The status of the program where a put failed.
+pub fn stopped(fault: PutFault) -> Status
+    ensures { result ≡ stopped fault }
+{
+    match fault {
+        PutFault::Fault => Status::SinkFault,
+        PutFault::Memory => Status::Memory,
+    }
+}
+
+/// Writes one line.
+pub fn put_line<S: Sink>(out: &mut S, text: Vec<u8>, status: Status) -> Status
+    requires { IsWhole status }
+    ensures writes { Writes (line text.items status) (S.written out.old) (S.written out.new) (S.ends out.old) (S.ends out.new) result }
+    ensures never_falls { S.faults out.old ≤ S.faults out.new }
+    ensures fault { result ≡ Status.SinkFault → Rose (S.faults out.old) (S.faults out.new) }
+{
+    let mut text = text;
+    if text.push(b'\n').is_err() {
+        return Status::Memory;
+    }
+    match out.put(&text) {
+        Ok(()) => status,
+        Err(fault) => stopped(fault),
+    }
+}

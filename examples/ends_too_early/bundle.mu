@@ -1,0 +1,1 @@
+.funcdef @f VERSION %v <@s> { %e(): RET
