@@ -5,7 +5,8 @@ use Rattle.ir_lex.specs.declared.token.LexKind.TheVariants.{BadName}
 use Rattle.ir_lex.specs.declared.name.Name.{Name}
 use Rattle.ir_lex.specs.declared.name.Numeral.{Numeral}
 use Rattle.ir_lex.specs.WordTable.{words, directives, common_names}
-use Rattle.ir_lex.specs.Scanner.{gap_len, next_of, tokens_within, tokens_from}
+use Rattle.ir_lex.specs.Scanner.{gap_len, next_of}
+use Rattle.ir_lex.specs.Walk.{tokens_within, tokens_from}
 use Rattle.ir_lex.specs.TokenForms.{mark, name, numeral}
 use Rattle.ir_text.specs.declared.tree.TypeForm.TheVariants as types
 use Rattle.ir_text.specs.declared.tree.Literal.TheVariants as literals

@@ -13,7 +13,8 @@ use Rattle.text_forms.specs.Derives.{Derives}
 use Rattle.text_forms.specs.First.{IsFirstFault}
 use Rattle.ir_lex.specs.declared.token.LexKind.TheVariants as lexical
 use Rattle.ir_lex.specs.declared.token.Number.{Number}
-use Rattle.ir_lex.specs.Scanner.{number_of, tokens_from}
+use Rattle.ir_lex.specs.Scanner.{number_of}
+use Rattle.ir_lex.specs.Walk.{tokens_from}
 use Rattle.ir_text.specs.declared.tree.Item.{Item}
 use Rattle.ir_text.specs.declared.fault.TextKind.{TextKind}
 use Rattle.ir_text.specs.declared.fault.TextKind.TheVariants.{Lex, Unexpected, NotBuilt}

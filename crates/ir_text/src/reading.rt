@@ -1,6 +1,6 @@
 //! The bundle that a text spells.
 ghost use Rattle.std.specs.Prelude.{length};
-ghost use Rattle.ir_lex.specs.Scanner.{tokens_from};
+ghost use Rattle.ir_lex.specs.Walk.{tokens_from};
 ghost use Rattle.ir_text.specs.NotBuilt.{text_answer, Answers, IfAnswer, IsAnswer};
 
 use crate::fault::TextFault;

@@ -1,5 +1,5 @@
 use Rattle.std.proofs.Common.{length}
-use Rattle.ir_lex.specs.Scanner.{tokens_from}
+use Rattle.ir_lex.specs.Walk.{tokens_from}
 use Rattle.ir_lex.proofs.Cursors.{texts_end}
 use Rattle.ir_text.proofs.OneAnswer.{is_answer}
 use Rattle.ir_text.proofs.reading.read_bundle.Goals as goal
