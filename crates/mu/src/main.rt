@@ -2,11 +2,11 @@
 #![tactic(auto)]
 
 use mu_base::{FileInputs, Status, StdSink, Words};
+use mu_command::mu;
 use std::alloc::AllocError;
 use std::env;
-use std::rt::Env;
 use std::process::ExitCode;
-use mu_command::mu;
+use std::rt::Env;
 
 // The words of the command line, but for the program's name.
 fn read_words<R: Env + AllocGlobal>(rt: &R) -> Option<Result<Words, AllocError>> {
