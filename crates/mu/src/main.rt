@@ -1,4 +1,4 @@
-// The program.
+//! The program `mu`: does what the words of the command line ask for, over the files of the system and standard output.
 #![tactic(auto)]
 
 use mu_base::{FileInputs, Status, StdSink, Words};
@@ -8,7 +8,10 @@ use std::env;
 use std::process::ExitCode;
 use std::rt::Env;
 
-// The words of the command line, but for the program's name.
+// The status where the words of the command line cannot be read.
+const WORDS_UNREAD: u8 = 14;
+
+// The words of the command line, but for the program's name; None where they cannot be read.
 fn read_words<R: Env + AllocGlobal>(rt: &R) -> Option<Result<Words, AllocError>> {
     let mut words = Words::new(rt.alloc());
     let Ok(all) = env::args(rt) else {
@@ -24,7 +27,7 @@ fn read_words<R: Env + AllocGlobal>(rt: &R) -> Option<Result<Words, AllocError>>
 
 fn main(rt: HostRuntime) -> ExitCode {
     let words = match read_words(&rt) {
-        None => return ExitCode::from(14),
+        None => return ExitCode::from(WORDS_UNREAD),
         Some(Err(_)) => return ExitCode::from(Status::Memory.code()),
         Some(Ok(words)) => words,
     };
