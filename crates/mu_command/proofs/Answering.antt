@@ -1,6 +1,6 @@
 -- The two halves put together.
-use Rattle.std.proofs.Common.{◌≡◌, ◌≢◌, ℕ, ◌≤◌, List, [], ◌++◌, refl, sym, subst, ap, Option, Some, None}
-use Rattle.std.specs.Io.KnownBytes.{Appends, Keeps}
+use Rattle.std.proofs.Common.{ℕ, ◌≤◌, List, [], refl, subst, Option, Some, None}
+use Rattle.std.specs.Io.KnownBytes.{Keeps}
 use Rattle.mu_base.specs.declared.status.Status.{Status}
 use Rattle.mu_base.specs.declared.status.Status.TheVariants.{Memory}
 use Rattle.mu_base.specs.Outcome.{Outcome, got}
@@ -8,10 +8,10 @@ use Rattle.mu_base.proofs.Outcomes.{some_outcome}
 use Rattle.mu_command.specs.declared.job.Job.{Job}
 use Rattle.mu_command.specs.declared.what.What.{What}
 use Rattle.mu_command.specs.Job.{job_of, file_of, slot_of}
-use Rattle.mu_command.specs.Answer.{Answer, Outcomes, line, answer_of}
+use Rattle.mu_command.specs.Answer.{Answer, Outcomes}
 use Rattle.mu_command.specs.Allowed.{Seen, AllowsFile, AllowsJob}
 use Rattle.mu_command.specs.Parts.{IsAnswer}
-use Rattle.mu_command.specs.Written.{Writes, IsWhole, Wrote}
+use Rattle.mu_command.specs.Written.{Writes}
 use Rattle.mu_command.specs.Central.{Answered}
 use Rattle.mu_command.proofs.Puts.{nothing_put, kept_is_part}
 

@@ -1,5 +1,5 @@
 -- Why a text was refused.
-use Rattle.std.proofs.Common.{◌≡◌, ◌≢◌, ℕ, List, ◌∙◌, sym, refl, arith, Option, Some, None}
+use Rattle.std.proofs.Common.{◌≡◌, ℕ, List, ◌∙◌, sym, refl, Option, Some, None}
 use Rattle.std.specs.Prelude.{Ok, Err}
 use Rattle.mu_base.specs.declared.status.Status.{Status}
 use Rattle.mu_base.specs.declared.status.Status.TheVariants.{Refused}
@@ -13,9 +13,9 @@ use Rattle.mu_command.specs.declared.job.Job.TheVariants.{Run}
 use Rattle.mu_command.specs.declared.what.What.TheVariants.{Bundle}
 use Rattle.mu_command.specs.Job.{job_of, word}
 use Rattle.mu_command.specs.Lines.{ending_status}
-use Rattle.mu_command.specs.Answer.{Answer, Outcomes, Part, ◌>>=◌, accepted, entered, found, run_part, run_answer, answer_of}
+use Rattle.mu_command.specs.Answer.{Outcomes, Part, ◌>>=◌, accepted, entered, found, run_part, run_answer, answer_of}
 use Rattle.mu_command.specs.Allowed.{Seen, AllowsWord, AllowsJob}
-use Rattle.mu_command.specs.Written.{Writes, IsWhole}
+use Rattle.mu_command.specs.Written.{IsWhole}
 use Rattle.mu_command.specs.Central.{Answered, Running, IsRefused}
 
 no_ending_is_refused : (ending : Ending) → ending_status ending ≡ Refused → ⊥

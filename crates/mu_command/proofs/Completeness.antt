@@ -1,17 +1,17 @@
 -- Where files are told and nothing fails, there is one answer.
-use Rattle.std.proofs.Common.{◌≡◌, ap, ℕ, ◌+◌, ◌-◌, ◌^◌, ◌<◌, ◌≤◌, List, [], length, refl, sym, ◌∙◌, subst, inl, inr, Option, Some, None, Bool, true, false, arith}
-use Rattle.std.specs.Prelude.{nat_le, if◌then◌else◌, IsSomeAnd}
+use Rattle.std.proofs.Common.{◌≡◌, ap, ℕ, ◌-◌, ◌^◌, ◌<◌, ◌≤◌, List, length, refl, sym, ◌∙◌, subst, inl, inr, Option, Some, None, true, false, arith}
+use Rattle.std.specs.Prelude.{nat_le, IsSomeAnd}
 use Rattle.std.proofs.lemmas.Bool.Decides.{nat_tests}
 use Rattle.mu_base.specs.declared.status.Status.{Status}
 use Rattle.mu_base.specs.Files.{Files, file}
-use Rattle.mu_base.specs.Outcome.{Outcome, got, failed, too_long, Allows, IsLonger}
+use Rattle.mu_base.specs.Outcome.{Outcome, got, failed, too_long, Allows}
 use Rattle.mu_command.specs.declared.job.Job.{Job}
-use Rattle.mu_command.specs.Answer.{Answer, Outcomes, found, run_part, answer_of}
+use Rattle.mu_command.specs.Answer.{Outcomes, found, run_part, answer_of}
 use Rattle.mu_command.specs.declared.job.Job.TheVariants.{Run}
 use Rattle.mu_command.specs.declared.what.What.{What}
 use Rattle.mu_command.specs.declared.what.What.TheVariants.{Bundle}
 use Rattle.mu_command.specs.Allowed.{Seen, AllowsJob, AllowsFile}
-use Rattle.mu_command.specs.Job.{job_of, file_of, slot_of}
+use Rattle.mu_command.specs.Job.{job_of, slot_of}
 use Rattle.mu_command.specs.Written.{Writes}
 use Rattle.mu_command.specs.Central.{Answered, IsQuiet, outcome_of, outcome_named, outcomes_of, OneAnswer}
 

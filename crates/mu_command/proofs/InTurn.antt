@@ -4,7 +4,6 @@ use Rattle.std.specs.Prelude.{map}
 use Rattle.std.proofs.lemmas.List.{map_more, map-append, take-append-drop, drop_more, take_all}
 use Rattle.mu_base.specs.declared.status.Status.{Status}
 use Rattle.mu_base.specs.Sink.{PutsWhole, PutsPart}
-use Rattle.mu_command.specs.Answer.{Answer}
 use Rattle.mu_command.specs.Written.{Wrote, Writes, IsWhole}
 use Rattle.mu_command.proofs.Puts.{put_whole, put_stops, all_put}
 

@@ -1,21 +1,19 @@
 -- What the parts of the way come to, put together to an answer.
-use Rattle.std.proofs.Common.{◌≡◌, ◌≢◌, ℕ, ◌≤◌, List, [], ◌++◌, refl, sym, ap, ◌∙◌, Option, Some, None}
-use Rattle.std.specs.Prelude.{Vec, Result, Ok, Err, codes}
+use Rattle.std.proofs.Common.{◌≡◌, ℕ, List, [], refl, Some, None}
+use Rattle.std.specs.Prelude.{Vec, Ok, Err, codes}
 use Rattle.std.specs.declared.alloc.Global.{Global}
 use Rattle.mu_base.specs.declared.status.Status.TheVariants.{Usage}
 use Rattle.mu_base.specs.Outcome.{Outcome, got}
-use Rattle.mu_base.proofs.Outcomes.{some_outcome}
 use Rattle.ir_text.specs.declared.tree.Item.{Item}
 use Rattle.mu_step.specs.Run.{run}
-use Rattle.mu_command.specs.declared.job.Job.{Job}
 use Rattle.mu_command.specs.declared.job.Job.TheVariants.{Run}
 use Rattle.mu_command.specs.declared.what.What.{What}
 use Rattle.mu_command.specs.declared.what.What.TheVariants.{Bundle}
 use Rattle.mu_command.specs.declared.stop.Stop.{Stop}
 use Rattle.mu_command.specs.declared.stop.Stop.TheVariants.{Line, Memory}
 use Rattle.mu_command.specs.Job.{job_of, file_of, word}
-use Rattle.mu_command.specs.Answer.{Answer, Outcomes, Part, ◌>>=◌, line, fetched, accepted, entered, found, run_part, run_answer, answer_of}
-use Rattle.mu_command.specs.Allowed.{Seen, AllowsWord, AllowsFile, AllowsJob}
+use Rattle.mu_command.specs.Answer.{Answer, Outcomes, line, accepted, entered, found, run_part, run_answer}
+use Rattle.mu_command.specs.Allowed.{Seen, AllowsWord, AllowsFile}
 use Rattle.mu_command.specs.Parts.{Comes, IsLoaded, IsAnswer, IsFound}
 
 -- the outcome of the bundle's file alone decides
@@ -56,6 +54,11 @@ module _ (seen : Seen) (words : List (List ℕ)) (file entry : ℕ) (is : job_of
   pub all_found : (bytes : Vec ℕ Global) (code : List Item) (n : ℕ) → IsLoaded seen words Bundle file (Ok bytes) → accepted bytes.items ≡ Ok code →
       entered code (word words entry) ≡ Ok n → IsAnswer seen words (run_answer (run code n))
   all_found bytes code n loaded a e = together seen words file entry (got bytes.items) _ is loaded (rw a (rw e refl))
+
+  -- the same by what the calls were given
+  pub found_through : (bytes : Vec ℕ Global) (held name : List ℕ) (code : List Item) (n : ℕ) → held ≡ bytes.items → name ≡ word words entry →
+      IsLoaded seen words Bundle file (Ok bytes) → accepted held ≡ Ok code → entered code name ≡ Ok n → IsAnswer seen words (run_answer (run code n))
+  found_through bytes held name code n h m loaded a e = all_found bytes code n loaded (rw h at a) (rw m at e)
 
 -- the words ask for nothing
 pub no_job : (seen : Seen) (words : List (List ℕ)) (text : List ℕ) → text ≡ codes "usage" → job_of words ≡ None → IsAnswer seen words (line text Usage)

@@ -2,7 +2,6 @@
 use Rattle.std.specs.Prelude.{◌≡◌, ℕ, List, Vec, Result, Ok, Err, ⊤}
 use Rattle.std.specs.declared.alloc.Global.{Global}
 use Rattle.mu_base.specs.Outcome.{Outcome, got}
-use Rattle.ir_text.specs.declared.tree.Item.{Item}
 use Rattle.mu_step.specs.Run.{run}
 use Rattle.mu_command.specs.declared.what.What.{What}
 use Rattle.mu_command.specs.declared.stop.Stop.{Stop}

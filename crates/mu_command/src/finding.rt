@@ -1,8 +1,9 @@
 // The first half of the program: what is to be written.
-ghost use Rattle.std.specs.Prelude.{◌≡◌, ◌<◌, ◌≤◌, ℕ, length, IfOk};
+ghost use Rattle.std.specs.Prelude.{◌≡◌, ◌<◌, ◌≤◌, ℕ, Some, length, IfOk};
 ghost use Rattle.bundle_check.specs.Functions.{functions_of};
 ghost use Rattle.mu_command.specs.Answer.{accepted, entered, read_part};
 ghost use Rattle.ir_text.specs.NotBuilt.{text_answer};
+ghost use Rattle.mu_command.specs.Job.{job_of};
 ghost use Rattle.mu_command.specs.Parts.{Comes, IsFound};
 
 use crate::job::Job;
@@ -68,6 +69,32 @@ fn enter(alloc: Global, code: &Checked, name: &str) -> Result<u32, Stop>
     }
 }
 
+// Fetches the bundle, judges it, and looks its entry up.
+#[tactic(auto, using(crate::proofs::Together::together_rules))]
+fn find_run<I: Inputs>(
+    alloc: Global,
+    words: &Words,
+    file: usize,
+    entry: usize,
+    inputs: &mut I,
+) -> Result<Ready, Stop>
+    requires file { file < length words.now }
+    requires entry { entry < length words.now }
+    requires job { job_of words.now ≡ Some (Job.Run file entry) }
+    ensures same { I.holds inputs.new ≡ I.holds inputs.old }
+    ensures never_falls { (s : ℕ) → I.faults inputs.old s ≤ I.faults inputs.new s }
+    ensures found { IsFound (record { told = I.holds inputs.old; before = I.faults inputs.old; now = I.faults inputs.new }) words.now result }
+    ensures there { IfOk result (λ ready. ready.entry < length (functions_of ready.code)) }
+{
+    let bytes = load(alloc, words, What::Bundle, file, inputs)?;
+    let code = accept(alloc, &bytes)?;
+    let number = enter(alloc, &code, words.word(entry))?;
+    Ok(Ready {
+        code,
+        entry: number,
+    })
+}
+
 /// Reads the words, fetches the files and judges them.
 #[tactic(auto, using(crate::proofs::Together::together_rules))]
 pub fn find<I: Inputs>(alloc: Global, words: &Words, inputs: &mut I) -> Result<Ready, Stop>
@@ -76,11 +103,8 @@ pub fn find<I: Inputs>(alloc: Global, words: &Words, inputs: &mut I) -> Result<R
     ensures found { IsFound (record { told = I.holds inputs.old; before = I.faults inputs.old; now = I.faults inputs.new }) words.now result }
     ensures there { IfOk result (λ ready. ready.entry < length (functions_of ready.code)) }
 {
-    let Some(Job::Run { file, entry }) = read_words(words) else {
-        return Err(Stop::Line(Vec::from_slice(alloc, b"usage")?, Status::Usage));
-    };
-    let bytes = load(alloc, words, What::Bundle, file, inputs)?;
-    let code = accept(alloc, &bytes)?;
-    let entry = enter(alloc, &code, words.word(entry))?;
-    Ok(Ready { code, entry })
+    match read_words(words) {
+        Some(Job::Run { file, entry }) => find_run(alloc, words, file, entry, inputs),
+        None => Err(Stop::Line(Vec::from_slice(alloc, b"usage")?, Status::Usage)),
+    }
 }
