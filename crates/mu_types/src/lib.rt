@@ -23,6 +23,8 @@ mod refine;
 mod rows;
 mod stable;
 mod table;
+#[cfg(test)]
+mod tests;
 
 pub use deciding::classes;
 pub use faults::{TypeFault, TypeKind};
