@@ -3,6 +3,8 @@
 
 mod arguments;
 mod blocks;
+#[cfg(test)]
+mod closed;
 mod counting;
 mod deciding;
 mod edges;
