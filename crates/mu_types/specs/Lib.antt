@@ -8,6 +8,7 @@ pub mod Listings
 pub mod Held
 pub mod Keys
 pub mod Ordered
+pub mod Examples
 pub mod Tests
 pub mod Firsts
 pub mod Verdicts

@@ -3,6 +3,8 @@
 
 mod arguments;
 mod blocks;
+#[cfg(test)]
+mod closed;
 mod counting;
 mod deciding;
 mod edges;
@@ -23,6 +25,8 @@ mod refine;
 mod rows;
 mod stable;
 mod table;
+#[cfg(test)]
+mod tests;
 
 pub use deciding::classes;
 pub use faults::{TypeFault, TypeKind};

@@ -12,3 +12,4 @@ pub mod Laws
 pub mod Proved
 pub mod Respect
 pub mod Counts
+pub mod Examples
