@@ -8,7 +8,7 @@ use Rattle.mem_axioms.specs.Choices.{options}
 use Rattle.mem_axioms.specs.Floor.{floor}
 use Rattle.mem_axioms.specs.ExampleNames.{x, y, by, zeros, read, write, update, fence}
 use Rattle.mem_axioms.specs.declared.types.Rule.TheVariants.{C11}
-use Rattle.mem_axioms.specs.declared.types.Kind.TheVariants.{Leave, Enter}
+use Rattle.mem_axioms.specs.declared.types.Kind.TheVariants.{NewStack, Leave, Enter}
 
 -- A release fence after the flag releases nothing through it ..
 pub release_fence_after_the_flag : options C11 zeros (read 1 Acquire y 1 1 ∷ fence 0 Release ∷ write 0 Relaxed y 1 1 ∷ write 0 NotAtomic x 1 40 ∷ []) 1 x NotAtomic ≡ 1 ∷ 0 ∷ []
@@ -16,17 +16,22 @@ unfolding happens_before is_coherent is_seq_cst_ordered meets_axioms options
 release_fence_after_the_flag = refl
 
 -- .. nor does one of another thread.
-pub release_fence_of_another_thread : options C11 zeros (read 1 Acquire y 1 1 ∷ write 0 Relaxed y 1 1 ∷ fence 2 Release ∷ write 0 NotAtomic x 1 40 ∷ []) 1 x NotAtomic ≡ 1 ∷ 0 ∷ []
+pub release_fence_of_another_thread : options C11 zeros (read 1 Acquire y 1 1 ∷ write 0 Relaxed y 1 1 ∷ fence 2 Release ∷ write 2 NotAtomic x 1 40 ∷ []) 1 x NotAtomic ≡ 1 ∷ 0 ∷ []
 unfolding happens_before is_coherent is_seq_cst_ordered meets_axioms options
 release_fence_of_another_thread = refl
+
+-- A NOT_ATOMIC flag heads no release sequence, so a fence before it releases nothing.
+pub release_fence_before_a_plain_flag : options C11 zeros (read 1 Acquire y 1 1 ∷ write 0 NotAtomic y 1 1 ∷ fence 0 Release ∷ write 0 NotAtomic x 1 40 ∷ []) 1 x NotAtomic ≡ 1 ∷ 0 ∷ []
+unfolding happens_before is_coherent is_seq_cst_ordered meets_axioms options
+release_fence_before_a_plain_flag = refl
 
 -- An acquire fence before the read of the flag takes nothing from it ..
 pub acquire_fence_before_the_read : options C11 zeros (read 1 Relaxed y 1 1 ∷ fence 1 Acquire ∷ write 0 Release y 1 1 ∷ write 0 NotAtomic x 1 40 ∷ []) 1 x NotAtomic ≡ 1 ∷ 0 ∷ []
 unfolding happens_before is_coherent is_seq_cst_ordered meets_axioms options
 acquire_fence_before_the_read = refl
 
--- .. nor does one of another thread.
-pub acquire_fence_of_another_thread : options C11 zeros (fence 2 Acquire ∷ read 1 Relaxed y 1 1 ∷ write 0 Release y 1 1 ∷ write 0 NotAtomic x 1 40 ∷ []) 1 x NotAtomic ≡ 1 ∷ 0 ∷ []
+-- .. nor does one of another thread take what this thread read.
+pub acquire_fence_of_another_thread : options C11 zeros (fence 2 Acquire ∷ read 1 Relaxed y 1 1 ∷ write 0 Release y 1 1 ∷ write 0 NotAtomic x 1 40 ∷ []) 2 x NotAtomic ≡ 1 ∷ 0 ∷ []
 unfolding happens_before is_coherent is_seq_cst_ordered meets_axioms options
 acquire_fence_of_another_thread = refl
 
@@ -54,6 +59,21 @@ write_is_no_acquire = refl
 pub read_is_no_release : options C11 zeros (read 1 Acquire y 0 0 ∷ read 0 SeqCst y 0 0 ∷ write 0 NotAtomic x 1 40 ∷ []) 1 x NotAtomic ≡ 1 ∷ 0 ∷ []
 unfolding happens_before is_coherent is_seq_cst_ordered meets_axioms options
 read_is_no_release = refl
+
+-- A SEQ_CST access is no fence: it puts neither the RELAXED write before it into S ..
+pub access_after_a_relaxed_write : options C11 zeros (write 0 SeqCst y 1 1 ∷ write 0 Relaxed x 1 1 ∷ []) 1 x SeqCst ≡ 1 ∷ 0 ∷ []
+unfolding happens_before is_coherent is_seq_cst_ordered meets_axioms options
+access_after_a_relaxed_write = refl
+
+-- .. nor the RELAXED read after it.
+pub access_before_a_relaxed_read : options C11 zeros (read 1 SeqCst y 0 0 ∷ write 0 SeqCst x 1 1 ∷ []) 1 x Relaxed ≡ 1 ∷ 0 ∷ []
+unfolding happens_before is_coherent is_seq_cst_ordered meets_axioms options
+access_before_a_relaxed_read = refl
+
+-- A stack that was made and never left goes on from its making.
+pub making_of_a_stack_counts : options C11 zeros (by 1 (Enter 1) ∷ by 0 (NewStack 1) ∷ write 0 NotAtomic x 1 40 ∷ []) 1 x NotAtomic ≡ 1 ∷ []
+unfolding happens_before is_coherent is_seq_cst_ordered meets_axioms options
+making_of_a_stack_counts = refl
 
 -- A stack goes on from its last leaving: thread 1 knows what thread 2 knew, and so what thread 0 knew.
 pub last_leave_counts : options C11 zeros (by 1 (Enter 1) ∷ by 2 (Leave 1) ∷ by 2 (Enter 1) ∷ by 0 (Leave 1) ∷ write 0 NotAtomic x 1 40 ∷ []) 1 x NotAtomic ≡ 1 ∷ []

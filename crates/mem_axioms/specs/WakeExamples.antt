@@ -39,6 +39,11 @@ pub without_a_wake_it_races : race C11 (write 0 NotAtomic y 1 40 ∷ waiting) (r
 unfolding happens_before race
 without_a_wake_it_races = refl
 
+-- A woken event that names another wake is of no use for it.
+pub another_wake : race C11 (by 1 (Woken 4) ∷ by 0 (Wake x 1) ∷ write 0 NotAtomic y 1 40 ∷ by 2 (Wake x 0) ∷ waiting) (read 1 NotAtomic y 1 40) ≡ Some 5
+unfolding happens_before race
+another_wake = refl
+
 -- What a thread did before it made another is known to that one.
 pub before_the_thread_was_made : race C11 (by 0 (NewThread 1) ∷ write 0 NotAtomic y 1 40 ∷ []) (read 1 NotAtomic y 1 40) ≡ None
 unfolding happens_before race
