@@ -1,4 +1,4 @@
-use Rattle.std.proofs.Common.{◌≡◌, ◌∙◌, arith}
+use Rattle.std.proofs.Common.{◌∙◌, arith}
 use Rattle.mem_axioms.proofs.RowLemmas.{all_before}
 use Rattle.mem_axioms.proofs.rows.happens_before_next.Goals as goal
 

@@ -1,7 +1,7 @@
-use Rattle.std.proofs.Common.{◌≡◌, ◌∙◌, ◌<◌, ◌↔◌, sym, ap, refl, reverse, List, true, IsTrue, ℕ, arith}
+use Rattle.std.proofs.Common.{◌≡◌, ◌∙◌, sym, ap, refl, reverse, List, true}
 use Rattle.std.proofs.lemmas.Bool.{not-true}
 use Rattle.mem_axioms.specs.Objects.{HasCell}
-use Rattle.mem_axioms.specs.EventFits.{is_thread, EventFits}
+use Rattle.mem_axioms.specs.EventFits.{is_thread}
 use Rattle.mem_axioms.specs.Scalars.{scalars_of}
 use Rattle.mem_axioms.specs.declared.types.Event.{Event}
 use Rattle.mem_axioms.specs.declared.types.Wanted.TheVariants.{Load}
