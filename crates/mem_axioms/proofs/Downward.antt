@@ -1,6 +1,5 @@
 -- Positions that pass a test, from the newest down.
-use Rattle.std.proofs.Common.{◌≡◌, ℕ, zero, suc, ◌+◌, ◌-◌, ◌<◌, ◌≤◌, Bool, true, false, not, ◌&&◌, ◌||◌, if◌then◌else◌, cond, Option, Some, None, List, [], ◌∷◌, ◌++◌, length, filter, map, slice_get, refl, sym, ap, ◌∙◌, inl, inr, ◌⊎◌, arith}
-use Rattle.std.proofs.lemmas.Bool.{false≢true}
+use Rattle.std.proofs.Common.{◌≡◌, ℕ, zero, suc, ◌-◌, ◌<◌, Bool, true, false, ◌&&◌, if◌then◌else◌, Some, List, [], ◌∷◌, length, filter, slice_get, refl, ap, arith}
 use Rattle.mem_axioms.specs.Choices.{down_from}
 
 -- the positions below a number that pass, from the greatest down

@@ -1,16 +1,15 @@
 -- What a memory of whole logs keeps as its log grows.
-use Rattle.std.proofs.Common.{◌≡◌, ℕ, suc, ◌+◌, ◌-◌, ◌<◌, ◌≤◌, Bool, true, false, ◌&&◌, is_none, List, [], ◌∷◌, ◌++◌, length, length-append, slice_index_or, replicate, None, Some, refl, sym, ap, ◌∙◌, inl, inr, ◌⊎◌, arith}
+use Rattle.std.proofs.Common.{◌≡◌, ℕ, suc, ◌+◌, ◌-◌, ◌<◌, ◌≤◌, Bool, true, false, is_none, List, [], ◌∷◌, ◌++◌, length, length-append, slice_index_or, replicate, None, refl, sym, ap, ◌∙◌, inl, inr, ◌⊎◌, arith}
 use Rattle.std.proofs.lemmas.List.{get_or_append_left, get_or_push, get_or-replicate, get_or_past, length-replicate}
 use Rattle.std.proofs.lemmas.Bool.{cases_lt, cases_eq, and_from, false≢true}
 use Rattle.mu_values.specs.declared.scalars.Scalar.{Scalar}
 use Rattle.typed_heap.specs.declared.cells.CellId.{CellId}
 use Rattle.typed_heap.proofs.Equal.{same_cell-true}
 use Rattle.mem_axioms.specs.Events.{accesses}
-use Rattle.mem_axioms.specs.Logs.{event_at}
 use Rattle.mem_axioms.specs.HappensBefore.{happens_before}
 use Rattle.mem_axioms.specs.Axioms.{is_coherent, is_seq_cst_ordered, meets_axioms}
 use Rattle.mem_axioms.specs.Races.{race, is_race_free}
-use Rattle.mem_axioms.specs.Objects.{initial_of, HasCell}
+use Rattle.mem_axioms.specs.Objects.{HasCell}
 use Rattle.mem_axioms.specs.EventFits.{EventFits}
 use Rattle.mem_axioms.specs.Known.{HasCells}
 use Rattle.mem_axioms.specs.Sound.{IsSound}

@@ -1,24 +1,14 @@
 -- What stays as it was where an object is added.
-use Rattle.std.proofs.Common.{◌≡◌, ℕ, ◌+◌, ◌<◌, Bool, true, false, ◌&&◌, ◌==◌, nat_le, if◌then◌else◌, cond, List, [], ◌∷◌, ◌++◌, length, length-append, slice_index_or, Some, refl, sym, ap, ◌∙◌, arith}
+use Rattle.std.proofs.Common.{◌≡◌, List, [], ◌∷◌, ◌++◌, length-append, slice_index_or, sym, ap, ◌∙◌, arith}
 use Rattle.std.proofs.lemmas.List.{get_or_append_left}
 use Rattle.mu_values.specs.declared.scalars.Scalar.{Scalar}
 use Rattle.mu_values.specs.declared.scalars.Scalar.TheVariants.{Null}
-use Rattle.mu_values.specs.SameScalar.{same_scalar}
 use Rattle.typed_heap.specs.declared.cells.CellId.{CellId}
-use Rattle.typed_heap.specs.SameCell.{same_cell}
-use Rattle.typed_heap.proofs.Equal.{same_cell-refl}
-use Rattle.mem_axioms.specs.Events.{accesses, stores}
-use Rattle.mem_axioms.specs.Logs.{event_at, newest}
-use Rattle.mem_axioms.specs.Form.{fits_form, has_form, value_at}
-use Rattle.mem_axioms.specs.Axioms.{is_coherent, is_seq_cst_ordered, meets_axioms}
 use Rattle.mem_axioms.specs.Objects.{initial_of, HasCell}
 use Rattle.mem_axioms.specs.Known.{HasCells}
 use Rattle.mem_axioms.specs.Sound.{IsSound}
 use Rattle.mem_axioms.specs.declared.types.Event.{Event}
 use Rattle.mem_axioms.specs.declared.types.Rule.{Rule}
-use Rattle.mem_axioms.specs.declared.types.Kind.{Kind}
-use Rattle.mem_axioms.specs.declared.types.Kind.TheVariants.{Access, Fence, NewStack, NewThread, Leave, Enter, Wake, Woken}
-use Rattle.mem_axioms.specs.declared.types.Mode.TheVariants.{Read, Write, Update}
 use Rattle.mem_axioms.proofs.Initials.{meets-same}
 
 -- an older cell is there still, with its initial scalar

@@ -53,13 +53,15 @@ fn is_seq_cst_from(rule: Rule, events: &[Event], rows: &[Row], read: &Event, b: 
     requires { AreRowsOf rule (reverse events.now) rows.now }
     ensures { result ≡ has_seq_cst_from rule (reverse events.now) read.now b }
 {
-    let mut found = seq_cst(order_in(read));
-    for a in 0..events.len() {
+    if seq_cst(order_in(read)) {
+        return true;
+    }
+    for a in (0..events.len()).rev() {
         if is_fence_from(rule, events, rows, read, b, a, &events[a]) {
-            found = true;
+            return true;
         }
     }
-    found
+    false
 }
 
 /// Whether event `b`, which is `event`, is SEQ_CST, is access `y` or a fence that `y` happens before, and binds the read.
@@ -86,13 +88,12 @@ fn is_barred(rule: Rule, events: &[Event], rows: &[Row], read: &Event, y: usize)
     requires { AreRowsOf rule (reverse events.now) rows.now }
     ensures { result ≡ is_bound rule (reverse events.now) read.now y }
 {
-    let mut found = false;
-    for b in 0..events.len() {
+    for b in (0..events.len()).rev() {
         if binds(rule, events, rows, read, y, b, &events[b]) {
-            found = true;
+            return true;
         }
     }
-    found
+    false
 }
 
 /// Whether the read passes over access `y`, which is `event`, against an axiom.
@@ -117,11 +118,10 @@ pub fn may_come_next(rule: Rule, events: &[Event], rows: &[Row], read: &Event) -
     requires { AreRowsOf rule (reverse events.now) rows.now }
     ensures { result ≡ may_read rule (reverse events.now) read.now }
 {
-    let mut breach = false;
-    for y in 0..events.len() {
+    for y in (0..events.len()).rev() {
         if is_breach(rule, events, rows, read, y, &events[y]) {
-            breach = true;
+            return false;
         }
     }
-    !breach
+    true
 }

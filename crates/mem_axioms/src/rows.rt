@@ -129,11 +129,10 @@ pub fn happens_before_next(
     requires { AreRowsOf rule (reverse events.now) rows.now }
     ensures { result ≡ happens_before rule (next.now ∷ reverse events.now) i (length events.now) }
 {
-    let mut found = false;
-    for k in 0..events.len() {
+    for k in (0..events.len()).rev() {
         if leads_to_next(rule, events, rows, k, &events[k], next, i) {
-            found = true;
+            return true;
         }
     }
-    found
+    false
 }

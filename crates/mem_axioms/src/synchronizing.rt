@@ -70,14 +70,13 @@ fn released_at(
 ) -> bool
     ensures { result ≡ released rule (reverse events.now) cell position i by.now }
 {
-    let mut found = false;
-    for h in 0..events.len() {
+    for h in (0..events.len()).rev() {
         let head = &events[h];
         if releases_by(i, by, h, head) && heads_position(rule, events, cell, position, h, head) {
-            found = true;
+            return true;
         }
     }
-    found
+    false
 }
 
 /// The same for the position that an atomic read or update takes.
@@ -118,13 +117,12 @@ fn leaves_to(
 fn left_for_fence(rule: Rule, events: &[Event], i: usize, by: &Event, next: &Event) -> bool
     ensures { result ≡ any_event (λ r er. nat_lt i r && (er.thread == next.now.thread) && released_to rule (reverse events.now) er i by.now) (reverse events.now) }
 {
-    let mut found = false;
-    for r in 0..events.len() {
+    for r in (0..events.len()).rev() {
         if leaves_to(rule, events, r, &events[r], i, by, next) {
-            found = true;
+            return true;
         }
     }
-    found
+    false
 }
 
 /// Case 1: by what was released.

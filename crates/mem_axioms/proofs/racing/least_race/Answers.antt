@@ -1,4 +1,4 @@
-use Rattle.std.proofs.Common.{◌≡◌, ◌∙◌, ap, reverse, take, length, arith}
+use Rattle.std.proofs.Common.{◌∙◌, ap, reverse, arith}
 use Rattle.std.proofs.lemmas.List.{take_all}
 use Rattle.mem_axioms.specs.Logs.{least_event}
 use Rattle.mem_axioms.specs.Races.{races, race}

@@ -4,4 +4,5 @@ use Rattle.mem_axioms.specs.PassedOver.{is_passed}
 use Rattle.mem_axioms.proofs.read_test.may_come_next.Given as goal
 
 abbrev pub invariant-loop-y : goal.invariant-loop-y
-invariant-loop-y l = l.breach ≡ any_event (λ y ey. is_passed l.rule (reverse l.events) l.read y ey) (reverse (take l.y l.events))
+invariant-loop-y l =
+    any_event (λ y ey. is_passed l.rule (reverse l.events) l.read y ey) (reverse l.events) ≡ any_event (λ y ey. is_passed l.rule (reverse l.events) l.read y ey) (reverse (take l.y l.events))

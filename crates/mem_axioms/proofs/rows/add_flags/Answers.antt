@@ -1,4 +1,4 @@
-use Rattle.std.proofs.Common.{◌≡◌, ◌∙◌, sym, ap, ◌<◌, ◌≤◌, true, false, [], length, reverse, arith}
+use Rattle.std.proofs.Common.{◌≡◌, ◌∙◌, sym, ap, true, [], reverse, arith}
 use Rattle.std.proofs.lemmas.List.{get_or_read, length-reverse}
 use Rattle.mem_axioms.specs.Flags.{flag}
 use Rattle.mem_axioms.specs.HappensBefore.{precedes, happens_before}

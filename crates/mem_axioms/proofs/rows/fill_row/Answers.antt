@@ -1,4 +1,4 @@
-use Rattle.std.proofs.Common.{◌≡◌, ℕ, ◌∙◌, arith}
+use Rattle.std.proofs.Common.{◌∙◌, arith}
 use Rattle.mem_axioms.proofs.RowLemmas.{all_before}
 use Rattle.mem_axioms.proofs.rows.fill_row.Goals as goal
 

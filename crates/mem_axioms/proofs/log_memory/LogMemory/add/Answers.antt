@@ -1,9 +1,9 @@
-use Rattle.std.proofs.Common.{◌≡◌, ◌∙◌, List, ◌∷◌, [], sym, ap, reverse, length, length-append, arith}
+use Rattle.std.proofs.Common.{◌∙◌, List, ◌∷◌, [], sym, ap, reverse, length, length-append}
 use Rattle.std.proofs.lemmas.List.{reverse-append, length-reverse}
 use Rattle.mem_axioms.specs.HappensBefore.{happens_before}
 use Rattle.mem_axioms.specs.Scalars.{scalars_of}
 use Rattle.mem_axioms.specs.declared.types.Event.{Event}
-use Rattle.mem_axioms.proofs.Growing.{rows-more, cells-more, sound-more, blanks-less, blanks-last}
+use Rattle.mem_axioms.proofs.Growing.{rows-more, cells-more, sound-more, blanks-less}
 use Rattle.mem_axioms.proofs.log_memory.LogMemory.add.Goals as goal
 
 pub invariant_of-self-clause-flags : goal.invariant_of-self-clause-flags

@@ -1,4 +1,3 @@
-use Rattle.std.proofs.Common.{arith}
 use Rattle.mem_axioms.proofs.Growing.{rows-none, cells-none, sound-none, blanks-none}
 use Rattle.mem_axioms.proofs.log_memory.LogMemory.new.Goals as goal
 

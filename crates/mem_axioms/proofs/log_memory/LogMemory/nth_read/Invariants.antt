@@ -1,4 +1,4 @@
-use Rattle.std.proofs.Common.{◌≡◌, ◌<◌, ◌≤◌, length, reverse, slice_get}
+use Rattle.std.proofs.Common.{◌≡◌, ◌<◌, length, reverse, slice_get}
 use Rattle.mem_axioms.specs.Objects.{initial_of}
 use Rattle.mem_axioms.specs.Scalars.{scalars_of}
 use Rattle.mem_axioms.specs.Reads.{reads}

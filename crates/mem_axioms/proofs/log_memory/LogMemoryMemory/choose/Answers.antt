@@ -1,10 +1,9 @@
-use Rattle.std.proofs.Common.{◌≡◌, ◌∙◌, ◌+◌, ◌-◌, ◌<◌, ◌≤◌, sym, ap, reverse, length, map, slice_get, List, ℕ, Option, Some, None, false, arith}
+use Rattle.std.proofs.Common.{◌≡◌, ◌∙◌, ◌-◌, sym, ap, reverse, map, slice_get, List, Option, Some, false, arith}
 use Rattle.mu_values.specs.declared.scalars.Scalar.{Scalar}
 use Rattle.mem_axioms.specs.Objects.{initial_of}
 use Rattle.mem_axioms.specs.Scalars.{scalars_of}
-use Rattle.mem_axioms.specs.Choices.{choices, chosen_at}
-use Rattle.mem_axioms.specs.Reads.{reads, excluded_by}
-use Rattle.mem_axioms.specs.declared.types.Wanted.{Wanted}
+use Rattle.mem_axioms.specs.Choices.{chosen_at}
+use Rattle.mem_axioms.specs.Reads.{reads}
 use Rattle.mem_axioms.specs.declared.types.Chosen.{Chosen}
 use Rattle.mem_axioms.proofs.Offers.{choices-load, choices-swap, count-load, count-swap, count-success, count-failure, nth-success, nth-after, nth-failure}
 use Rattle.mem_axioms.proofs.log_memory.LogMemoryMemory.choose.Goals as goal

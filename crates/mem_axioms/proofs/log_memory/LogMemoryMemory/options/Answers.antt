@@ -1,10 +1,8 @@
-use Rattle.std.proofs.Common.{◌≡◌, ◌∙◌, ◌+◌, ◌≤◌, sym, ap, reverse, length, ℕ, Option, None, true, false, arith}
+use Rattle.std.proofs.Common.{◌∙◌, ◌+◌, sym, ap, reverse, length, ℕ, Option, arith}
 use Rattle.mu_values.specs.declared.scalars.Scalar.{Scalar}
 use Rattle.mem_axioms.specs.Objects.{initial_of}
 use Rattle.mem_axioms.specs.Scalars.{scalars_of}
-use Rattle.mem_axioms.specs.Logs.{newest}
-use Rattle.mem_axioms.specs.Choices.{holds}
-use Rattle.mem_axioms.specs.Reads.{reads, excluded_by}
+use Rattle.mem_axioms.specs.Reads.{reads}
 use Rattle.mem_axioms.proofs.Offers.{count-load, count-swap, count-success, count-failure, some-load, some-compare}
 use Rattle.mem_axioms.proofs.log_memory.LogMemoryMemory.options.Goals as goal
 

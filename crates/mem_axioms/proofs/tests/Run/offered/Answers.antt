@@ -1,6 +1,7 @@
-use Rattle.std.proofs.Common.{◌≡◌, ◌∙◌, ◌<◌, ◌↔◌, sym, ap, refl, reverse, List, true, IsTrue, ℕ, arith}
+use Rattle.std.proofs.Common.{◌≡◌, ◌∙◌, sym, ap, refl, reverse, List, true}
+use Rattle.std.proofs.lemmas.Bool.{not-true}
 use Rattle.mem_axioms.specs.Objects.{HasCell}
-use Rattle.mem_axioms.specs.EventFits.{is_thread, EventFits}
+use Rattle.mem_axioms.specs.EventFits.{is_thread}
 use Rattle.mem_axioms.specs.Scalars.{scalars_of}
 use Rattle.mem_axioms.specs.declared.types.Event.{Event}
 use Rattle.mem_axioms.specs.declared.types.Wanted.TheVariants.{Load}
@@ -17,4 +18,4 @@ returns-then-not-chosen g c =
     ∙ (sym c.has_thread.ensures ∙ c.if-not-has_thread.false)) in
     let known = c.is_known.ensures.0 (rw c.if-not-is_known.false refl) in
     let cell : HasCell (scalars_of memory.objects.items) c.args.cell = rw known.1 (c.args.self.now.cells c.args.cell.object known.0) in
-    rw c.args.self.now.same at ((choice-fits memory.rule (scalars_of memory.objects.items) log c.args.thread c.args.cell (Load c.args.order) c.loop-n.n c.choose-chosen.result thread cell c.choose-chosen.ensures).0 c.if-not-chosen.true)
+    rw c.args.self.now.same at ((choice-fits memory.rule (scalars_of memory.objects.items) log c.args.thread c.args.cell (Load c.args.order) c.loop-n.n c.choose-chosen.result thread cell c.choose-chosen.ensures).0 (not-true c.choose-chosen.result.success c.if-not-chosen.true))
