@@ -1,0 +1,5 @@
+use Rattle.clock_laws.proofs.FloorTests.{view_floor-is}
+use Rattle.clock_laws.proofs.laws.floor_by_clocks_is_the_floor.Goals as goal
+
+pub returns : goal.returns
+returns c = λ right rule log form named. view_floor-is rule right log form named

@@ -1,0 +1,6 @@
+-- Clocks along a log, and the laws that join them to the memory model.
+pub mod Clocks
+pub mod NamedWakes
+pub mod ViewFloor
+pub mod Theorems
+pub mod ClockExamples

@@ -1,0 +1,5 @@
+use Rattle.ir_tree.proofs.Grammatical.{is_grammar}
+use Rattle.ir_tree.proofs.laws.bundle_is_grammar.Goals as goal
+
+pub returns : goal.returns
+returns c = is_grammar

@@ -1,0 +1,13 @@
+//! Lists that a long run keeps: its events, the values of a cell, and accesses that are found by their numbers.
+#![tactic(auto)]
+
+mod access_index;
+mod history;
+mod tape;
+
+pub use access_index::{AccessIndex, Entry};
+pub use history::History;
+pub use tape::Tape;
+
+#[cfg(test)]
+mod tests;
