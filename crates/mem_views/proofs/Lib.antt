@@ -1,0 +1,8 @@
+pub mod Zeros
+pub mod GoingOn
+pub mod Searching
+pub mod Owning
+pub mod Entries
+pub mod Found
+pub mod ValuesKept
+pub mod RowsKept

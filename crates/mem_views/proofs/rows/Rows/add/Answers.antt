@@ -1,0 +1,24 @@
+use Rattle.std.proofs.Common.{◌≡◌, ◌∙◌, ℕ, Bool, true, false, cond, slice_index, refl, arith}
+use Rattle.std.specs.Prelude.{max}
+use Rattle.mem_views.specs.Tables.{table_at}
+use Rattle.mem_views.proofs.rows.Rows.add.Goals as goal
+
+-- a thread that is made by its own event knows what the event does
+pick : (own child : Bool) (x y : ℕ) → cond child (max (cond own x y) x) (cond own x y) ≡ cond own x (cond child (max y x) y)
+pick true true x y = omega arith
+pick true false x y = refl
+pick false true x y = refl
+pick false false x y = refl
+
+pub returns-clause-added : goal.returns-clause-added
+returns-clause-added c = record {
+  knows = c.advance-clock.ensures.known;
+  threads = λ t u. c.start.ensures.put t u ∙ rw (c.advance-clock.ensures.put t u) (pick _ _ (slice_index c.advance-clock.result u) (table_at c.args.self.now.threads t u));
+  left = c.leave.ensures.put;
+  wakes = c.wake.ensures.put;
+  fenced = c.fence_off.ensures.put;
+  pending = c.pend.ensures.put;
+  joined = c.join_fence.ensures;
+  before = c.keep_joined.ensures.put;
+  fences = c.index_fence.ensures.entries;
+}

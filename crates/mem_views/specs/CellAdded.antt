@@ -1,0 +1,78 @@
+-- What one more access of a cell does to what is kept of the cell, in the words of the clocks along a log.
+use Rattle.std.specs.Prelude.{◌≡◌, ℕ, suc, ◌-◌, ◌<◌, ◌≤◌, Bool, max, ◌==◌, ◌&&◌, if◌then◌else◌, All, List, [], ◌∷◌, ◌++◌, length, slice_index}
+use Rattle.mu_values.specs.declared.scalars.Scalar.TheVariants.{Null}
+use Rattle.mem_axioms.specs.Events.{is_modification, is_update, position_of, value_of}
+use Rattle.mem_axioms.specs.Synchronizes.{continues}
+use Rattle.mem_axioms.specs.declared.types.Rule.{Rule}
+use Rattle.mem_axioms.specs.declared.types.Event.{Event}
+use Rattle.write_history.specs.Rooms.{Accesses}
+use Rattle.mem_views.specs.Tables.{table_at}
+use Rattle.mem_views.specs.Indexed.{index_at, accesses_at}
+use Rattle.mem_views.specs.Families.{is_any, is_not_atomic, is_not_atomic_modification, has_seq_cst_order}
+use Rattle.mem_views.specs.declared.cell.CellViews.{CellViews}
+
+-- event n, which is e, was added to the indexes of a family if it belongs to it
+abbrev pub Indexes : List Accesses → List Accesses → ℕ → Event → Bool → Type 0
+Indexes old new n e belongs = (u : ℕ) → accesses_at new u ≡ (if belongs && (u == e.thread) then record { event = suc n; position = position_of e } ∷ accesses_at old u else accesses_at old u)
+
+-- event n, which is e, accesses the cell and gives a clock to the sequences that it heads
+pub record CellAdded (rule : Rule) (old new : CellViews) (n : ℕ) (e : Event) (given : List ℕ) : Type 0 where
+  pub values : new.history.values ≡ (if is_modification e then old.history.values ++ value_of e ∷ [] else old.history.values)
+  pub released : (p u : ℕ) → table_at new.released p u ≡ (if is_modification e && (position_of e == p)
+      then max (slice_index given u) (if is_update e then table_at old.released (p - 1) u else if continues rule e e.thread then table_at old.sequence e.thread u else 0)
+      else table_at old.released p u)
+  pub sequence : (t u : ℕ) → table_at new.sequence t u ≡ (if is_modification e
+      then max (if t == e.thread then slice_index given u else 0) (if continues rule e t then table_at old.sequence t u else 0)
+      else table_at old.sequence t u)
+  pub all : Indexes old.all.items new.all.items n e (is_any e)
+  pub modifications : Indexes old.modifications.items new.modifications.items n e (is_modification e)
+  pub not_atomic : Indexes old.not_atomic.items new.not_atomic.items n e (is_not_atomic e)
+  pub not_atomic_modifications : Indexes old.not_atomic_modifications.items new.not_atomic_modifications.items n e (is_not_atomic_modification e)
+  pub seq_cst : Indexes old.seq_cst.items new.seq_cst.items n e (has_seq_cst_order e)
+
+-- there is an index of the thread with room for that many more entries
+pub record IndexRoom (count t : ℕ) (indexes : List Accesses) : Type 0 where
+  pub there : t < length indexes
+  pub room : count ≤ (index_at indexes t).spare
+
+-- room for that many more accesses by the thread
+pub record CellRoom (count t : ℕ) (cell : CellViews) : Type 0 where
+  pub history : count ≤ cell.history.spare
+  pub released : count ≤ cell.released.spare
+  pub sequence : count ≤ cell.sequence.spare
+  pub all : IndexRoom count t cell.all.items
+  pub modifications : IndexRoom count t cell.modifications.items
+  pub not_atomic : IndexRoom count t cell.not_atomic.items
+  pub not_atomic_modifications : IndexRoom count t cell.not_atomic_modifications.items
+  pub seq_cst : IndexRoom count t cell.seq_cst.items
+
+-- all entries of the thread have numbers below that
+pub record CellBelow (number t : ℕ) (cell : CellViews) : Type 0 where
+  pub all : All (λ entry. entry.event < number) (accesses_at cell.all.items t)
+  pub modifications : All (λ entry. entry.event < number) (accesses_at cell.modifications.items t)
+  pub not_atomic : All (λ entry. entry.event < number) (accesses_at cell.not_atomic.items t)
+  pub not_atomic_modifications : All (λ entry. entry.event < number) (accesses_at cell.not_atomic_modifications.items t)
+  pub seq_cst : All (λ entry. entry.event < number) (accesses_at cell.seq_cst.items t)
+
+-- nothing of what is kept is another, but for room, which is not less
+pub record SameCell (old new : CellViews) : Type 0 where
+  pub values : new.history.values ≡ old.history.values
+  pub released : (p u : ℕ) → table_at new.released p u ≡ table_at old.released p u
+  pub sequence : (t u : ℕ) → table_at new.sequence t u ≡ table_at old.sequence t u
+  pub all : (u : ℕ) → accesses_at new.all.items u ≡ accesses_at old.all.items u
+  pub modifications : (u : ℕ) → accesses_at new.modifications.items u ≡ accesses_at old.modifications.items u
+  pub not_atomic : (u : ℕ) → accesses_at new.not_atomic.items u ≡ accesses_at old.not_atomic.items u
+  pub not_atomic_modifications : (u : ℕ) → accesses_at new.not_atomic_modifications.items u ≡ accesses_at old.not_atomic_modifications.items u
+  pub seq_cst : (u : ℕ) → accesses_at new.seq_cst.items u ≡ accesses_at old.seq_cst.items u
+  pub room : (count t : ℕ) → CellRoom count t old → CellRoom count t new
+
+-- nothing accessed the cell yet
+pub record IsFresh (cell : CellViews) : Type 0 where
+  pub values : cell.history.values ≡ Null ∷ []
+  pub released : (p u : ℕ) → table_at cell.released p u ≡ 0
+  pub sequence : (t u : ℕ) → table_at cell.sequence t u ≡ 0
+  pub all : (u : ℕ) → accesses_at cell.all.items u ≡ []
+  pub modifications : (u : ℕ) → accesses_at cell.modifications.items u ≡ []
+  pub not_atomic : (u : ℕ) → accesses_at cell.not_atomic.items u ≡ []
+  pub not_atomic_modifications : (u : ℕ) → accesses_at cell.not_atomic_modifications.items u ≡ []
+  pub seq_cst : (u : ℕ) → accesses_at cell.seq_cst.items u ≡ []

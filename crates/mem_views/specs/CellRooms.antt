@@ -1,0 +1,11 @@
+-- Room for accesses of a cell by a thread.
+use Rattle.std.specs.Prelude.{◌≡◌, ℕ, suc, ◌<◌, List, length, slice_index_or}
+use Rattle.typed_heap.specs.declared.cells.CellId.{CellId}
+use Rattle.mem_views.specs.Placing.{place_in}
+use Rattle.mem_views.specs.CellAdded.{CellRoom}
+use Rattle.mem_views.specs.declared.cell.CellViews.{CellViews}
+
+-- the cell has a place, with room for that many more accesses by the thread
+pub record CellRoomAt (count t : ℕ) (numbers : List (List ℕ)) (kept : List CellViews) (cell : CellId) : Type 0 where
+  pub placed : 0 < place_in numbers cell
+  pub room : (p : ℕ) (d : CellViews) → place_in numbers cell ≡ suc p → p < length kept → CellRoom count t (slice_index_or kept p d)

@@ -1,0 +1,13 @@
+pub mod Tables
+pub mod Indexed
+pub mod RowsAdded
+pub mod Families
+pub mod CellAdded
+pub mod LookUps
+pub mod Placing
+pub mod CellRooms
+pub mod Threads
+pub mod Bounds
+pub mod Holding
+pub mod Looks
+pub mod Answers

@@ -1,0 +1,225 @@
+// What threads, stacks, wakes and fences know.
+ghost use Rattle.std.specs.Prelude.{◌≡◌, ℕ, suc, ◌+◌, ◌-◌, ◌*◌, ◌<◌, ◌≤◌, ◌==◌, ◌&&◌, ◌∷◌, All, if◌then◌else◌, max, length, slice_index, OnOk, [], List};
+ghost use Rattle.mem_axioms.specs.Events.{order_of, is_fence, is_seq_cst_fence, is_wake};
+ghost use Rattle.mem_axioms.specs.Synchronizes.{releases, gives_up, makes_thread};
+ghost use Rattle.mem_axioms.specs.declared.types.Rule.{Rule};
+ghost use Rattle.mem_axioms.specs.declared.types.Event.{Event};
+ghost use Rattle.clock_laws.specs.Clocks.{bump, join};
+ghost use Rattle.mem_views.specs.Tables.{table_at};
+ghost use Rattle.mem_views.specs.Indexed.{index_at, accesses_at};
+
+use crate::clock::Clock;
+use crate::event_facts::{fence, order_in, release, seq_cst_fence};
+use crate::indexes;
+use crate::tables::ClockTable;
+use mem_axioms::{Event, Kind};
+use std::alloc::{AllocError, Global};
+use write_history::AccessIndex;
+
+/// Clocks of threads, stacks, wakes and fences.
+#[derive(Drop)]
+pub struct Rows {
+    /// What each thread knows.
+    pub threads: ClockTable,
+    /// What a stack's last leaving or making knew.
+    pub left: ClockTable,
+    /// What each wake knew, by its number.
+    pub wakes: ClockTable,
+    /// What each thread knew at its last release fence.
+    pub fenced: ClockTable,
+    /// What an acquire fence of each thread takes.
+    pub pending: ClockTable,
+    /// What the SEQ_CST fences before each SEQ_CST fence knew, by its number.
+    pub before: ClockTable,
+    /// What all SEQ_CST fences knew.
+    pub joined: Clock,
+    /// The SEQ_CST fences of each thread.
+    pub fences: Vec<AccessIndex>,
+}
+
+/// A thread takes a clock, and then has its next event. Gives what it knows from then on.
+fn advance(threads: &mut ClockTable, thread: u32, gained: &Clock, number: u32) -> Clock
+    requires thread { thread < 64 }
+    requires number { number < 4294967295 }
+    requires room { 0 < threads.old.spare }
+    ensures known { (u : ℕ) → slice_index result u ≡ bump (join (table_at threads.old thread) (slice_index gained.now)) thread number u }
+    ensures put { (t u : ℕ) → table_at threads.new t u ≡ (if t == thread then slice_index result u else table_at threads.old t u) }
+    ensures spare { threads.old.spare ≤ threads.new.spare + 1 }
+{
+    let mut clock = threads.of(thread);
+    clock.join(gained);
+    clock.set(thread as usize, number);
+    threads.put(thread, &clock);
+    clock
+}
+
+/// A thread that the event makes takes the clock of the event.
+fn start(threads: &mut ClockTable, event: &Event, clock: &Clock)
+    requires room { 0 < threads.old.spare }
+    ensures put { (t u : ℕ) → table_at threads.new t u ≡ (if makes_thread t event.now then max (table_at threads.old t u) (slice_index clock.now u) else table_at threads.old t u) }
+    ensures spare { threads.old.spare ≤ threads.new.spare + 1 }
+{
+    if let Kind::NewThread { child } = event.kind {
+        let mut known = threads.of(child);
+        known.join(clock);
+        threads.put(child, &known);
+    }
+}
+
+/// A stack that the event makes or leaves takes its clock.
+fn leave(left: &mut ClockTable, event: &Event, clock: &Clock)
+    requires room { 0 < left.old.spare }
+    ensures put { (s u : ℕ) → table_at left.new s u ≡ (if gives_up s event.now then slice_index clock.now u else table_at left.old s u) }
+    ensures spare { left.old.spare ≤ left.new.spare + 1 }
+{
+    match event.kind {
+        Kind::Leave { stack } => left.put(stack, clock),
+        Kind::NewStack { stack } => left.put(stack, clock),
+        _ => {}
+    }
+}
+
+/// A wake keeps its clock.
+fn wake(wakes: &mut ClockTable, event: &Event, number: u32, clock: &Clock)
+    requires room { 0 < wakes.old.spare }
+    ensures put { (i u : ℕ) → table_at wakes.new i u ≡ (if is_wake event.now && (i == number) then slice_index clock.now u else table_at wakes.old i u) }
+    ensures spare { wakes.old.spare ≤ wakes.new.spare + 1 }
+{
+    if let Kind::Wake { .. } = event.kind {
+        wakes.put(number, clock);
+    }
+}
+
+/// A release fence keeps its clock for its thread.
+fn fence_off(fenced: &mut ClockTable, event: &Event, clock: &Clock)
+    requires room { 0 < fenced.old.spare }
+    ensures put { (t u : ℕ) → table_at fenced.new t u ≡ (if (t == event.now.thread) && (is_fence event.now && releases (order_of event.now)) then slice_index clock.now u else table_at fenced.old t u) }
+    ensures spare { fenced.old.spare ≤ fenced.new.spare + 1 }
+{
+    if fence(event) && release(order_in(event)) {
+        fenced.put(event.thread, clock);
+    }
+}
+
+/// What a thread took stays for its next acquire fence.
+fn pend(pending: &mut ClockTable, thread: u32, taken: &Clock)
+    requires room { 0 < pending.old.spare }
+    ensures put { (t u : ℕ) → table_at pending.new t u ≡ (if t == thread then max (table_at pending.old t u) (slice_index taken.now u) else table_at pending.old t u) }
+    ensures spare { pending.old.spare ≤ pending.new.spare + 1 }
+{
+    let mut clock = pending.of(thread);
+    clock.join(taken);
+    pending.put(thread, &clock);
+}
+
+/// A SEQ_CST fence keeps what those before it knew.
+fn keep_joined(before: &mut ClockTable, event: &Event, number: u32, joined: &Clock)
+    requires room { 0 < before.old.spare }
+    ensures put { (a u : ℕ) → table_at before.new a u ≡ (if is_seq_cst_fence event.now && (a == number) then slice_index joined.now u else table_at before.old a u) }
+    ensures spare { before.old.spare ≤ before.new.spare + 1 }
+{
+    if seq_cst_fence(event) {
+        before.put(number, joined);
+    }
+}
+
+/// What a SEQ_CST fence knows is joined to what those before it knew.
+fn join_fence(joined: &mut Clock, event: &Event, clock: &Clock)
+    ensures { (u : ℕ) → slice_index joined.new u ≡ (if is_seq_cst_fence event.now then max (slice_index joined.old u) (slice_index clock.now u) else slice_index joined.old u) }
+{
+    if seq_cst_fence(event) {
+        joined.join(clock);
+    }
+}
+
+/// A SEQ_CST fence is found by its thread.
+fn index_fence(fences: &mut Vec<AccessIndex>, event: &Event, number: u32)
+    requires number { number < 4294967295 }
+    requires there { event.now.thread < length fences.old.items }
+    requires room { 0 < (index_at fences.old.items event.now.thread).spare }
+    requires above { All (λ entry. entry.event < suc number) (accesses_at fences.old.items event.now.thread) }
+    ensures entries { (u : ℕ) → accesses_at fences.new.items u ≡ (if is_seq_cst_fence event.now && (u == event.now.thread) then record { event = suc number; position = number } ∷ accesses_at fences.old.items u else accesses_at fences.old.items u) }
+    ensures spare { (u : ℕ) → (index_at fences.old.items u).spare ≤ (index_at fences.new.items u).spare + 1 }
+    ensures len { length fences.new.items ≡ length fences.old.items }
+{
+    if seq_cst_fence(event) {
+        indexes::push(fences, event.thread as usize, number + 1, number);
+    }
+}
+
+/// Makes the indexes of all threads below 64, and room for that many more entries in each.
+fn reserve_all(fences: &mut Vec<AccessIndex>, alloc: Global, count: usize) -> Result<(), AllocError>
+    ensures same { (u : ℕ) → accesses_at fences.new.items u ≡ accesses_at fences.old.items u }
+    ensures spare { (u : ℕ) → (index_at fences.old.items u).spare ≤ (index_at fences.new.items u).spare }
+    ensures len { length fences.old.items ≤ length fences.new.items }
+    ensures there { OnOk result (64 ≤ length fences.new.items) }
+    ensures room { OnOk result ((t : ℕ) → t < 64 → count ≤ (index_at fences.new.items t).spare) }
+{
+    for thread in 0..64 {
+        indexes::reserve(fences, alloc, thread, count)?;
+    }
+    Ok(())
+}
+
+impl Rows {
+    ghost use Rattle.mem_views.specs.Holding.{RowsHold};
+    ghost use Rattle.mem_views.specs.RowsAdded.{RowsAdded, RowsRoom};
+
+    /// Rows that know nothing.
+    pub fn new(alloc: Global) -> Rows
+        ensures threads { (t u : ℕ) → table_at result.threads t u ≡ 0 }
+        ensures left { (s u : ℕ) → table_at result.left s u ≡ 0 }
+        ensures fenced { (t u : ℕ) → table_at result.fenced t u ≡ 0 }
+        ensures pending { (t u : ℕ) → table_at result.pending t u ≡ 0 }
+        ensures joined { (u : ℕ) → slice_index result.joined u ≡ 0 }
+        ensures fences { (u : ℕ) → accesses_at result.fences.items u ≡ [] }
+    {
+        Rows {
+            threads: ClockTable::new(alloc),
+            left: ClockTable::new(alloc),
+            wakes: ClockTable::new(alloc),
+            fenced: ClockTable::new(alloc),
+            pending: ClockTable::new(alloc),
+            before: ClockTable::new(alloc),
+            joined: Clock::new(),
+            fences: Vec::new(alloc),
+        }
+    }
+
+    /// Makes room for that many more events by threads below 64.
+    pub fn reserve(&mut self, alloc: Global, count: u32) -> Result<(), AllocError>
+        ensures holds { (rule : Rule) (log : List Event) → RowsHold rule log self.old → RowsHold rule log self.new }
+        ensures rooms { (n : ℕ) → RowsRoom n self.old → RowsRoom n self.new }
+        ensures room { OnOk result (RowsRoom count self.new) }
+    {
+        let count = count as usize;
+        self.threads.reserve(count + count)?;
+        self.left.reserve(count)?;
+        self.wakes.reserve(count)?;
+        self.fenced.reserve(count)?;
+        self.pending.reserve(count)?;
+        self.before.reserve(count)?;
+        reserve_all(&mut self.fences, alloc, count)
+    }
+
+    /// Adds an event with its number, what it gained and what it took. Gives what it knows.
+    pub fn add(&mut self, event: &Event, number: u32, gained: &Clock, taken: &Clock) -> Clock
+        requires thread { event.now.thread < 64 }
+        requires number { number < 4294967295 }
+        requires room { RowsRoom 1 self.old }
+        requires above { All (λ entry. entry.event < suc number) (accesses_at self.old.fences.items event.now.thread) }
+        ensures added { RowsAdded self.old self.new number event.now gained.now taken.now result }
+        ensures room { (count : ℕ) → RowsRoom (count + 1) self.old → RowsRoom count self.new }
+    {
+        let clock = advance(&mut self.threads, event.thread, gained, number);
+        start(&mut self.threads, event, &clock);
+        leave(&mut self.left, event, &clock);
+        wake(&mut self.wakes, event, number, &clock);
+        fence_off(&mut self.fenced, event, &clock);
+        pend(&mut self.pending, event.thread, taken);
+        keep_joined(&mut self.before, event, number, &self.joined);
+        join_fence(&mut self.joined, event, &clock);
+        index_fence(&mut self.fences, event, number);
+        clock
+    }
+}
