@@ -65,7 +65,12 @@ fn hold(alloc: Global, whole: Whole, written: usize) -> Result<Classes, AllocErr
     Ok(Classes::held(written, whole, class, rows))
 }
 
-/// Adds the implied types to a graph, refuses it with its first fault, or says which of its types are the same and what their leaves are.
+/// Adds the implied types to a graph and says which of its types are the same and what their leaves are, or refuses it with its
+/// first fault: arguments before types that contain themselves, those before types with too many leaves, and in each pass the
+/// earlier definition first. Want of memory may come at any time. The graph is taken in each case.
+///
+/// For n definitions with m arguments in all it takes some m log n steps, and as many for the leaves as there are: at most 4,096 a
+/// definition. A graph with a long cycle of parts is refused in n times m steps at most.
 pub fn classes(alloc: Global, graph: TypeGraph) -> Result<Classes, TypeFault>
     requires graph { IsGraph graph.definitions }
     requires few { 3 * length graph.definitions + 7 < 2 ^ 32 - 1 }

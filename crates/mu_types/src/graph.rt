@@ -42,7 +42,8 @@ impl TypeGraph {
     /// name, the others are those of the arguments in the order of the text: a width; the fields of a struct; the element of an
     /// array, then its length; the fixed fields of a hybrid, then its element; the target of a reference; the parameters of a
     /// signature, then its results. A place that is not given counts as 0. An argument may be the id of a definition that is
-    /// added later. Where no memory is found the graph is left as it was, and the definition is let go.
+    /// added later. Where no memory is found the graph is left as it was, and the definition is let go. It costs as much as a push
+    /// to a list.
     pub fn add(&mut self, definition: TypeDef, places: Ids) -> Result<u32, AllocError>
         requires { length self.old.definitions + 1 < 2 ^ 32 - 1 }
         ensures id { IfOk result (λ id. id ≡ length self.old.definitions) }

@@ -12,7 +12,8 @@ use std::marker::Model;
 use type_laws::TypeDef;
 
 /// The types and signatures of a graph, the implied ones among them, and which of them are the same.
-/// Contracts see the definitions by id and how many of them, which come first, are written.
+/// Contracts see the definitions by id and how many of them, which come first, are written. It holds a number for each definition
+/// and the leaves of each, at most 4,096 a type.
 #[derive(Drop)]
 pub struct Classes {
     written: usize,
@@ -50,7 +51,7 @@ impl Classes {
         }
     }
 
-    /// Whether the two are the same type or signature.
+    /// Whether the two are the same type or signature. Two numbers are compared; it takes no memory.
     #[tactic(auto, using(crate::specs::Held::same_told))]
     pub fn same(&self, a: u32, b: u32) -> bool
         requires a { a < length self.now.definitions }
@@ -60,7 +61,7 @@ impl Classes {
         self.class[a as usize] == self.class[b as usize]
     }
 
-    /// The least id that is the same type or signature.
+    /// The least id that is the same type or signature. It is looked up; this takes no memory.
     #[tactic(auto, using(type_laws::specs::Classes::class_is))]
     pub fn class(&self, t: u32) -> u32
         requires { t < length self.now.definitions }
@@ -69,7 +70,8 @@ impl Classes {
         self.class[t as usize] as u32
     }
 
-    /// The classes of the leaves, from left to right; of a hybrid those of its fixed fields.
+    /// The classes of the leaves, from left to right; of a hybrid those of its fixed fields. The list is held ready; this takes
+    /// constant time and no memory.
     pub fn leaves(&self, t: u32) -> &[u32]
         requires { t < length self.now.definitions }
         ensures { result.now ≡ map (class_of self.now.definitions) (leaves self.now.definitions t) }
@@ -77,7 +79,7 @@ impl Classes {
         self.rows[self.class[t as usize]].as_slice()
     }
 
-    /// The definition with that id.
+    /// The definition with that id, in constant time.
     pub fn definition(&self, t: u32) -> &TypeDef
         requires { t < length self.now.definitions }
         ensures { slice_get self.now.definitions t ≡ Some result.now }
@@ -93,7 +95,7 @@ impl Classes {
         self.all.len()
     }
 
-    /// The id of an implied type.
+    /// The id of an implied type: one of those that `classes` added. It is looked up, in constant time and without memory.
     pub fn implied(&self, wanted: Implied) -> u32
         requires { IsThere self.now.definitions self.now.written wanted }
         ensures { slice_get self.now.definitions result ≡ Some (definition_of wanted) }
