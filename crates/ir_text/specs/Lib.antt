@@ -1,4 +1,5 @@
 pub mod Grammar
 pub mod NotBuilt
+pub mod Meant
 pub mod Grammatical
 pub mod Examples
