@@ -1,4 +1,4 @@
--- Worked examples: first faults, and the implied types of a small graph.
+-- Worked examples, to read beside the definitions: first faults, and the implied types of a small graph.
 use Rattle.std.specs.Prelude.{◌≡◌, ℕ, List, [], ◌∷◌, Option, Some, None, length, slice_get, refl}
 use Rattle.mu_base.specs.Lists.{Roomy}
 use Rattle.type_laws.specs.declared.definition.TypeDef.{TypeDef}
