@@ -431,7 +431,11 @@ fn alike_of(alloc: Global, shapes: &[Shape]) -> Result<Vec<bool>, AllocError> {
 }
 
 /// What is said of the whole graph, of whose definitions the first so many are written.
-pub fn verdict(alloc: Global, shapes: &[Shape], written: usize) -> Result<Verdict, AllocError> {
+pub fn plain_verdict(
+    alloc: Global,
+    shapes: &[Shape],
+    written: usize,
+) -> Result<Verdict, AllocError> {
     for t in 0..written {
         if t < shapes.len()
             && let Some(k) = wrong_argument(shapes, &shapes[t])

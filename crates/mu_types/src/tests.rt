@@ -1,5 +1,5 @@
 // Graphs whose answers are known, run as they are built.
-use super::samples::{Dice, Verdict, complete, drawn, flag_at, graph_of, pair, verdict};
+use super::samples::{Dice, Verdict, complete, drawn, flag_at, graph_of, pair, plain_verdict};
 use super::{Classes, Implied, TypeDef, TypeFault, TypeGraph, TypeKind, classes};
 use mu_base::Ids;
 use std::alloc::{AllocError, Global};
@@ -385,7 +385,7 @@ fn compare(alloc: Global, dice: &mut Dice, tally: &mut Tally) -> Result<(), Allo
     let graph = graph_of(alloc, &shapes)?;
     complete(alloc, &mut shapes)?;
     let known = judged(alloc, graph);
-    match verdict(alloc, &shapes, written)? {
+    match plain_verdict(alloc, &shapes, written)? {
         Verdict::Refused { kind, place } => {
             match kind {
                 TypeKind::EndlessType => count_one(&mut tally.endless),
