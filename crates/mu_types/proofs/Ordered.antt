@@ -1,5 +1,5 @@
 -- Of values that are found in an order in which parts come before their wholes.
-use Rattle.std.proofs.Common.{◌≡◌, ℕ, zero, suc, ◌+◌, ◌<◌, ◌≤◌, Bool, true, false, List, [], ◌∷◌, length, Option, Some, None, slice_get, min, map, refl, sym, ◌∙◌, ap, subst, arith, get_or, inl, inr, ◌⊎◌}
+use Rattle.std.proofs.Common.{◌≡◌, ℕ, ◌+◌, ◌<◌, Bool, true, false, List, [], length, Some, slice_get, min, map, sym, ◌∙◌, ap, subst, arith, get_or, inl, inr}
 use Rattle.std.proofs.Math.ListN.{set}
 use Rattle.std.specs.Prelude.{slice_index}
 use Rattle.std.specs.List.{All}

@@ -1,5 +1,4 @@
-use Rattle.std.proofs.Common.{◌≡◌, ◌<◌, ◌+◌, ◌∙◌, sym, ap, subst, arith, ℕ, List, length, min}
-use Rattle.std.proofs.Math.ListN.{set}
+use Rattle.std.proofs.Common.{◌≡◌, ◌+◌, ◌∙◌, sym, subst, ℕ, List, length, min}
 use Rattle.std.specs.Prelude.{slice_index}
 use Rattle.type_laws.specs.Leaves.{leaves}
 use Rattle.mu_types.specs.declared.counting.TheConstants.{CAP}

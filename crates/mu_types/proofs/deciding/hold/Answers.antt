@@ -1,4 +1,4 @@
-use Rattle.std.proofs.Common.{subst, ℕ, List, length, arith}
+use Rattle.std.proofs.Common.{subst, ℕ, List, arith}
 use Rattle.type_laws.specs.declared.definition.TypeDef.{TypeDef}
 use Rattle.type_laws.specs.Partition.{IsLeast}
 use Rattle.mu_types.specs.Rows.{lists}

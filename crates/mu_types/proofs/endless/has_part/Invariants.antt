@@ -1,7 +1,6 @@
-use Rattle.std.proofs.Common.{◌≡◌, drop, ◌||◌, ◌==◌}
+use Rattle.std.proofs.Common.{◌≡◌, drop, ◌==◌}
 use Rattle.std.specs.List.{list_any}
 use Rattle.type_laws.specs.Parts.{parts}
-use Rattle.mu_types.specs.Walks.{is_marked}
 use Rattle.mu_types.proofs.endless.has_part.Given as goal
 
 abbrev pub invariant-loop-k : goal.invariant-loop-k

@@ -1,4 +1,4 @@
-use Rattle.std.proofs.Common.{◌≡◌, ◌<◌, ◌+◌, ◌∙◌, true, ◌||◌, ◌==◌, suc, refl, sym, arith, add-one, length}
+use Rattle.std.proofs.Common.{◌≡◌, ◌<◌, ◌+◌, ◌∙◌, true, ◌==◌, suc, refl, sym, arith, add-one, length}
 use Rattle.std.proofs.lemmas.Bool.{eq-eqb}
 use Rattle.type_laws.specs.Parts.{leads}
 use Rattle.type_laws.proofs.Walks.{or_left, or_right}

@@ -1,7 +1,6 @@
-use Rattle.std.proofs.Common.{arith, ◌≡◌, ◌<◌, ℕ, length, sym, ◌∙◌, subst, Some, inl, inr, List, ◌≤◌}
+use Rattle.std.proofs.Common.{arith, ◌≡◌, ◌<◌, ℕ, length, sym, ◌∙◌, subst, inl, inr, List, ◌≤◌}
 use Rattle.std.specs.List.{Contains}
 use Rattle.std.specs.Prelude.{slice_index}
-use Rattle.type_laws.specs.Partition.{arg}
 use Rattle.mu_types.specs.Rows.{lists, Holds}
 use Rattle.mu_types.specs.Edges.{edge_of}
 use Rattle.mu_types.proofs.EdgeLemmas.{contains_more}

@@ -1,7 +1,6 @@
-use Rattle.std.proofs.Common.{◌≡◌, ℕ, ◌<◌, length, take, Some, ◌⊎◌}
+use Rattle.std.proofs.Common.{◌≡◌, ℕ, ◌<◌, length, take, ◌⊎◌}
 use Rattle.std.specs.List.{Contains}
 use Rattle.std.specs.Prelude.{slice_index}
-use Rattle.type_laws.specs.Partition.{arg}
 use Rattle.mu_types.specs.Rows.{lists, Holds}
 use Rattle.mu_types.specs.Edges.{edge_of}
 use Rattle.mu_types.specs.Leads.{LeadsTo}

@@ -1,4 +1,4 @@
-use Rattle.std.proofs.Common.{arith, ◌≡◌, ◌<◌, ℕ, List, length, sym, ◌∙◌, subst}
+use Rattle.std.proofs.Common.{arith, ◌<◌, ℕ, List, length, sym, subst}
 use Rattle.std.specs.Prelude.{slice_set}
 use Rattle.mu_types.specs.Rows.{lists}
 use Rattle.mu_types.specs.Blocks.{Listed}
