@@ -34,16 +34,6 @@ found_more {V} d n rank order F vals i t v o e q l f h a la lr = elim (cases_eq 
   ])
 ]
 
-pub found_skip : {V : Type 0} (d : V) (n : ℕ) (rank order : List ℕ) (F : ℕ → V) (vals : List V) (i : ℕ) → IsOrder n rank order
-    → (slice_index order i < n → slice_index rank (slice_index order i) ≡ i → ⊥) → Found d n rank F vals i → Found d n rank F vals (i + 1)
-found_skip {V} d n rank order F vals i o apart h a la lr = elim (cases_lt (slice_index rank a) i) [
-  | inl m ↦ h a la m
-  | inr m ↦
-      let r : slice_index rank a ≡ i = omega arith in
-      let s : slice_index order i ≡ a = ap (λ w. slice_index order w) (sym r) ∙ o a la in
-      absurd (apart (subst (λ w. w < n) (sym s) la) (ap (λ w. slice_index rank w) s ∙ r))
-]
-
 -- the number of leaves, from those of the parts
 pub count_found : (g : List TypeDef) → IsGraph g → (cap : ℕ) (rank counts : List ℕ) → AreRanked g rank → (t : ℕ) (d : TypeDef) → t < length g → slice_get g t ≡ Some d
     → Found 0 (length g) rank (λ x. min cap (length (leaves g x))) counts (slice_index rank t) → min cap (count_by (λ p. slice_index counts p) d) ≡ min cap (length (leaves g t))
@@ -95,16 +85,6 @@ done_more g class rank order was done i t o e h kept own a la lr = elim (cases_l
       let r : slice_index rank a ≡ i = omega arith in
       let s : t ≡ a = sym e ∙ (ap (λ w. slice_index order w) (sym r) ∙ o a la) in
       subst (λ w. is_marked done (slice_index class w) ≡ true) s own
-]
-
-pub done_skip : (g : List TypeDef) (class rank order : List ℕ) (done : List Bool) (i : ℕ) → IsOrder (length g) rank order
-    → (slice_index order i < length g → slice_index rank (slice_index order i) ≡ i → ⊥) → DoneTo g class rank done i → DoneTo g class rank done (i + 1)
-done_skip g class rank order done i o apart h a la lr = elim (cases_lt (slice_index rank a) i) [
-  | inl m ↦ h a la m
-  | inr m ↦
-      let r : slice_index rank a ≡ i = omega arith in
-      let s : slice_index order i ≡ a = ap (λ w. slice_index order w) (sym r) ∙ o a la in
-      absurd (apart (subst (λ w. w < length g) (sym s) la) (ap (λ w. slice_index rank w) s ∙ r))
 ]
 
 -- where all classes are done the rows hold
