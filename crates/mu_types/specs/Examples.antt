@@ -1,12 +1,10 @@
--- Worked examples: first faults, and the implied types of a small graph.
-use Rattle.std.specs.Prelude.{◌≡◌, ℕ, List, [], ◌∷◌, Option, Some, None, length, slice_get, refl}
+-- Worked examples, to read beside the definitions: first faults, and the implied types of a small graph.
+use Rattle.std.specs.Prelude.{◌≡◌, ℕ, List, [], ◌∷◌, Some, None, length, slice_get, refl}
 use Rattle.mu_base.specs.Lists.{Roomy}
-use Rattle.type_laws.specs.declared.definition.TypeDef.{TypeDef}
-use Rattle.type_laws.specs.declared.definition.TypeDef.TheVariants.{Int, Struct, Array, Hybrid, Void, Ref, Iref, FuncRef, Sig}
+use Rattle.type_laws.specs.declared.definition.TypeDef.TheVariants.{Int, Struct, Void, Ref, FuncRef, Sig}
 use Rattle.type_laws.specs.Parts.{leads}
 use Rattle.type_laws.specs.Leaves.{leaves_to}
 use Rattle.mu_types.specs.declared.faults.TypeKind.TheVariants.{EndlessType, WrongArgument}
-use Rattle.mu_types.specs.Graph.{Written}
 use Rattle.mu_types.specs.Implied.{complete}
 use Rattle.mu_types.specs.Tests.{first_fault}
 

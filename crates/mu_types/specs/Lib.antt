@@ -2,7 +2,6 @@ pub mod Graph
 pub mod Implied
 pub mod References
 pub mod Walks
-pub mod Pushes
 pub mod Levels
 pub mod Listings
 pub mod Held
@@ -10,8 +9,6 @@ pub mod Keys
 pub mod Ordered
 pub mod Examples
 pub mod Tests
-pub mod Firsts
-pub mod Verdicts
 pub mod Rounds
 pub mod Rows
 pub mod Blocks

@@ -1,4 +1,4 @@
--- What the written types must meet: one ordered list of tests, each with the fault that it names where it is not met.
+-- To believe: what the written types must meet: one ordered list of tests, each with the fault that it names where it is not met.
 use Rattle.std.specs.Prelude.{ℕ, zero, suc, ◌+◌, Bool, true, false, not, cond, ◌&&◌, ◌==◌, nat_le, List, [], ◌∷◌, ◌++◌, length, Option, Some, None, slice_get, slice_index, slice_index_or}
 use Rattle.std.specs.List.{list_any}
 use Rattle.mu_base.specs.Lists.{Roomy}

@@ -1,11 +1,9 @@
--- Marks on the types from which a walk leads to a goal.
-use Rattle.std.proofs.Common.{◌≡◌, ℕ, suc, ◌<◌, ◌≤◌, Bool, false, ◌||◌, ◌==◌, List, [], ◌∷◌, length, Some, None, slice_get, refl, sym, ◌∙◌, ap, arith, get_or, inl, inr, ◌⊎◌}
-use Rattle.std.specs.List.{list_any}
+-- Inner: marks on the types from which a walk leads to a goal.
+-- Contracts inside the crate cite this; no public one does, so no reader of those needs it.
+use Rattle.std.proofs.Common.{◌≡◌, ℕ, Bool, false, List}
 use Rattle.std.specs.Prelude.{slice_index_or}
-use Rattle.std.proofs.lemmas.Option.{slice_get_cases}
-use Rattle.std.proofs.lemmas.List.{get_or_past}
 use Rattle.type_laws.specs.declared.definition.TypeDef.{TypeDef}
-use Rattle.type_laws.specs.Parts.{parts, parts_at, leads}
+use Rattle.type_laws.specs.Parts.{leads}
 
 abbrev pub is_marked : List Bool → ℕ → Bool
 is_marked marks x = slice_index_or marks x false
@@ -13,21 +11,3 @@ is_marked marks x = slice_index_or marks x false
 -- those marked are those from which a walk of that many steps leads to b
 abbrev pub Marks : List TypeDef → ℕ → ℕ → List Bool → Type 0
 Marks g k b marks = (x : ℕ) → is_marked marks x ≡ leads g k b x
-
-any_same : (p q : ℕ → Bool) → ((x : ℕ) → p x ≡ q x) → (xs : List ℕ) → list_any p xs ≡ list_any q xs
-any_same p q h [] = refl
-any_same p q h (x ∷ xs) = rw (h x, any_same p q h xs) refl
-
-pub farther_is : (g : List TypeDef) (k b : ℕ) (marks next : List Bool) → length next ≡ length g
-    → ((x : ℕ) (d : TypeDef) → x < length g → slice_get g x ≡ Some d → is_marked next x ≡ list_any (λ p. (p == b) || is_marked marks p) (parts d))
-    → Marks g k b marks → Marks g (suc k) b next
-unfolding leads
-farther_is g k b marks next e f h x = go (slice_get_cases g x).1
-  where
-    go : ((d : TypeDef) × (x < length g) × (slice_get g x ≡ Some d) × (get_or g x d ≡ d)) ⊎ ((length g ≤ x) × (slice_get g x ≡ None)) → is_marked next x ≡ leads g (suc k) b x
-    go (inl (d, l, s, q)) = f x d l s ∙ any_same (λ p. (p == b) || is_marked marks p) (λ p. (p == b) || leads g k b p) (λ p. rw (h p) refl) (parts d) ∙ sym (ap (λ o. list_any (λ p. (p == b) || leads g k b p) (parts_at o)) s)
-    go (inr (l, s)) = get_or_past next x false (omega (arith, e, l)) ∙ sym (ap (λ o. list_any (λ p. (p == b) || leads g k b p) (parts_at o)) s)
-
-pub none_marked : (g : List TypeDef) (b : ℕ) (marks : List Bool) → ((x : ℕ) → is_marked marks x ≡ false) → Marks g 0 b marks
-unfolding leads
-none_marked g b marks h x = h x

@@ -78,7 +78,7 @@ pub fn list_members(alloc: Global, block: &[usize]) -> Result<Vec<Vec<usize>>, A
     Ok(members)
 }
 
-#[tactic(auto, using(crate::specs::Rows::pushed_there, crate::specs::Rows::pushed_kept))]
+#[tactic(auto, using(crate::proofs::RowLemmas::pushed_there, crate::proofs::RowLemmas::pushed_kept))]
 fn put_members(block: &[usize], members: &mut [Vec<usize>]) -> Result<(), AllocError>
     requires low { (x : ℕ) → x < length block.now → slice_index block.now x < length block.now }
     requires len { length members.old ≡ length block.now }

@@ -21,7 +21,13 @@ use mu_base::Ids;
 use std::alloc::{AllocError, Global};
 use type_laws::TypeDef;
 
-fn judge(alloc: Global, all: &[TypeDef], places: &[Ids], many: usize) -> Result<(), TypeFault>
+// whether the types are accepted; if so, the ranks that were found on the way
+fn judge(
+    alloc: Global,
+    all: &[TypeDef],
+    places: &[Ids],
+    many: usize,
+) -> Result<Vec<usize>, TypeFault>
     requires many { many ≤ length all.now }
     requires graph { IsGraph all.now }
     ensures accepted { OnOk result (first_unmet (passes all.now places.now many) ≡ None) }
@@ -38,7 +44,7 @@ fn judge(alloc: Global, all: &[TypeDef], places: &[Ids], many: usize) -> Result<
     if let Some(fault) = first_too_many(all, places, many, &counts) {
         return Err(fault);
     }
-    Ok(())
+    Ok(rank)
 }
 
 fn find_classes(alloc: Global, all: &[TypeDef]) -> Result<Vec<usize>, AllocError>
@@ -51,7 +57,7 @@ fn find_classes(alloc: Global, all: &[TypeDef]) -> Result<Vec<usize>, AllocError
     Ok(class)
 }
 
-fn hold(alloc: Global, whole: Whole, written: usize) -> Result<Classes, AllocError>
+fn hold(alloc: Global, whole: Whole, written: usize, rank: &[usize]) -> Result<Classes, AllocError>
     requires few { length whole.all.items < 2 ^ 32 }
     requires graph { IsGraph whole.all.items }
     requires referred { Referred whole.all.items whole.first.items (written + 1) }
@@ -60,8 +66,7 @@ fn hold(alloc: Global, whole: Whole, written: usize) -> Result<Classes, AllocErr
     ensures written { IfOk result (λ c. c.written ≡ written) }
 {
     let class = find_classes(alloc, &whole.all)?;
-    let rank = arrange(alloc, &whole.all)?;
-    let rows = listings_of(alloc, &whole.all, &class, &rank)?;
+    let rows = listings_of(alloc, &whole.all, &class, rank)?;
     Ok(Classes::held(written, whole, class, rows))
 }
 
@@ -70,7 +75,7 @@ fn hold(alloc: Global, whole: Whole, written: usize) -> Result<Classes, AllocErr
 /// earlier definition first. Want of memory may come at any time. The graph is taken in each case.
 ///
 /// For n definitions with m arguments in all it takes some m log n steps, and as many for the leaves as there are: at most 4,096 a
-/// definition. A graph with a long cycle of parts is refused in n times m steps at most.
+/// class. A graph with a cycle of parts is refused in some m steps.
 pub fn classes(alloc: Global, graph: TypeGraph) -> Result<Classes, TypeFault>
     requires graph { IsGraph graph.definitions }
     requires few { 3 * length graph.definitions + 7 < 2 ^ 32 - 1 }
@@ -82,7 +87,7 @@ pub fn classes(alloc: Global, graph: TypeGraph) -> Result<Classes, TypeFault>
     let (definitions, places) = graph.into_parts();
     let written = definitions.len();
     let whole = complete_graph(alloc, definitions)?;
-    judge(alloc, &whole.all, &places, written)?;
-    let classes = hold(alloc, whole, written)?;
+    let rank = judge(alloc, &whole.all, &places, written)?;
+    let classes = hold(alloc, whole, written, &rank)?;
     Ok(classes)
 }

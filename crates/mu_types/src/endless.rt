@@ -1,5 +1,5 @@
 // The second pass: which types contain themselves.
-ghost use Rattle.std.specs.Prelude.{◌≡◌, ℕ, ◌+◌, ◌<◌, ◌≤◌, suc, ◌||◌, ◌==◌, Option, None, Some, length, slice_get, slice_index, vec_len, IfOk, IsTrue};
+ghost use Rattle.std.specs.Prelude.{◌≡◌, ℕ, ◌+◌, ◌<◌, ◌≤◌, suc, ◌||◌, ◌==◌, Option, None, Some, true, length, slice_get, slice_index, vec_len, IfOk, IsTrue};
 ghost use Rattle.std.specs.List.{list_any, All};
 ghost use Rattle.type_laws.specs.Parts.{parts, parts_at, leads, contains_itself};
 ghost use Rattle.type_laws.specs.Ranks.{Descends, IsFree};
@@ -9,7 +9,7 @@ ghost use Rattle.mu_types.specs.Walks.{Marks, is_marked};
 use super::faults::{TypeFault, TypeKind};
 use super::judging::place_of;
 use super::ranking::{descends, parts_stay_below};
-use super::rows::at;
+use super::rows::{at, put};
 use mu_base::Ids;
 use std::alloc::{AllocError, Global};
 use type_laws::TypeDef;
@@ -43,6 +43,18 @@ pub fn part(definition: &TypeDef, k: usize) -> usize
         }
         _ => 0,
     }
+}
+
+fn has_part(definition: &TypeDef, goal: usize) -> bool
+    ensures { result ≡ list_any (λ p. p == goal) (parts definition.now) }
+{
+    for k in 0..part_count(definition) {
+        let p = part(definition, k);
+        if p == goal {
+            return true;
+        }
+    }
+    false
 }
 
 // whether a part is the goal or is marked
@@ -90,7 +102,80 @@ fn contains_itself_plainly(alloc: Global, all: &[TypeDef], t: usize) -> Result<b
     Ok(marks[t])
 }
 
-#[tactic(auto, using(crate::specs::Verdicts::free_finite))]
+// a way from a type to parts, as far as it is found: for each type that is met the one before it, and one of which the first is a part
+#[derive(Drop)]
+struct Way {
+    before: Vec<usize>,
+    last: usize,
+}
+
+// meets the parts of x that have the rank of t; whether one of the parts is t
+fn meet_parts(
+    way: &mut Way,
+    open: &mut Vec<usize>,
+    definition: &TypeDef,
+    rank: &[usize],
+    x: usize,
+    t: usize,
+) -> Result<bool, AllocError> {
+    for k in 0..part_count(definition) {
+        let p = part(definition, k);
+        if p == t {
+            way.last = x;
+            return Ok(true);
+        }
+        if at(rank, p) == at(rank, t) && at(&way.before, p) == usize::MAX {
+            put(&mut way.before, p, x);
+            open.push(p)?;
+        }
+    }
+    Ok(false)
+}
+
+// a way from t to t, proposed: whoever uses it tests it
+fn way_around(alloc: Global, all: &[TypeDef], rank: &[usize], t: usize) -> Result<Way, AllocError> {
+    let mut before = Vec::new(alloc);
+    for _ in 0..all.len() {
+        before.push(usize::MAX)?;
+    }
+    let mut way = Way { before, last: t };
+    let mut open: Vec<usize> = Vec::new(alloc);
+    open.push(t)?;
+    for _ in 0..all.len() {
+        let Some(x) = open.pop() else {
+            break;
+        };
+        if x < all.len() && meet_parts(&mut way, &mut open, &all[x], rank, x, t)? {
+            break;
+        }
+    }
+    Ok(way)
+}
+
+// follows the way back from its last type to t
+#[tactic(auto, using(crate::proofs::Walks::around))]
+fn leads_around(all: &[TypeDef], before: &[usize], last: usize, t: usize) -> bool
+    ensures { IsTrue result → contains_itself all.now t ≡ true }
+{
+    let mut x = last;
+    let mut next = t;
+    for steps in 0..all.len() {
+        if x >= all.len() {
+            return false;
+        }
+        if !has_part(&all[x], next) {
+            return false;
+        }
+        if x == t {
+            return true;
+        }
+        next = x;
+        x = at(before, x);
+    }
+    false
+}
+
+#[tactic(auto, using(crate::proofs::Verdicts::free_finite))]
 fn is_endless(
     alloc: Global,
     all: &[TypeDef],
@@ -105,11 +190,15 @@ fn is_endless(
     if descending && parts_stay_below(&all[t], rank, at(rank, t)) {
         return Ok(false);
     }
+    let way = way_around(alloc, all, rank, t)?;
+    if leads_around(all, &way.before, way.last, t) {
+        return Ok(true);
+    }
     contains_itself_plainly(alloc, all, t)
 }
 
 /// The first, of the first so many definitions, that contains itself. Where all parts of a type have lower ranks than it, and no
-/// part in the graph a higher one, it does not; the ranks may be any.
+/// part in the graph a higher one, it does not; else a way around is looked for among the types of its rank. The ranks may be any.
 pub fn first_endless(
     alloc: Global,
     all: &[TypeDef],

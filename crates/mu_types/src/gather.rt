@@ -6,23 +6,14 @@ ghost use Rattle.type_laws.specs.Partition.{arg};
 ghost use Rattle.mu_types.specs.Rows.{lists, Holds};
 ghost use Rattle.mu_types.specs.declared.edges.Edge.{Edge};
 ghost use Rattle.mu_types.specs.Edges.{edge_of};
-ghost use Rattle.mu_types.specs.Leads.{LeadsTo};
+ghost use Rattle.mu_types.specs.Leads.{LeadsTo, IsForward};
 
-use super::arguments::{argument, arity};
 use super::edges::Edge;
 use super::rows::{at, push_to};
 use std::alloc::AllocError;
 use type_laws::TypeDef;
 
-pub fn is_arg(definitions: &[TypeDef], x: usize, k: usize, y: usize) -> bool
-    ensures { IsTrue result ↔ (arg definitions.now x k ≡ Some y) }
-{
-    x < definitions.len()
-        && k < arity(&definitions[x])
-        && argument(&definitions[x], k) as usize == y
-}
-
-#[tactic(auto, using(crate::specs::Rows::pushed_kept, crate::specs::Rows::pushed_there, crate::specs::Rows::pushed_only))]
+#[tactic(auto, using(crate::proofs::RowLemmas::pushed_kept, crate::proofs::RowLemmas::pushed_there, crate::proofs::RowLemmas::pushed_only))]
 fn gather_edge(
     definitions: &[TypeDef],
     edge: Edge,
@@ -30,18 +21,20 @@ fn gather_edge(
     buckets: &mut [Vec<usize>],
     places: &mut Vec<usize>,
 ) -> Result<(), AllocError>
+    requires { arg definitions.now edge.from edge.place ≡ Some y }
     ensures len { length buckets.new ≡ length buckets.old }
     ensures kept { OnOk result ((k x : ℕ) → Holds (lists buckets.old) k x → Holds (lists buckets.new) k x) }
-    ensures there { OnOk result (edge.place < length buckets.old → arg definitions.now edge.from edge.place ≡ Some y → Holds (lists buckets.new) edge.place edge.from) }
+    ensures there { OnOk result (edge.place < length buckets.old → Holds (lists buckets.new) edge.place edge.from) }
     ensures sound { OnOk result ((k x : ℕ) → Holds (lists buckets.new) k x → Holds (lists buckets.old) k x ⊎ (arg definitions.now x k ≡ Some y)) }
 {
-    if edge.place >= buckets.len() || !is_arg(definitions, edge.from, edge.place, y) {
+    let place = edge.place as usize;
+    if place >= buckets.len() {
         return Ok(());
     }
-    if buckets[edge.place].is_empty() {
-        places.push(edge.place)?;
+    if buckets[place].is_empty() {
+        places.push(place)?;
     }
-    push_to(buckets, edge.place, edge.from)?;
+    push_to(buckets, place, edge.from as usize)?;
     Ok(())
 }
 
@@ -52,9 +45,10 @@ fn gather_one(
     buckets: &mut [Vec<usize>],
     places: &mut Vec<usize>,
 ) -> Result<(), AllocError>
+    requires { (e : Edge) → Contains edges.now e → arg definitions.now e.from e.place ≡ Some y }
     ensures len { length buckets.new ≡ length buckets.old }
     ensures kept { OnOk result ((k x : ℕ) → Holds (lists buckets.old) k x → Holds (lists buckets.new) k x) }
-    ensures complete { OnOk result ((k x : ℕ) → k < length buckets.old → Contains edges.now (edge_of k x) → arg definitions.now x k ≡ Some y → Holds (lists buckets.new) k x) }
+    ensures complete { OnOk result ((k x : ℕ) → k < length buckets.old → Contains edges.now (edge_of k x) → Holds (lists buckets.new) k x) }
     ensures sound { OnOk result ((k x : ℕ) → Holds (lists buckets.new) k x → Holds (lists buckets.old) k x ⊎ (arg definitions.now x k ≡ Some y)) }
 {
     for i in 0..edges.len() {
@@ -73,9 +67,10 @@ pub fn gather(
     buckets: &mut [Vec<usize>],
     places: &mut Vec<usize>,
 ) -> Result<(), AllocError>
+    requires { IsForward definitions.now (lists preds.now) }
     ensures len { length buckets.new ≡ length buckets.old }
     ensures kept { OnOk result ((k x : ℕ) → Holds (lists buckets.old) k x → Holds (lists buckets.new) k x) }
-    ensures complete { OnOk result ((k x y : ℕ) → k < length buckets.old → Contains row.now y → slice_index block.now y ≡ s → Holds (lists preds.now) y (edge_of k x) → arg definitions.now x k ≡ Some y → Holds (lists buckets.new) k x) }
+    ensures complete { OnOk result ((k x y : ℕ) → k < length buckets.old → Contains row.now y → slice_index block.now y ≡ s → Holds (lists preds.now) y (edge_of k x) → Holds (lists buckets.new) k x) }
     ensures sound { OnOk result ((k x : ℕ) → Holds (lists buckets.new) k x → Holds (lists buckets.old) k x ⊎ LeadsTo definitions.now block.now s x k) }
 {
     for i in 0..row.len() {
@@ -94,9 +89,10 @@ fn gather_member(
     buckets: &mut [Vec<usize>],
     places: &mut Vec<usize>,
 ) -> Result<(), AllocError>
+    requires { IsForward definitions.now (lists preds.now) }
     ensures len { length buckets.new ≡ length buckets.old }
     ensures kept { OnOk result ((k x : ℕ) → Holds (lists buckets.old) k x → Holds (lists buckets.new) k x) }
-    ensures complete { OnOk result ((k x : ℕ) → k < length buckets.old → slice_index block.now y ≡ s → Holds (lists preds.now) y (edge_of k x) → arg definitions.now x k ≡ Some y → Holds (lists buckets.new) k x) }
+    ensures complete { OnOk result ((k x : ℕ) → k < length buckets.old → slice_index block.now y ≡ s → Holds (lists preds.now) y (edge_of k x) → Holds (lists buckets.new) k x) }
     ensures sound { OnOk result ((k x : ℕ) → Holds (lists buckets.new) k x → Holds (lists buckets.old) k x ⊎ LeadsTo definitions.now block.now s x k) }
 {
     if y < preds.len() && at(block, y) == s {

@@ -23,6 +23,8 @@ mod preds;
 mod ranking;
 mod refine;
 mod rows;
+#[cfg(test)]
+mod samples;
 mod stable;
 mod table;
 #[cfg(test)]

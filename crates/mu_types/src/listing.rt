@@ -1,22 +1,36 @@
 // The leaves of each type, listed.
-ghost use Rattle.std.specs.Prelude.{◌≡◌, ℕ, ◌+◌, ◌<◌, ◌≤◌, ◌++◌, [], ◌∷◌, suc, length, map, slice_get, slice_index, slice_index_or, slice_set, vec_len, ◌^◌, IfOk, OnOk};
+ghost use Rattle.std.specs.Prelude.{◌≡◌, ℕ, ◌+◌, ◌<◌, ◌≤◌, true, false, ◌++◌, [], ◌∷◌, suc, length, map, slice_get, slice_index, slice_index_or, slice_set, vec_len, ◌^◌, IfOk, OnOk};
 ghost use Rattle.std.specs.List.{flat_map};
 ghost use Rattle.type_laws.specs.Leaves.{leaves, leaves_by, times};
 ghost use Rattle.type_laws.specs.Same.{IsGraph};
 ghost use Rattle.type_laws.specs.Partition.{IsLeast};
 ghost use Rattle.type_laws.specs.Class.{class_of};
 ghost use Rattle.type_laws.specs.Ranks.{AreRanked};
-ghost use Rattle.mu_types.specs.Ordered.{IsOrder, Found};
+ghost use Rattle.mu_types.specs.Ordered.{IsOrder};
 ghost use Rattle.mu_types.specs.Rows.{lists};
-ghost use Rattle.mu_types.specs.Listings.{row_by, Lists, IsIdentity};
+ghost use Rattle.mu_types.specs.Listings.{row_by, Lists, IsIdentity, RowsDone, DoneTo};
+ghost use Rattle.mu_types.specs.Held.{RowsHold};
+ghost use Rattle.mu_types.specs.Walks.{is_marked};
 
-use super::blocks::identity;
 use super::ranking::{is_ordered, order_of};
 use super::rows::at;
 use std::alloc::{AllocError, Global};
 use type_laws::TypeDef;
 
-#[tactic(auto, using(crate::specs::Rows::row_at, crate::specs::Listings::no_row))]
+// most rows are of one leaf
+#[tactic(auto, using(crate::proofs::Listings::alone))]
+fn append_list(row: &[u32], out: &mut Vec<u32>) -> Result<(), AllocError>
+    ensures { OnOk result (out.new.items ≡ out.old.items ++ row.now) }
+{
+    if row.len() == 1 {
+        out.push(row[0])?;
+        return Ok(());
+    }
+    out.extend_from_slice(row)?;
+    Ok(())
+}
+
+#[tactic(auto, using(crate::proofs::RowLemmas::row_at, crate::proofs::Listings::no_row))]
 fn append_row(
     rows: &[Vec<u32>],
     number: &[usize],
@@ -27,7 +41,7 @@ fn append_row(
 {
     let n = at(number, p as usize);
     if n < rows.len() {
-        out.extend_from_slice(rows[n].as_slice())?;
+        append_list(rows[n].as_slice(), out)?;
     }
     Ok(())
 }
@@ -134,7 +148,7 @@ fn listings_plainly(
     Ok(rows)
 }
 
-#[tactic(auto, using(crate::specs::Rows::lists_emptied))]
+#[tactic(auto, using(crate::proofs::RowLemmas::lists_emptied))]
 fn put_row(rows: &mut [Vec<u32>], t: usize, row: Vec<u32>)
     requires { t < length rows.old }
     ensures len { length rows.new ≡ length rows.old }
@@ -143,31 +157,69 @@ fn put_row(rows: &mut [Vec<u32>], t: usize, row: Vec<u32>)
     rows[t] = row;
 }
 
+// lists the leaves of a type for its class, where that has none yet
+#[tactic(auto, using(crate::proofs::Ordered::class_below))]
+fn list_type(
+    alloc: Global,
+    all: &[TypeDef],
+    class: &[usize],
+    rank: &[usize],
+    t: usize,
+    rows: &mut [Vec<u32>],
+    done: &mut [bool],
+) -> Result<(), AllocError>
+    requires graph { IsGraph all.now }
+    requires class { IsLeast all.now class.now }
+    requires few { length all.now < 2 ^ 32 }
+    requires ranked { AreRanked all.now rank.now }
+    requires t { t < length all.now }
+    requires rows { length rows.old ≡ length all.now }
+    requires marks { length done.old ≡ length all.now }
+    requires held { RowsDone all.now (lists rows.old) done.old }
+    requires found { DoneTo all.now class.now rank.now done.old (slice_index rank.now t) }
+    ensures rows { length rows.new ≡ length all.now }
+    ensures marks { length done.new ≡ length all.now }
+    ensures held { OnOk result (RowsDone all.now (lists rows.new) done.new) }
+    ensures kept { OnOk result ((c : ℕ) → is_marked done.old c ≡ true → is_marked done.new c ≡ true) }
+    ensures listed { OnOk result (is_marked done.new (slice_index class.now t) ≡ true) }
+{
+    let c = at(class, t);
+    if done[c] {
+        return Ok(());
+    }
+    let row = listed(alloc, &all[t], c as u32, rows, class)?;
+    put_row(rows, c, row);
+    done[c] = true;
+    Ok(())
+}
+
 fn list_at(
     alloc: Global,
     all: &[TypeDef],
     class: &[usize],
     rank: &[usize],
     order: &[usize],
-    number: &[usize],
     i: usize,
     rows: &mut [Vec<u32>],
+    done: &mut [bool],
 ) -> Result<(), AllocError>
     requires graph { IsGraph all.now }
     requires class { IsLeast all.now class.now }
     requires few { length all.now < 2 ^ 32 }
     requires ranked { AreRanked all.now rank.now }
     requires order { IsOrder (length all.now) rank.now order.now }
-    requires number { IsIdentity number.now (length all.now) }
-    requires len { length rows.old ≡ length all.now }
-    requires found { Found [] (length all.now) rank.now (λ x. map (class_of all.now) (leaves all.now x)) (lists rows.old) i }
-    ensures len { length rows.new ≡ length all.now }
-    ensures found { OnOk result (Found [] (length all.now) rank.now (λ x. map (class_of all.now) (leaves all.now x)) (lists rows.new) (i + 1)) }
+    requires rows { length rows.old ≡ length all.now }
+    requires marks { length done.old ≡ length all.now }
+    requires held { RowsDone all.now (lists rows.old) done.old }
+    requires found { DoneTo all.now class.now rank.now done.old i }
+    ensures rows { length rows.new ≡ length all.now }
+    ensures marks { length done.new ≡ length all.now }
+    ensures held { OnOk result (RowsDone all.now (lists rows.new) done.new) }
+    ensures found { OnOk result (DoneTo all.now class.now rank.now done.new (i + 1)) }
 {
     let t = at(order, i);
     if t < all.len() && at(rank, t) == i {
-        let row = listed(alloc, &all[t], at(class, t) as u32, rows, number)?;
-        put_row(rows, t, row);
+        list_type(alloc, all, class, rank, t, rows, done)?;
     }
     Ok(())
 }
@@ -178,26 +230,29 @@ fn list_all(
     class: &[usize],
     rank: &[usize],
     order: &[usize],
-    number: &[usize],
     rows: &mut [Vec<u32>],
+    done: &mut [bool],
 ) -> Result<(), AllocError>
     requires graph { IsGraph all.now }
     requires class { IsLeast all.now class.now }
     requires few { length all.now < 2 ^ 32 }
     requires ranked { AreRanked all.now rank.now }
     requires order { IsOrder (length all.now) rank.now order.now }
-    requires number { IsIdentity number.now (length all.now) }
-    requires len { length rows.old ≡ length all.now }
-    ensures len { length rows.new ≡ length all.now }
-    ensures lists { OnOk result (Lists all.now (length all.now) (lists rows.new)) }
+    requires rows { length rows.old ≡ length all.now }
+    requires marks { length done.old ≡ length all.now }
+    requires none { (x : ℕ) → is_marked done.old x ≡ false }
+    ensures rows { length rows.new ≡ length all.now }
+    ensures held { OnOk result (RowsHold all.now class.now (lists rows.new)) }
 {
     for i in 0..all.len() {
-        list_at(alloc, all, class, rank, order, number, i, rows)?;
+        list_at(alloc, all, class, rank, order, i, rows, done)?;
     }
     Ok(())
 }
 
-/// The leaves of each type. Where the ranks order all types each is listed once; else they are found by depth.
+/// The leaves of each class. Where the ranks order all types each class is listed once, for the first of its types in that order;
+/// else the leaves of all types are found by depth.
+#[tactic(auto, using(crate::proofs::Held::by_class))]
 pub fn listings_of(
     alloc: Global,
     all: &[TypeDef],
@@ -208,17 +263,19 @@ pub fn listings_of(
     requires class { IsLeast all.now class.now }
     requires few { length all.now < 2 ^ 32 }
     ensures len { IfOk result (λ v. vec_len v ≡ length all.now) }
-    ensures lists { IfOk result (λ v. Lists all.now (length all.now) (lists v.items)) }
+    ensures held { IfOk result (λ v. RowsHold all.now class.now (lists v.items)) }
 {
     let order = order_of(alloc, rank)?;
     if !is_ordered(all, rank, &order) {
-        return listings_plainly(alloc, all, class);
+        let rows = listings_plainly(alloc, all, class)?;
+        return Ok(rows);
     }
-    let number = identity(alloc, all.len())?;
     let mut rows: Vec<Vec<u32>> = Vec::new(alloc);
+    let mut done: Vec<bool> = Vec::new(alloc);
     for i in 0..all.len() {
         rows.push(Vec::new(alloc))?;
+        done.push(false)?;
     }
-    list_all(alloc, all, class, rank, &order, &number, &mut rows)?;
+    list_all(alloc, all, class, rank, &order, &mut rows, &mut done)?;
     Ok(rows)
 }

@@ -11,7 +11,7 @@ use super::stable::is_stable;
 use std::alloc::{AllocError, Global};
 use type_laws::TypeDef;
 
-#[tactic(auto, using(crate::specs::Names::first_met, crate::specs::Names::first_kept, crate::specs::Names::first_least))]
+#[tactic(auto, using(crate::proofs::Names::first_met, crate::proofs::Names::first_kept, crate::proofs::Names::first_least))]
 fn meet(first: &mut Vec<usize>, block: &[usize], x: usize) -> usize
     requires x { x < length block.now }
     requires firsts { FirstsSoFar block.now first.old.items x }
@@ -44,7 +44,7 @@ fn name_by_least(alloc: Global, block: &[usize], blocks: usize) -> Result<Vec<us
 }
 
 /// The classes by a partition that keeps the same types together, however it was found.
-#[tactic(auto, using(type_laws::specs::Partition::least_from))]
+#[tactic(auto, using(type_laws::proofs::Partition::least_from))]
 pub fn classes_by(
     alloc: Global,
     definitions: &[TypeDef],

@@ -21,7 +21,7 @@ fn first_like(definitions: &[TypeDef], p: &[usize], x: usize) -> usize
     x
 }
 
-#[tactic(auto, using(crate::specs::Rounds::round_is))]
+#[tactic(auto, using(crate::proofs::Rounds::round_is))]
 fn round(alloc: Global, definitions: &[TypeDef], p: &[usize]) -> Result<Vec<usize>, AllocError>
     requires { IsGraph definitions.now }
     ensures len { IfOk result (λ v. vec_len v ≡ length definitions.now) }

@@ -1,13 +1,13 @@
 // The refinement by a worklist. What it does with sizes and the order of work needs no proof.
 
-ghost use Rattle.std.specs.Prelude.{◌≡◌, ℕ, ◌<◌, Some, [], length, slice_index, slice_index_or, vec_len, OnOk, IfOk};
+ghost use Rattle.std.specs.Prelude.{◌≡◌, ℕ, ◌<◌, ◌^◌, Some, [], length, slice_index, slice_index_or, vec_len, OnOk, IfOk};
 ghost use Rattle.mu_types.specs.Listings.{IsIdentity};
 ghost use Rattle.type_laws.specs.Same.{IsGraph};
 ghost use Rattle.type_laws.specs.Partition.{Keeps, arg};
 ghost use Rattle.mu_types.specs.Targets.{TargetsFit};
 ghost use Rattle.mu_types.specs.Rows.{lists, Holds};
 ghost use Rattle.mu_types.specs.Blocks.{Listed};
-ghost use Rattle.mu_types.specs.Leads.{IsClosed, AreClosed, IsBackward};
+ghost use Rattle.mu_types.specs.Leads.{IsClosed, AreClosed, IsBackward, IsForward};
 
 use super::arguments::arity;
 use super::blocks::{empty_rows, first_blocks, identity, list_members, widest};
@@ -15,9 +15,12 @@ use super::edges::Edge;
 use super::gather::gather;
 use super::moves::move_all;
 use super::preds::predecessors;
-use super::rows::{at, put, take_row};
+use super::rows::{at, clear_row, put};
 use std::alloc::{AllocError, Global};
 use type_laws::TypeDef;
+
+// past that many types or places the first blocks are as good as any: the edges are kept in 32 bits
+const MOST: usize = u32::MAX as usize;
 
 #[derive(Drop)]
 pub struct Plan {
@@ -27,9 +30,10 @@ pub struct Plan {
     pub waiting: Vec<usize>,
     pub work: Vec<usize>,
     pub parents: Vec<usize>,
+    pub goals: Vec<usize>,
 }
 
-#[tactic(auto, using(crate::specs::Targets::target_set))]
+#[tactic(auto, using(crate::proofs::Targets::target_set))]
 fn aim(target: &mut [usize], b: usize, id: usize, n: usize)
     requires { TargetsFit target.old n }
     ensures { TargetsFit target.new n }
@@ -93,9 +97,9 @@ fn settle(target: &mut [usize], plan: &mut Plan, n: usize) -> Result<(), AllocEr
     Ok(())
 }
 
-#[tactic(auto, using(crate::specs::Leads::moved_keeps))]
+// where no block is parted, nothing moves
+#[tactic(auto, using(crate::proofs::Leads::moved_keeps))]
 fn part(
-    alloc: Global,
     definitions: &[TypeDef],
     block: &mut [usize],
     members: &mut [Vec<usize>],
@@ -114,13 +118,15 @@ fn part(
 {
     let n = members.len();
     choose(block, touched, target, plan, n)?;
-    move_all(alloc, block, members, touched, target)?;
+    if plan.parents.is_empty() {
+        return Ok(());
+    }
+    move_all(block, members, touched, target, &mut plan.goals)?;
     settle(target, plan, n)?;
     Ok(())
 }
 
 fn part_row(
-    alloc: Global,
     definitions: &[TypeDef],
     block: &mut [usize],
     members: &mut [Vec<usize>],
@@ -141,13 +147,12 @@ fn part_row(
     ensures listed { OnOk result (Listed block.new (lists members.new)) }
     ensures target { OnOk result (TargetsFit target.new (length members.new)) }
 {
-    let row = take_row(alloc, buckets, p);
-    part(alloc, definitions, block, members, &row, target, plan)?;
+    part(definitions, block, members, &buckets[p], target, plan)?;
+    clear_row(buckets, p);
     Ok(())
 }
 
 fn drain(
-    alloc: Global,
     definitions: &[TypeDef],
     block: &mut [usize],
     members: &mut [Vec<usize>],
@@ -169,14 +174,13 @@ fn drain(
 {
     while let Some(p) = places.pop() {
         if p < buckets.len() {
-            part_row(alloc, definitions, block, members, buckets, p, target, plan)?;
+            part_row(definitions, block, members, buckets, p, target, plan)?;
         }
     }
     Ok(())
 }
 
 fn turn(
-    alloc: Global,
     definitions: &[TypeDef],
     preds: &[Vec<Edge>],
     block: &mut [usize],
@@ -189,6 +193,7 @@ fn turn(
 ) -> Result<(), AllocError>
     requires graph { IsGraph definitions.now }
     requires back { IsBackward definitions.now (lists preds.now) }
+    requires forward { IsForward definitions.now (lists preds.now) }
     requires wide { (x k y : ℕ) → arg definitions.now x k ≡ Some y → k < length buckets.old }
     requires len { length block.old ≡ length definitions.now }
     requires within { (k x : ℕ) → Holds (lists buckets.old) k x → x < length block.old }
@@ -204,16 +209,7 @@ fn turn(
 {
     if s < members.len() {
         gather(definitions, preds, block, &members[s], s, buckets, places)?;
-        drain(
-            alloc,
-            definitions,
-            block,
-            members,
-            buckets,
-            places,
-            target,
-            plan,
-        )?;
+        drain(definitions, block, members, buckets, places, target, plan)?;
     }
     Ok(())
 }
@@ -231,6 +227,7 @@ fn work_off(
 ) -> Result<(), AllocError>
     requires graph { IsGraph definitions.now }
     requires back { IsBackward definitions.now (lists preds.now) }
+    requires forward { IsForward definitions.now (lists preds.now) }
     requires wide { (x k y : ℕ) → arg definitions.now x k ≡ Some y → k < length buckets.old }
     requires len { length block.old ≡ length definitions.now }
     requires within { (k x : ℕ) → Holds (lists buckets.old) k x → x < length block.old }
@@ -247,7 +244,6 @@ fn work_off(
         };
         put(&mut plan.waiting, s, 0);
         turn(
-            alloc,
             definitions,
             preds,
             block,
@@ -286,6 +282,7 @@ fn plan_for(alloc: Global, block: &[usize]) -> Result<Plan, AllocError> {
         }
     }
     let parents = Vec::new(alloc);
+    let goals = Vec::new(alloc);
     Ok(Plan {
         next,
         sizes,
@@ -293,6 +290,7 @@ fn plan_for(alloc: Global, block: &[usize]) -> Result<Plan, AllocError> {
         waiting,
         work,
         parents,
+        goals,
     })
 }
 
@@ -311,11 +309,12 @@ pub fn refine(alloc: Global, definitions: &[TypeDef]) -> Result<Vec<usize>, Allo
     ensures keeps { IfOk result (λ v. Keeps definitions.now v.items) }
 {
     let mut block = first_blocks(alloc, definitions)?;
-    if definitions.is_empty() {
+    let width = widest(definitions);
+    if definitions.is_empty() || definitions.len() > MOST || width > MOST {
         return Ok(block);
     }
     let members = list_members(alloc, &block)?;
-    let buckets = empty_rows(alloc, widest(definitions))?;
+    let buckets = empty_rows(alloc, width)?;
     let target = identity(alloc, definitions.len())?;
     let plan = plan_for(alloc, &block)?;
     part_blocks(
@@ -347,6 +346,8 @@ fn part_blocks(
     requires listed { Listed block.old (lists members.items) }
     requires wide { (x k y : ℕ) → arg definitions.now x k ≡ Some y → k < vec_len buckets }
     requires empty { (x : ℕ) → slice_index_or (lists buckets.items) x [] ≡ [] }
+    requires few { length definitions.now < 2 ^ 32 }
+    requires narrow { vec_len buckets < 2 ^ 32 }
     requires targets { vec_len target ≡ length definitions.now }
     requires own { IsIdentity target.items (length definitions.now) }
     ensures { OnOk result (Keeps definitions.now block.new) }

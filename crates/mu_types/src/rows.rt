@@ -3,8 +3,7 @@
 ghost use Rattle.std.specs.Prelude.{◌≡◌, ℕ, ◌<◌, length, slice_index, slice_set, slice_index_or, [], OnOk};
 ghost use Rattle.mu_types.specs.Rows.{lists, added};
 
-use std::alloc::{AllocError, Global};
-use std::mem;
+use std::alloc::AllocError;
 
 /// The number at a place, 0 past the end.
 pub fn at(list: &[usize], i: usize) -> usize
@@ -23,7 +22,7 @@ pub fn put(list: &mut [usize], i: usize, value: usize)
 }
 
 /// Adds to a row.
-#[tactic(auto, using(crate::specs::Rows::lists_pushed))]
+#[tactic(auto, using(crate::proofs::RowLemmas::lists_pushed))]
 pub fn push_to<T: Copy>(rows: &mut [Vec<T>], i: usize, x: T) -> Result<(), AllocError>
     requires { i < length rows.old }
     ensures len { length rows.new ≡ length rows.old }
@@ -33,13 +32,12 @@ pub fn push_to<T: Copy>(rows: &mut [Vec<T>], i: usize, x: T) -> Result<(), Alloc
     Ok(())
 }
 
-/// Takes a row out, and leaves none there.
-#[tactic(auto, using(crate::specs::Rows::lists_emptied, crate::specs::Rows::row_is))]
-pub fn take_row(alloc: Global, rows: &mut [Vec<usize>], i: usize) -> Vec<usize>
+/// Empties a row, and keeps its room.
+#[tactic(auto, using(crate::proofs::RowLemmas::lists_emptied))]
+pub fn clear_row(rows: &mut [Vec<usize>], i: usize)
     requires { i < length rows.old }
     ensures len { length rows.new ≡ length rows.old }
-    ensures row { result.items ≡ slice_index_or (lists rows.old) i [] }
     ensures rest { lists rows.new ≡ slice_set (lists rows.old) i [] }
 {
-    mem::replace(&mut rows[i], Vec::new(alloc))
+    rows[i].clear();
 }

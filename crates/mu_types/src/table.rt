@@ -13,7 +13,7 @@ use type_laws::TypeDef;
 
 /// The types and signatures of a graph, the implied ones among them, and which of them are the same.
 /// Contracts see the definitions by id and how many of them, which come first, are written. It holds a number for each definition
-/// and the leaves of each, at most 4,096 a type.
+/// and the leaves of each class once, at most 4,096 a class.
 #[derive(Drop)]
 pub struct Classes {
     written: usize,
@@ -52,7 +52,7 @@ impl Classes {
     }
 
     /// Whether the two are the same type or signature. Two numbers are compared; it takes no memory.
-    #[tactic(auto, using(crate::specs::Held::same_told))]
+    #[tactic(auto, using(crate::proofs::Held::same_told))]
     pub fn same(&self, a: u32, b: u32) -> bool
         requires a { a < length self.now.definitions }
         requires b { b < length self.now.definitions }
@@ -62,7 +62,7 @@ impl Classes {
     }
 
     /// The least id that is the same type or signature. It is looked up; this takes no memory.
-    #[tactic(auto, using(type_laws::specs::Classes::class_is))]
+    #[tactic(auto, using(type_laws::proofs::Classes::class_is))]
     pub fn class(&self, t: u32) -> u32
         requires { t < length self.now.definitions }
         ensures { result ≡ class_of self.now.definitions t }

@@ -1,4 +1,5 @@
 // Graphs whose answers are known, run as they are built.
+use super::samples::{Dice, Verdict, complete, drawn, flag_at, graph_of, pair, plain_verdict};
 use super::{Classes, Implied, TypeDef, TypeFault, TypeGraph, TypeKind, classes};
 use mu_base::Ids;
 use std::alloc::{AllocError, Global};
@@ -182,23 +183,257 @@ fn deep(alloc: Global, many: u32) -> Result<TypeGraph, AllocError> {
     Ok(graph)
 }
 
+// structs of 256 references to such structs, one of which differs: in the end all differ
+fn wide_apart(alloc: Global, many: u32) -> Result<TypeGraph, AllocError> {
+    let mut graph = TypeGraph::new(alloc);
+    let structs = many % 1_000_000 / 2;
+    for x in 0..structs {
+        let mut fields: Vec<u32> = Vec::new(alloc);
+        for i in 0..256u32 {
+            let to = (x as u64 * 7919 + i as u64 * i as u64 * 31) % (structs as u64 + 1);
+            let odd = x == 0 && i == 0;
+            fields.push(if odd { structs * 2 } else { to as u32 * 2 + 1 })?;
+        }
+        push(
+            &mut graph,
+            TypeDef::Struct {
+                fields: Ids::from_vec(fields),
+            },
+            alloc,
+        )?;
+        push(&mut graph, TypeDef::Ref(x * 2), alloc)?;
+    }
+    push(&mut graph, TypeDef::Int { width: 8 }, alloc)?;
+    push(&mut graph, TypeDef::Ref(structs * 2), alloc)?;
+    Ok(graph)
+}
+
+// structs in a ring, each of which contains the next: one long cycle of parts
+fn ring(alloc: Global, many: u32) -> Result<TypeGraph, AllocError> {
+    let mut graph = TypeGraph::new(alloc);
+    for x in 0..many {
+        let next = if x < many - 1 { x + 1 } else { 0 };
+        push(
+            &mut graph,
+            TypeDef::Struct {
+                fields: ids(alloc, &[next])?,
+            },
+            alloc,
+        )?;
+    }
+    Ok(graph)
+}
+
+// arrays of 4,096 of that element, or each of the one before
+fn arrays(alloc: Global, many: u32, nested: bool) -> Result<TypeGraph, AllocError> {
+    let mut graph = TypeGraph::new(alloc);
+    push(&mut graph, TypeDef::Int { width: 8 }, alloc)?;
+    for x in 1..many {
+        push(
+            &mut graph,
+            TypeDef::Array {
+                element: if nested { x - 1 } else { 0 },
+                length: 4096,
+            },
+            alloc,
+        )?;
+    }
+    Ok(graph)
+}
+
+// arrays of 4,096 elements that all differ
+fn arrays_apart(alloc: Global, many: u32) -> Result<TypeGraph, AllocError> {
+    let mut graph = TypeGraph::new(alloc);
+    let half = many / 2;
+    push(&mut graph, TypeDef::Int { width: 8 }, alloc)?;
+    for x in 1..half {
+        push(&mut graph, TypeDef::Ref(x - 1), alloc)?;
+    }
+    for x in 0..half {
+        push(
+            &mut graph,
+            TypeDef::Array {
+                element: x,
+                length: 4096,
+            },
+            alloc,
+        )?;
+    }
+    Ok(graph)
+}
+
+fn great(alloc: Global, kind: u32, many: u32) -> Result<TypeGraph, AllocError> {
+    match kind {
+        0 => chain(alloc, many),
+        1 => two_chains(alloc, many),
+        2 => lists(alloc, many),
+        3 => wide(alloc, many),
+        4 => wide_apart(alloc, many),
+        5 => deep(alloc, many),
+        6 => arrays(alloc, many, false),
+        7 => arrays_apart(alloc, many),
+        8 => ring(alloc, many),
+        _ => arrays(alloc, many, true),
+    }
+}
+
 #[test]
 fn measures_great_graphs(rt: HostRuntime) -> Result<(), Fail> {
     let alloc = rt.alloc();
-    let many = 16384;
-    for kind in 0..5u32 {
-        let graph = match kind {
-            0 => chain(alloc, many)?,
-            1 => two_chains(alloc, many)?,
-            2 => lists(alloc, many)?,
-            3 => wide(alloc, many)?,
-            _ => deep(alloc, many)?,
-        };
+    for kind in 0..10u32 {
+        let graph = great(alloc, kind, 16384)?;
         let start = Instant::now(&rt)?;
         let known = judged(alloc, graph);
         let end = start.elapsed(&rt)?.as_millis();
         println!(rt; "graph {kind}: {end} ms")?;
-        assert!(rt; matches!(known, Some(Ok(_))));
+        let is_met = match known {
+            Some(Ok(_)) => kind < 8,
+            Some(Err(found)) => kind == 8 && found.kind == TypeKind::EndlessType
+                || kind == 9 && found.kind == TypeKind::TooManyLeaves,
+            None => false,
+        };
+        assert!(rt; is_met);
     }
+    Ok(())
+}
+
+// whether the leaves of a type are the classes of those
+fn has_leaves(known: &Classes, t: usize, leaves: &[u32]) -> bool {
+    if t >= known.count() || t > 65535 {
+        return false;
+    }
+    let classes = known.leaves(t as u32);
+    if classes.len() != leaves.len() {
+        return false;
+    }
+    for i in 0..leaves.len() {
+        if i >= classes.len() || leaves[i] as usize >= known.count() {
+            return false;
+        }
+        if classes[i] != known.class(leaves[i]) {
+            return false;
+        }
+    }
+    true
+}
+
+// whether two are told to be the same, and the first to be the class of the second, exactly where they are alike and none before it is
+fn has_classes(known: &Classes, alike: &[bool]) -> bool {
+    let many = known.count();
+    if many > 65535 {
+        return false;
+    }
+    for b in 0..many {
+        let mut met = false;
+        for a in 0..many {
+            let same = flag_at(alike, pair(many, a, b));
+            if known.same(a as u32, b as u32) != same {
+                return false;
+            }
+            if (known.class(b as u32) as usize == a) != (same && !met) {
+                return false;
+            }
+            met = met || same;
+        }
+    }
+    true
+}
+
+fn is_as_said(known: &Classes, alike: &[bool], leaves: &[Vec<u32>]) -> bool {
+    if known.count() != leaves.len() || !has_classes(known, alike) {
+        return false;
+    }
+    for t in 0..leaves.len() {
+        if !has_leaves(known, t, &leaves[t]) {
+            return false;
+        }
+    }
+    true
+}
+
+// whether two written definitions are the same
+fn has_twins(alike: &[bool], many: usize, written: usize) -> bool {
+    for b in 0..written {
+        for a in 0..b {
+            if flag_at(alike, pair(many, a, b)) {
+                return true;
+            }
+        }
+    }
+    false
+}
+
+// how many graphs were accepted, and refused for each cause; how many have two written definitions that are the same; how many
+// answers were not as they are said to be
+#[derive(Drop)]
+struct Tally {
+    accepted: u32,
+    twins: u32,
+    endless: u32,
+    wrong: u32,
+    many: u32,
+    amiss: u32,
+}
+
+fn count_one(count: &mut u32) {
+    *count = count.wrapping_add(1);
+}
+
+fn compare(alloc: Global, dice: &mut Dice, tally: &mut Tally) -> Result<(), AllocError> {
+    let mut shapes = drawn(alloc, dice)?;
+    let written = shapes.len();
+    let graph = graph_of(alloc, &shapes)?;
+    complete(alloc, &mut shapes)?;
+    let known = judged(alloc, graph);
+    match plain_verdict(alloc, &shapes, written)? {
+        Verdict::Refused { kind, place } => {
+            match kind {
+                TypeKind::EndlessType => count_one(&mut tally.endless),
+                TypeKind::WrongArgument => count_one(&mut tally.wrong),
+                _ => count_one(&mut tally.many),
+            }
+            let is_met = match known {
+                Some(Err(found)) => found.kind == kind && found.place == place,
+                _ => false,
+            };
+            if !is_met {
+                count_one(&mut tally.amiss);
+            }
+        }
+        Verdict::Accepted { alike, leaves } => {
+            count_one(&mut tally.accepted);
+            if has_twins(&alike, shapes.len(), written) {
+                count_one(&mut tally.twins);
+            }
+            let is_met = match known {
+                Some(Ok(known)) => is_as_said(&known, &alike, &leaves),
+                _ => false,
+            };
+            if !is_met {
+                count_one(&mut tally.amiss);
+            }
+        }
+    }
+    Ok(())
+}
+
+#[test]
+fn agrees_with_a_plain_reading(rt: HostRuntime) -> Result<(), Fail> {
+    let alloc = rt.alloc();
+    let mut dice = Dice::new(2026);
+    let mut tally = Tally {
+        accepted: 0,
+        twins: 0,
+        endless: 0,
+        wrong: 0,
+        many: 0,
+        amiss: 0,
+    };
+    for _ in 0..600 {
+        compare(alloc, &mut dice, &mut tally)?;
+    }
+    assert_eq!(rt; tally.amiss, 0);
+    assert!(rt; tally.accepted >= 100 && tally.twins >= 50);
+    assert!(rt; tally.endless >= 20 && tally.wrong >= 20 && tally.many >= 5);
     Ok(())
 }

@@ -1,8 +1,8 @@
--- Worked examples: recursive types under two names, three types that lead to one another, types that contain themselves, an array of structs.
+-- Worked examples, to read beside the definitions: recursive types under two names, three types that lead to one another, types that contain themselves, an array of structs.
 use Rattle.std.specs.Prelude.{◌≡◌, ℕ, true, false, List, [], ◌∷◌, refl}
 use Rattle.mu_base.specs.Lists.{Roomy}
 use Rattle.type_laws.specs.declared.definition.TypeDef.{TypeDef}
-use Rattle.type_laws.specs.declared.definition.TypeDef.TheVariants.{Int, Struct, Array, Hybrid, Void, Ref, Sig}
+use Rattle.type_laws.specs.declared.definition.TypeDef.TheVariants.{Int, Struct, Array, Hybrid, Void, Ref}
 use Rattle.type_laws.specs.Same.{same, alike}
 use Rattle.type_laws.specs.Class.{class_of}
 use Rattle.type_laws.specs.Parts.{contains_itself, leads}
@@ -46,6 +46,22 @@ ring_is_one = refl
 pub ring_has_one_class : class_of ring 2 ≡ 0
 unfolding alike
 ring_has_one_class = refl
+
+-- three structs, each of a reference to the next: all unfold alike, and none contains itself
+abbrev trio : List TypeDef
+trio = Struct (ids (3 ∷ [])) ∷ Struct (ids (4 ∷ [])) ∷ Struct (ids (5 ∷ [])) ∷ Ref 1 ∷ Ref 2 ∷ Ref 0 ∷ []
+
+pub trio_is_one : same trio 0 2 ≡ true
+unfolding alike
+trio_is_one = refl
+
+pub trio_has_one_class : class_of trio 5 ≡ 3
+unfolding alike
+trio_has_one_class = refl
+
+pub trio_is_finite : contains_itself trio 1 ≡ false
+unfolding leads
+trio_is_finite = refl
 
 -- three that contain one another, and a struct over them, which does not contain itself
 abbrev knot : List TypeDef

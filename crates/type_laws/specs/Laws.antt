@@ -1,9 +1,10 @@
--- What holds of the same type and of classes in every graph whose arguments are ids of it.
+-- To believe: what holds of the same type, of classes, of leaves and of walks in every graph; all but the laws of walks ask that its arguments are ids of it.
 use Rattle.std.specs.Prelude.{◌≡◌, ◌↔◌, ℕ, true, ◌<◌, ◌≤◌, List, length, map, slice_get}
 use Rattle.type_laws.specs.declared.definition.TypeDef.{TypeDef}
 use Rattle.type_laws.specs.Same.{alike, same, agree_at}
 use Rattle.type_laws.specs.Class.{class_of}
 use Rattle.type_laws.specs.Leaves.{leaves}
+use Rattle.type_laws.specs.Parts.{leads, contains_itself}
 
 -- the same type is an equivalence
 pub record IsEquivalence (graph : List TypeDef) : Type 0 where
@@ -30,3 +31,11 @@ pub record ClassesDecide (graph : List TypeDef) : Type 0 where
 abbrev pub LeavesRespect : List TypeDef → Type 0
 LeavesRespect graph = (a b : ℕ) → a < length graph → b < length graph → same graph a b ≡ true →
     map (class_of graph) (leaves graph a) ≡ map (class_of graph) (leaves graph b)
+
+-- where a walk of any number of steps leads from a to b, one of at most as many steps as there are types and signatures does
+abbrev pub WalksAreCut : List TypeDef → Type 0
+WalksAreCut graph = (steps a b : ℕ) → leads graph steps b a ≡ true → leads graph (length graph) b a ≡ true
+
+-- a type from which a walk of any number of steps leads back to it contains itself
+abbrev pub ReturnsAreFound : List TypeDef → Type 0
+ReturnsAreFound graph = (steps t : ℕ) → leads graph steps t t ≡ true → contains_itself graph t ≡ true

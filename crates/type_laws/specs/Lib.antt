@@ -3,13 +3,8 @@ pub mod Same
 pub mod Class
 pub mod Parts
 pub mod Leaves
-pub mod Steady
-pub mod Depth
 pub mod Partition
 pub mod Ranks
-pub mod Classes
 pub mod Laws
-pub mod Proved
-pub mod Respect
 pub mod Counts
 pub mod Examples

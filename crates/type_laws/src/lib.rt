@@ -7,5 +7,5 @@ mod laws;
 pub use definition::TypeDef;
 pub use laws::{
     classes_decide, leaves_respect_the_same_type, same_type_is_a_congruence,
-    same_type_is_an_equivalence, same_type_is_steady,
+    same_type_is_an_equivalence, same_type_is_steady, walks_can_be_cut,
 };

@@ -1,6 +1,6 @@
 use Rattle.std.proofs.Common.{◌∙◌, sym, ap, arith, cond, length}
 use Rattle.std.specs.Prelude.{nat_lt}
-use Rattle.mu_types.specs.Keys.{keyed_keeps}
+use Rattle.mu_types.proofs.Keys.{keyed_keeps}
 use Rattle.mu_types.proofs.blocks.first_blocks.Goals as goal
 
 pub returns-clause-keeps : goal.returns-clause-keeps

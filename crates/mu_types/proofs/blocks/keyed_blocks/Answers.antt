@@ -4,8 +4,8 @@ use Rattle.std.specs.Ordering.{nat_cmp}
 use Rattle.std.proofs.lemmas.Option.{slice_get_within}
 use Rattle.type_laws.specs.declared.definition.TypeDef.{TypeDef}
 use Rattle.mu_types.specs.Keys.{key_of}
-use Rattle.mu_types.specs.Pushes.{pushed, one_some}
-use Rattle.mu_types.specs.Firsts.{there}
+use Rattle.mu_types.proofs.Pushes.{pushed, one_some}
+use Rattle.mu_types.proofs.Firsts.{there}
 use Rattle.mu_types.proofs.blocks.keyed_blocks.Goals as goal
 
 pub loop-x-preserved : goal.loop-x-preserved

@@ -1,7 +1,7 @@
 use Rattle.std.proofs.Common.{◌≡◌, ◌∙◌, sym, subst, List, ℕ, length, take, drop, ◌++◌, Vec, Global}
 use Rattle.mu_types.specs.Rows.{lists}
 use Rattle.mu_types.specs.Blocks.{Listed}
-use Rattle.mu_types.specs.Leads.{lent_back}
+use Rattle.mu_types.proofs.Leads.{lent_back}
 use Rattle.mu_types.proofs.blocks.list_members.Goals as goal
 
 pub returns-clause-listed : goal.returns-clause-listed

@@ -1,7 +1,8 @@
 use Rattle.std.proofs.Common.{arith, ◌≡◌, ◌<◌, length, sym, ◌∙◌, subst, inl, inr}
 use Rattle.std.specs.Prelude.{slice_index}
 use Rattle.std.proofs.lemmas.Bool.{cases_lt}
-use Rattle.mu_types.specs.Rows.{lists, Holds, length-lists, pushed_kept, pushed_there}
+use Rattle.mu_types.specs.Rows.{lists, Holds}
+use Rattle.mu_types.proofs.RowLemmas.{length-lists, pushed_kept, pushed_there}
 use Rattle.mu_types.proofs.blocks.put_members.Goals as goal
 
 pub loop-x-preserved : goal.loop-x-preserved

@@ -1,7 +1,8 @@
-use Rattle.std.proofs.Common.{◌≡◌, ◌<◌, ◌≤◌, sym, subst, arith, ℕ, length, min}
+use Rattle.std.proofs.Common.{◌≡◌, subst, arith, length, min}
 use Rattle.type_laws.specs.Leaves.{leaves}
 use Rattle.mu_types.specs.declared.counting.TheConstants.{CAP}
-use Rattle.mu_types.specs.Ordered.{Found, all_counted}
+use Rattle.mu_types.specs.Ordered.{Found}
+use Rattle.mu_types.proofs.Ordered.{all_counted}
 use Rattle.mu_types.proofs.counting.count_all.Goals as goal
 
 pub returns-clause-counts : goal.returns-clause-counts

@@ -1,10 +1,10 @@
-use Rattle.std.proofs.Common.{◌≡◌, ◌<◌, ◌+◌, ◌∙◌, sym, ap, subst, arith, ℕ, List, length, min}
-use Rattle.std.proofs.Math.ListN.{set}
+use Rattle.std.proofs.Common.{◌≡◌, ◌+◌, ◌∙◌, sym, subst, ℕ, List, length, min}
 use Rattle.std.specs.Prelude.{slice_index}
 use Rattle.type_laws.specs.Leaves.{leaves}
 use Rattle.mu_types.specs.declared.counting.TheConstants.{CAP}
-use Rattle.mu_types.specs.Firsts.{there}
-use Rattle.mu_types.specs.Ordered.{Found, found_more, count_found}
+use Rattle.mu_types.proofs.Firsts.{there}
+use Rattle.mu_types.specs.Ordered.{Found}
+use Rattle.mu_types.proofs.Ordered.{found_more, count_found}
 use Rattle.mu_types.proofs.counting.count_at.Goals as goal
 
 pub returns-then-at-i-clause-found : goal.returns-then-at-i-clause-found

@@ -1,6 +1,7 @@
 use Rattle.std.proofs.Common.{sym, arith, ℕ, add-one, subst, List}
 use Rattle.mu_types.specs.declared.counting.TheConstants.{CAP}
-use Rattle.mu_types.specs.Levels.{none_counted, Counts}
+use Rattle.mu_types.specs.Levels.{Counts}
+use Rattle.mu_types.proofs.Levels.{none_counted}
 use Rattle.mu_types.proofs.counting.counts_plainly.Goals as goal
 
 pub loop-depth-init : goal.loop-depth-init

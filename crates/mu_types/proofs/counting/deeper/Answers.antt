@@ -2,10 +2,10 @@ use Rattle.std.proofs.Common.{◌≡◌, ◌+◌, ◌∙◌, ap, subst, arith, S
 use Rattle.std.specs.Prelude.{slice_index}
 use Rattle.type_laws.specs.declared.definition.TypeDef.{TypeDef}
 use Rattle.type_laws.specs.Counts.{count_by}
-use Rattle.mu_types.specs.Pushes.{pushed, one_some}
-use Rattle.mu_types.specs.Firsts.{there}
+use Rattle.mu_types.proofs.Pushes.{pushed, one_some}
+use Rattle.mu_types.proofs.Firsts.{there}
 use Rattle.mu_types.specs.declared.counting.TheConstants.{CAP}
-use Rattle.mu_types.specs.Levels.{deeper_is}
+use Rattle.mu_types.proofs.Levels.{deeper_is}
 use Rattle.mu_types.proofs.counting.deeper.Goals as goal
 
 pub returns-clause-counts : goal.returns-clause-counts

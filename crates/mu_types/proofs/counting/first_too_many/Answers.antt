@@ -1,7 +1,7 @@
 use Rattle.std.proofs.Common.{◌∙◌, sym, arith}
 use Rattle.mu_types.specs.Tests.{too_many_leaves}
-use Rattle.mu_types.specs.Firsts.{each_some, each_none}
-use Rattle.mu_types.specs.Verdicts.{over_cap, many_some}
+use Rattle.mu_types.proofs.Firsts.{each_some, each_none}
+use Rattle.mu_types.proofs.Verdicts.{over_cap, many_some}
 use Rattle.mu_types.proofs.counting.first_too_many.Goals as goal
 
 pub returns-then-at-gt-MOST_LEAVES : goal.returns-then-at-gt-MOST_LEAVES

@@ -2,7 +2,8 @@ use Rattle.std.proofs.Common.{◌≡◌, ◌∙◌, sym, ap, subst, List, length
 use Rattle.type_laws.specs.declared.definition.TypeDef.{TypeDef}
 use Rattle.type_laws.specs.Same.{IsGraph}
 use Rattle.mu_types.specs.Implied.{complete}
-use Rattle.mu_types.specs.References.{IsHeaded, headed, complete_is_graph}
+use Rattle.mu_types.specs.References.{IsHeaded}
+use Rattle.mu_types.proofs.References.{headed, complete_is_graph}
 use Rattle.mu_types.proofs.deciding.classes.Goals as goal
 
 pub hold-requires-clause-graph : goal.hold-requires-clause-graph

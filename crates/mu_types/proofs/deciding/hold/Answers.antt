@@ -1,9 +1,9 @@
-use Rattle.std.proofs.Common.{subst, List, length, arith}
+use Rattle.std.proofs.Common.{subst, ℕ, List, arith}
 use Rattle.type_laws.specs.declared.definition.TypeDef.{TypeDef}
 use Rattle.type_laws.specs.Partition.{IsLeast}
-use Rattle.mu_types.specs.Rows.{lists, length-lists}
-use Rattle.mu_types.specs.Listings.{Lists}
-use Rattle.mu_types.specs.Held.{by_class}
+use Rattle.mu_types.specs.Rows.{lists}
+use Rattle.mu_types.proofs.RowLemmas.{length-lists}
+use Rattle.mu_types.specs.Held.{RowsHold}
 use Rattle.mu_types.proofs.deciding.hold.Goals as goal
 
 pub held-requires : goal.held-requires
@@ -12,14 +12,14 @@ held-requires c =
     let class = c.in_ok-class.class.items in
     let rows = c.in_ok-rows.rows.items in
     let l : IsLeast g class = subst (λ (xs : List TypeDef). IsLeast xs class) c.deref.ensures.value c.in_ok-class.ensures.classes in
-    let r : Lists g (length g) (lists rows) = subst (λ (xs : List TypeDef). Lists xs (length xs) (lists rows)) c.deref-3.ensures.value c.in_ok-rows.ensures.lists in
+    let r : RowsHold g class (lists rows) = subst (λ (xs : List TypeDef). RowsHold xs class (lists rows)) c.deref-2.ensures.value (subst (λ (xs : List ℕ). RowsHold c.deref-2.result.now xs (lists rows)) c.deref-3.ensures.value c.in_ok-rows.ensures.held) in
     record {
       few = c.requires.few;
       graph = c.requires.graph;
       classed = omega (arith, c.in_ok-class.ensures.len, c.deref.ensures.len);
-      listed = omega (arith, c.in_ok-rows.ensures.len, c.deref-3.ensures.len, length-lists rows);
+      listed = omega (arith, c.in_ok-rows.ensures.len, c.deref-2.ensures.len, length-lists rows);
       least = l;
-      held = by_class g c.requires.graph class l (lists rows) r;
+      held = r;
       referred = c.requires.referred;
       headed = c.requires.headed;
     }

@@ -1,6 +1,6 @@
 use Rattle.std.proofs.Common.{◌∙◌, sym}
 use Rattle.mu_types.specs.Tests.{each, wrong_arguments, endless_type, too_many_leaves}
-use Rattle.mu_types.specs.Firsts.{first_of_three, second_of_three, third_of_three}
+use Rattle.mu_types.proofs.Firsts.{first_of_three, second_of_three, third_of_three}
 use Rattle.mu_types.proofs.deciding.judge.Goals as goal
 
 pub returns-in-Some-clause-refused : goal.returns-in-Some-clause-refused

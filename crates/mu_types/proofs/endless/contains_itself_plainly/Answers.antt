@@ -1,5 +1,6 @@
 use Rattle.std.proofs.Common.{sym, arith, add-one, subst, List, Bool}
-use Rattle.mu_types.specs.Walks.{none_marked, Marks}
+use Rattle.mu_types.specs.Walks.{Marks}
+use Rattle.mu_types.proofs.Walks.{none_marked}
 use Rattle.mu_types.proofs.endless.contains_itself_plainly.Goals as goal
 
 pub loop-steps-init : goal.loop-steps-init

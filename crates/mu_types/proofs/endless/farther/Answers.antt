@@ -1,5 +1,5 @@
 use Rattle.std.proofs.Common.{arith}
-use Rattle.mu_types.specs.Walks.{farther_is}
+use Rattle.mu_types.proofs.Walks.{farther_is}
 use Rattle.mu_types.proofs.endless.farther.Goals as goal
 
 pub returns-clause-marks : goal.returns-clause-marks

@@ -1,9 +1,9 @@
-use Rattle.std.proofs.Common.{arith, ◌≡◌, ◌<◌, ℕ, length, sym, ◌∙◌, subst, Some, inl, inr, List, ◌≤◌}
+use Rattle.std.proofs.Common.{arith, ◌≡◌, ◌<◌, ℕ, length, sym, ◌∙◌, subst, inl, inr, List, ◌≤◌}
 use Rattle.std.specs.List.{Contains}
 use Rattle.std.specs.Prelude.{slice_index}
-use Rattle.type_laws.specs.Partition.{arg}
 use Rattle.mu_types.specs.Rows.{lists, Holds}
-use Rattle.mu_types.specs.Edges.{edge_of, contains_more}
+use Rattle.mu_types.specs.Edges.{edge_of}
+use Rattle.mu_types.proofs.EdgeLemmas.{contains_more}
 use Rattle.std.proofs.lemmas.List.{take_all}
 use Rattle.mu_types.proofs.gather.gather.Goals as goal
 
@@ -15,14 +15,14 @@ loop-i-preserved c =
     record {
       len = m.len ∙ v.len;
       kept = λ k x h. m.kept k x (v.kept k x h);
-      complete = λ k x y l h b p a. elim (contains_more c.args.row.now i 0 y c.loop-i-test.true h) [
-        | inl q ↦ m.kept k x (v.complete k x y l q b p a)
-        | inr e ↦ subst (λ z. k < length c.loop-i.buckets → slice_index c.args.block.now z ≡ c.args.s → Holds (lists c.args.preds.now) z (edge_of k x) → arg c.args.definitions.now x k ≡ Some z → Holds (lists c.gather_member.new.buckets) k x) e (m.complete k x) (subst (λ n. k < n) (sym v.len) l) b p a
+      complete = λ k x y l h b p. elim (contains_more c.args.row.now i 0 y c.loop-i-test.true h) [
+        | inl q ↦ m.kept k x (v.complete k x y l q b p)
+        | inr e ↦ subst (λ z. k < length c.loop-i.buckets → slice_index c.args.block.now z ≡ c.args.s → Holds (lists c.args.preds.now) z (edge_of k x) → Holds (lists c.gather_member.new.buckets) k x) e (m.complete k x) (subst (λ n. k < n) (sym v.len) l) b p
       ];
       sound = λ k x h. elim (m.sound k x h) [ inl p ↦ v.sound k x p | inr a ↦ inr a ];
     }
 
 pub returns-clause-complete : goal.returns-clause-complete
-returns-clause-complete c = λ k x y l h b p a.
+returns-clause-complete c = λ k x y l h b p.
     let past : length c.args.row.now ≤ c.loop-i.i = omega arith in
-    c.loop-i.invariant.complete k x y l (subst (λ (ys : List ℕ). Contains ys y) (sym (take_all c.loop-i.i c.args.row.now past)) h) b p a
+    c.loop-i.invariant.complete k x y l (subst (λ (ys : List ℕ). Contains ys y) (sym (take_all c.loop-i.i c.args.row.now past)) h) b p

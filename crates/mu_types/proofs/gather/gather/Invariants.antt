@@ -1,7 +1,6 @@
-use Rattle.std.proofs.Common.{◌≡◌, ℕ, ◌<◌, length, take, Some, ◌⊎◌}
+use Rattle.std.proofs.Common.{◌≡◌, ℕ, ◌<◌, length, take, ◌⊎◌}
 use Rattle.std.specs.List.{Contains}
 use Rattle.std.specs.Prelude.{slice_index}
-use Rattle.type_laws.specs.Partition.{arg}
 use Rattle.mu_types.specs.Rows.{lists, Holds}
 use Rattle.mu_types.specs.Edges.{edge_of}
 use Rattle.mu_types.specs.Leads.{LeadsTo}
@@ -11,6 +10,6 @@ abbrev pub invariant-loop-i : goal.invariant-loop-i
 invariant-loop-i l = record {
   len : length l.buckets ≡ length l.fn.buckets;
   kept : (k x : ℕ) → Holds (lists l.fn.buckets) k x → Holds (lists l.buckets) k x;
-  complete : (k x y : ℕ) → k < length l.fn.buckets → Contains (take l.i l.row) y → slice_index l.block y ≡ l.s → Holds (lists l.preds) y (edge_of k x) → arg l.definitions x k ≡ Some y → Holds (lists l.buckets) k x;
+  complete : (k x y : ℕ) → k < length l.fn.buckets → Contains (take l.i l.row) y → slice_index l.block y ≡ l.s → Holds (lists l.preds) y (edge_of k x) → Holds (lists l.buckets) k x;
   sound : (k x : ℕ) → Holds (lists l.buckets) k x → Holds (lists l.fn.buckets) k x ⊎ LeadsTo l.definitions l.block l.s x k;
 }

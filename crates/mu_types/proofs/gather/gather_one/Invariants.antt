@@ -9,6 +9,6 @@ abbrev pub invariant-loop-i : goal.invariant-loop-i
 invariant-loop-i l = record {
   len : length l.buckets ≡ length l.fn.buckets;
   kept : (k x : ℕ) → Holds (lists l.fn.buckets) k x → Holds (lists l.buckets) k x;
-  complete : (k x : ℕ) → k < length l.fn.buckets → Contains (take l.i l.edges) (edge_of k x) → arg l.definitions x k ≡ Some l.y → Holds (lists l.buckets) k x;
+  complete : (k x : ℕ) → k < length l.fn.buckets → Contains (take l.i l.edges) (edge_of k x) → Holds (lists l.buckets) k x;
   sound : (k x : ℕ) → Holds (lists l.buckets) k x → Holds (lists l.fn.buckets) k x ⊎ (arg l.definitions x k ≡ Some l.y);
 }

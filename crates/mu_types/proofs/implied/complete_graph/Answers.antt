@@ -1,5 +1,5 @@
 use Rattle.std.proofs.Common.{◌≡◌, ◌<◌, ◌+◌, ◌∙◌, ap, arith, length, ◌++◌, ◌∷◌, []}
-use Rattle.mu_types.specs.References.{complete_step, referred_step}
+use Rattle.mu_types.proofs.References.{complete_step, referred_step}
 use Rattle.mu_types.proofs.implied.complete_graph.Goals as goal
 
 pub loop-t-preserved : goal.loop-t-preserved

@@ -1,5 +1,6 @@
 use Rattle.std.proofs.Common.{◌≡◌, ◌+◌, ◌*◌, ◌≤◌, length, vec_len}
-use Rattle.mu_types.specs.References.{Referred, so_far}
+use Rattle.mu_types.specs.References.{Referred}
+use Rattle.mu_types.proofs.References.{so_far}
 use Rattle.mu_types.proofs.implied.complete_graph.Given as goal
 
 abbrev pub invariant-loop-t : goal.invariant-loop-t

@@ -1,5 +1,5 @@
 use Rattle.std.proofs.Common.{◌∙◌, sym, arith}
-use Rattle.mu_types.specs.Firsts.{there, argument_some, argument_none}
+use Rattle.mu_types.proofs.Firsts.{there, argument_some, argument_none}
 use Rattle.mu_types.proofs.judging.wrong_argument.Goals as goal
 
 pub returns-then-not-is_allowed : goal.returns-then-not-is_allowed

@@ -3,7 +3,7 @@ use Rattle.std.proofs.lemmas.List.{append_assoc}
 use Rattle.type_laws.specs.Leaves.{times}
 use Rattle.mu_types.specs.Rows.{lists}
 use Rattle.mu_types.specs.Listings.{row_by}
-use Rattle.mu_types.specs.Pushes.{times_more}
+use Rattle.mu_types.proofs.Pushes.{times_more}
 use Rattle.mu_types.proofs.listing.append_times.Goals as goal
 
 pub loop-i-preserved : goal.loop-i-preserved

@@ -1,11 +1,11 @@
 use Rattle.std.proofs.Common.{◌≡◌, ◌+◌, ◌∙◌, ap, arith, map, suc}
 use Rattle.type_laws.specs.Class.{class_of}
-use Rattle.type_laws.specs.Classes.{class_is}
+use Rattle.type_laws.proofs.Classes.{class_is}
 use Rattle.type_laws.specs.Leaves.{leaves_to}
 use Rattle.mu_types.specs.Rows.{lists}
-use Rattle.mu_types.specs.Firsts.{there}
-use Rattle.mu_types.specs.Listings.{row_deeper}
-use Rattle.mu_types.specs.Pushes.{pushed_row}
+use Rattle.mu_types.proofs.Firsts.{there}
+use Rattle.mu_types.proofs.Listings.{row_deeper}
+use Rattle.mu_types.proofs.Pushes.{pushed_row}
 use Rattle.mu_types.proofs.listing.deeper.Goals as goal
 
 pub loop-x-preserved : goal.loop-x-preserved

@@ -2,7 +2,8 @@ use Rattle.std.proofs.Common.{sym, arith, ℕ, List, add-one, subst}
 use Rattle.mu_types.specs.Rows.{lists}
 use Rattle.std.specs.Prelude.{Vec}
 use Rattle.std.specs.Global.{Global}
-use Rattle.mu_types.specs.Listings.{Lists, no_leaves}
+use Rattle.mu_types.specs.Listings.{Lists}
+use Rattle.mu_types.proofs.Listings.{no_leaves}
 use Rattle.mu_types.proofs.listing.listings_plainly.Goals as goal
 
 pub loop-depth-init : goal.loop-depth-init

@@ -1,5 +1,6 @@
 use Rattle.std.proofs.Common.{◌<◌, ℕ, sym, subst, refl, List}
-use Rattle.type_laws.specs.Partition.{IsStable, least_from}
+use Rattle.type_laws.specs.Partition.{IsStable}
+use Rattle.type_laws.proofs.Partition.{least_from}
 use Rattle.mu_types.proofs.naming.classes_by.Goals as goal
 
 pub returns-then-is_stable-clause-classes : goal.returns-then-is_stable-clause-classes

@@ -1,5 +1,6 @@
 use Rattle.std.proofs.Common.{◌≡◌, vec_len}
-use Rattle.mu_types.specs.Names.{FirstsSoFar, NamedSoFar}
+use Rattle.mu_types.specs.Names.{FirstsSoFar}
+use Rattle.mu_types.proofs.Names.{NamedSoFar}
 use Rattle.mu_types.proofs.naming.name_by_least.Given as goal
 
 abbrev pub invariant-loop-x : goal.invariant-loop-x

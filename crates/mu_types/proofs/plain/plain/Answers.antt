@@ -1,5 +1,6 @@
 use Rattle.std.proofs.Common.{arith, sym, subst, add-one, List, ℕ}
-use Rattle.mu_types.specs.Rounds.{IsLeastTo, least_to_none}
+use Rattle.mu_types.specs.Rounds.{IsLeastTo}
+use Rattle.mu_types.proofs.Rounds.{least_to_none}
 use Rattle.mu_types.proofs.plain.plain.Goals as goal
 
 pub loop-round_number-init : goal.loop-round_number-init

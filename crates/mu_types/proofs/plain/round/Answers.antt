@@ -1,5 +1,5 @@
 use Rattle.std.proofs.Common.{arith}
-use Rattle.mu_types.specs.Rounds.{round_is}
+use Rattle.mu_types.proofs.Rounds.{round_is}
 use Rattle.mu_types.proofs.plain.round.Goals as goal
 
 pub returns-clause-steps : goal.returns-clause-steps

@@ -1,8 +1,10 @@
-use Rattle.std.proofs.Common.{arith, ◌<◌, length, sym, ◌∙◌, ap, subst, inl, inr, get_or}
+use Rattle.std.proofs.Common.{arith, ◌≡◌, ◌<◌, Some, length, sym, ◌∙◌, ap, subst, inl, inr, get_or}
 use Rattle.type_laws.specs.Definition.{arguments}
-use Rattle.mu_types.specs.Rows.{lists, Holds, length-lists, pushed_kept, pushed_there}
+use Rattle.mu_types.specs.Rows.{lists, Holds}
+use Rattle.mu_types.proofs.RowLemmas.{length-lists, pushed_kept, pushed_there}
+use Rattle.type_laws.specs.Partition.{arg}
 use Rattle.mu_types.specs.Edges.{edge_of}
-use Rattle.mu_types.specs.Leads.{arg_in, arg_bound}
+use Rattle.mu_types.proofs.Leads.{arg_in, arg_bound, arg_there, pushed_forward}
 use Rattle.std.proofs.lemmas.Bool.{cases_eq}
 use Rattle.mu_types.proofs.preds.add_edges.Goals as goal
 
@@ -27,7 +29,15 @@ loop-k-preserved c =
             subst (λ w. Holds (lists c.push_to.new.rows) w (edge_of j x)) r.1 (subst (λ i. Holds (lists c.push_to.new.rows) (get_or xs i 0) (edge_of i x)) (sym q) (subst (λ w. Holds (lists c.push_to.new.rows) w (edge_of k x)) c.argument.ensures (pushed_there (lists c.loop-k.preds) (lists c.push_to.new.rows) to (edge_of k x) e l)))
         | inr n ↦ pushed_kept (lists c.loop-k.preds) (lists c.push_to.new.rows) to (edge_of k x) e l y (edge_of j x) (v.there j y (omega arith) a)
       ];
+      sound = λ f. pushed_forward definitions (lists c.loop-k.preds) (lists c.push_to.new.rows) to (edge_of k x) e l (subst (λ w. arg definitions x k ≡ Some w) (sym c.argument.ensures) (arg_there definitions x k d xs c.requires.x (ap arguments c.index-definitions-x.is) m)) (v.sound f);
     }
+
+pub overflow_cast-k : goal.overflow_cast-k
+overflow_cast-k c =
+    let d = c.index-definitions-x.result in
+    let m : c.loop-k.k < length (arguments d) = omega (arith, c.arity-k-end.ensures, c.loop-k-test.true) in
+    let h = c.requires.narrow c.args.x c.loop-k.k (get_or (arguments d) c.loop-k.k 0) (arg_there c.args.definitions.now c.args.x c.loop-k.k d (arguments d) c.requires.x (ap arguments c.index-definitions-x.is) m) in
+    omega (arith, h)
 
 pub returns-clause-there : goal.returns-clause-there
 returns-clause-there c = λ k y a.

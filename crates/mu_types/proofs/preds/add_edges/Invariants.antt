@@ -2,6 +2,7 @@ use Rattle.std.proofs.Common.{◌≡◌, ℕ, ◌<◌, length, Some}
 use Rattle.type_laws.specs.Partition.{arg}
 use Rattle.mu_types.specs.Rows.{lists, Holds}
 use Rattle.mu_types.specs.Edges.{edge_of}
+use Rattle.mu_types.specs.Leads.{IsForward}
 use Rattle.mu_types.specs.declared.edges.Edge.{Edge}
 use Rattle.mu_types.proofs.preds.add_edges.Given as goal
 
@@ -10,4 +11,5 @@ invariant-loop-k l = record {
   len : length l.preds ≡ length l.fn.preds;
   kept : (y : ℕ) (e : Edge) → Holds (lists l.fn.preds) y e → Holds (lists l.preds) y e;
   there : (k y : ℕ) → k < l.k → arg l.definitions l.x k ≡ Some y → Holds (lists l.preds) y (edge_of k l.x);
+  sound : IsForward l.definitions (lists l.fn.preds) → IsForward l.definitions (lists l.preds);
 }

@@ -1,9 +1,10 @@
-use Rattle.std.proofs.Common.{arith, ◌≡◌, ◌<◌, length, sym, ◌∙◌, subst, Some, inl, inr, List}
+use Rattle.std.proofs.Common.{arith, ℕ, ◌≡◌, ◌<◌, length, sym, ◌∙◌, subst, Some, inl, inr, List}
 use Rattle.type_laws.specs.Partition.{arg}
 use Rattle.mu_types.specs.Rows.{lists, Holds}
 use Rattle.mu_types.specs.Edges.{edge_of}
+use Rattle.mu_types.specs.Leads.{IsForward}
 use Rattle.std.proofs.lemmas.Bool.{cases_eq}
-use Rattle.mu_types.specs.Leads.{arg_from, lent_back}
+use Rattle.mu_types.proofs.Leads.{arg_from, lent_back, empty_forward}
 use Rattle.std.proofs.Common.{take, drop, ◌++◌, Vec, Global}
 use Rattle.mu_types.specs.declared.edges.Edge.{Edge}
 use Rattle.mu_types.proofs.preds.predecessors.Goals as goal
@@ -19,7 +20,18 @@ loop-x-preserved c =
         | inl q ↦ subst (λ w. Holds (lists c.add_edges.new.preds) y (edge_of k w)) (sym q) (m.there k y (subst (λ w. arg c.args.definitions.now w k ≡ Some y) q a))
         | inr n ↦ m.kept y (edge_of k x) (subst (λ (ps : List (Vec Edge Global)). Holds (lists ps) y (edge_of k x)) (sym c.deref_mut.ensures.value) (v.there x k y (omega arith) a))
       ]);
+      sound = subst (λ (ps : List (Vec Edge Global)). IsForward c.args.definitions.now (lists ps)) (sym back) (m.sound (subst (λ (ps : List (Vec Edge Global)). IsForward c.args.definitions.now (lists ps)) (sym c.deref_mut.ensures.value) v.sound));
     }
 
-pub returns : goal.returns
-returns c = λ x k y a. let l : x < length c.args.definitions.now = arg_from c.args.definitions.now x k y a in c.loop-x.invariant.there x k y (omega arith) a
+pub loop-x-init : goal.loop-x-init
+loop-x-init c = record {
+  len = omega (arith, c.loop-y.invariant.len, c.loop-y-test.false, c.loop-y.auto.y-end);
+  there = λ x k y l a. absurd (none_below x l);
+  sound = empty_forward c.args.definitions.now (lists c.loop-y.preds.items) c.loop-y.invariant.none;
+}
+  where
+    none_below : (k : ℕ) → k < 0 → ⊥
+    none_below k l = omega arith
+
+pub returns-clause-back : goal.returns-clause-back
+returns-clause-back c = λ x k y a. let l : x < length c.args.definitions.now = arg_from c.args.definitions.now x k y a in c.loop-x.invariant.there x k y (omega arith) a

@@ -1,9 +1,9 @@
-use Rattle.std.proofs.Common.{◌≡◌, ◌<◌, ◌≤◌, ◌+◌, ◌∙◌, sym, subst, arith, ℕ, slice_get, inl, inr, ◌⊎◌, refl}
+use Rattle.std.proofs.Common.{◌≡◌, ◌≤◌, sym, subst, arith, slice_get, inl, inr, refl}
 use Rattle.std.specs.Prelude.{slice_index}
 use Rattle.std.specs.List.{All}
 use Rattle.std.proofs.lemmas.Bool.{cases_lt}
 use Rattle.type_laws.specs.Parts.{parts, parts_at}
-use Rattle.mu_types.specs.Firsts.{there}
+use Rattle.mu_types.proofs.Firsts.{there}
 use Rattle.mu_types.proofs.ranking.descends.Goals as goal
 
 pub loop-x-preserved : goal.loop-x-preserved

@@ -1,4 +1,4 @@
-use Rattle.mu_types.specs.Leads.{moved_keeps}
+use Rattle.mu_types.proofs.Leads.{moved_keeps}
 use Rattle.mu_types.proofs.refine.part.Goals as goal
 
 pub returns-clause-keeps : goal.returns-clause-keeps

@@ -1,7 +1,8 @@
 use Rattle.std.proofs.Common.{◌<◌, ℕ, sym, ◌∙◌, subst, List, get_or, inl, inr, []}
 use Rattle.std.specs.List.{Contains}
-use Rattle.mu_types.specs.Rows.{lists, length-lists, row_at}
-use Rattle.mu_types.specs.Leads.{gathered_closed, arg_from}
+use Rattle.mu_types.specs.Rows.{lists}
+use Rattle.mu_types.proofs.RowLemmas.{length-lists, row_at}
+use Rattle.mu_types.proofs.Leads.{gathered_closed, arg_from}
 use Rattle.mu_types.proofs.refine.turn.Goals as goal
 
 pub drain-requires-clause-closed : goal.drain-requires-clause-closed
@@ -13,7 +14,7 @@ drain-requires-clause-closed c =
     (λ y l e. subst (λ (xs : List ℕ). Contains xs y) (r ∙ sym c.deref.ensures.value) (subst (λ b. Contains (get_or (lists c.args.members.now) b []) y) e (c.requires.listed y (subst (λ n. y < n) (sym c.requires.len) l))))
     (λ x k y a. subst (λ n. k < n) (sym (length-lists c.args.buckets.now)) (c.requires.wide x k y a))
     m.kept
-    (λ k x y l h e p a. m.complete k x y (subst (λ n. k < n) (length-lists c.args.buckets.now) l) h e p a)
+    (λ k x y l h e p. m.complete k x y (subst (λ n. k < n) (length-lists c.args.buckets.now) l) h e p)
     m.sound c.requires.closed
 
 pub drain-requires-clause-within : goal.drain-requires-clause-within

@@ -7,7 +7,7 @@ use Rattle.std.proofs.lemmas.Option.{slice_get_within, get_or_from_slice_get, sl
 use Rattle.type_laws.specs.declared.definition.TypeDef.{TypeDef}
 use Rattle.type_laws.specs.Definition.{constructor, number, arguments}
 use Rattle.type_laws.specs.Same.{pairs, agree_at, alike, same, IsGraph}
-use Rattle.type_laws.specs.Steady.{Family, Steady, steady_at}
+use Rattle.type_laws.proofs.Steady.{Family, Steady, steady_at}
 
 pub pairs_back : (r s : ℕ → ℕ → Bool) → ((x y : ℕ) → r x y ≡ true → s y x ≡ true) → (xs ys : List ℕ) → pairs r xs ys ≡ true → pairs s ys xs ≡ true
 pairs_back r s f [] [] h = refl

@@ -4,8 +4,8 @@ use Rattle.std.proofs.lemmas.Bool.{false≢true}
 use Rattle.type_laws.specs.declared.definition.TypeDef.{TypeDef}
 use Rattle.type_laws.specs.Same.{same, alike, IsGraph}
 use Rattle.type_laws.specs.Class.{least, class_of}
-use Rattle.type_laws.specs.Depth.{alike_same, alike_back, alike_over, alike_less, same_meets, from_meets, same_to_each_depth}
-use Rattle.type_laws.specs.Classes.{least_is}
+use Rattle.type_laws.proofs.Depth.{alike_same, alike_back, alike_over, alike_less, same_meets, from_meets, same_to_each_depth}
+use Rattle.type_laws.proofs.Classes.{least_is}
 use Rattle.type_laws.specs.Laws.{IsEquivalence, IsCongruence, IsSteady, ClassesDecide}
 
 pub equivalence : (g : List TypeDef) → IsGraph g → IsEquivalence g

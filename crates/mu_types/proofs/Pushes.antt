@@ -3,7 +3,8 @@ use Rattle.std.proofs.Common.{◌≡◌, ℕ, zero, suc, ◌+◌, ◌<◌, List,
 use Rattle.std.specs.Prelude.{slice_index_or, Vec}
 use Rattle.std.specs.Global.{Global}
 use Rattle.type_laws.specs.Leaves.{times}
-use Rattle.mu_types.specs.Rows.{lists, length-lists}
+use Rattle.mu_types.specs.Rows.{lists}
+use Rattle.mu_types.proofs.RowLemmas.{length-lists}
 use Rattle.std.specs.Prelude.{slice_index}
 use Rattle.std.proofs.lemmas.Bool.{cases_lt}
 use Rattle.std.proofs.lemmas.List.{get_or_append_left, get_or_push, map-append, append_assoc, append-nil}

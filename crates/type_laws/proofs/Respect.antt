@@ -10,8 +10,8 @@ use Rattle.type_laws.specs.Definition.{constructor, number, arguments}
 use Rattle.type_laws.specs.Same.{pairs, same, IsGraph}
 use Rattle.type_laws.specs.Class.{class_of}
 use Rattle.type_laws.specs.Leaves.{times, leaves_by, leaves_to, leaves}
-use Rattle.type_laws.specs.Depth.{same_meets, args_within}
-use Rattle.type_laws.specs.Proved.{decided}
+use Rattle.type_laws.proofs.Depth.{same_meets, args_within}
+use Rattle.type_laws.proofs.Proved.{decided}
 
 pub map_times : (C : ℕ → ℕ) (n : ℕ) (xs : List ℕ) → map C (times n xs) ≡ times n (map C xs)
 map_times C zero xs = refl

@@ -9,8 +9,9 @@ use Rattle.std.specs.List.{All}
 use Rattle.std.proofs.Common.{get_or, subst, sym}
 use Rattle.std.specs.Prelude.{slice_index}
 use Rattle.type_laws.specs.Parts.{parts, parts_at, contains_itself}
-use Rattle.type_laws.specs.Ranks.{Descends, free_is_finite}
-use Rattle.mu_types.specs.Firsts.{there}
+use Rattle.type_laws.specs.Ranks.{Descends}
+use Rattle.type_laws.proofs.Ranks.{free_is_finite}
+use Rattle.mu_types.proofs.Firsts.{there}
 use Rattle.type_laws.specs.Leaves.{leaves}
 use Rattle.mu_types.specs.declared.limits.TheConstants.{MOST_LEAVES}
 use Rattle.mu_types.specs.declared.counting.TheConstants.{CAP}

@@ -1,0 +1,9 @@
+pub mod Steady
+pub mod Depth
+pub mod Partition
+pub mod Classes
+pub mod Ranks
+pub mod Proved
+pub mod Respect
+pub mod Counts
+pub mod Walks
