@@ -1,0 +1,13 @@
+pub mod Globals
+pub mod Definitions
+pub mod Uses
+pub mod ComputationUses
+pub mod ControlUses
+pub mod ObjectUses
+pub mod AccessUses
+pub mod StackUses
+pub mod CommonUses
+pub mod BodyUses
+pub mod ItemUses
+pub mod Naming
+pub mod Examples
