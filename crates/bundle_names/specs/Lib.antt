@@ -10,4 +10,13 @@ pub mod CommonUses
 pub mod BodyUses
 pub mod ItemUses
 pub mod Naming
-pub mod Examples
+pub mod Verdicts
+pub mod DefinitionExamples
+pub mod ItemExamples
+pub mod BodyExamples
+pub mod ComputationExamples
+pub mod ControlExamples
+pub mod ObjectExamples
+pub mod AccessExamples
+pub mod StackExamples
+pub mod CommonExamples

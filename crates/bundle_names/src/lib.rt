@@ -24,3 +24,6 @@ pub use globals::{Counts, Globals, Sort};
 pub use resolved::Resolved;
 pub use resolving::resolve;
 
+
+#[cfg(test)]
+mod tests;
