@@ -1,5 +1,5 @@
 -- The names in each instruction that computes, from left to right.
-use Rattle.demands.specs.Demands.{Demands, none, ◌⨾◌}
+use Rattle.demands.specs.Demands.{Demands, ◌⨾◌}
 use Rattle.demands.specs.Names.{Names}
 use Rattle.ir_tree.specs.declared.computing.Computation.{Computation}
 use Rattle.ir_tree.specs.declared.computing.Computation.TheVariants as computations

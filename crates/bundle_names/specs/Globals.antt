@@ -1,10 +1,9 @@
 -- What the global names of a bundle stand for, in text order.
-use Rattle.std.specs.Prelude.{ℕ, ◌+◌, List, [], ◌∷◌, is_some, if◌then◌else◌}
-use Rattle.demands.specs.Names.{Names, found, added}
+use Rattle.std.specs.Prelude.{◌+◌, List, [], ◌∷◌, is_some, if◌then◌else◌}
+use Rattle.demands.specs.Names.{found, added}
 use Rattle.ir_lex.specs.declared.name.Name.{Name}
 use Rattle.ir_tree.specs.declared.items.Item.{Item}
 use Rattle.ir_tree.specs.declared.items.Item.TheVariants as items
-use Rattle.bundle_names.specs.declared.globals.Sort.{Sort}
 use Rattle.bundle_names.specs.declared.globals.Sort.TheVariants as sorts
 use Rattle.bundle_names.specs.declared.globals.Counts.{Counts}
 use Rattle.bundle_names.specs.declared.globals.Globals.{Globals}

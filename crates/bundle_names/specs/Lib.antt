@@ -10,6 +10,7 @@ pub mod CommonUses
 pub mod BodyUses
 pub mod ItemUses
 pub mod Naming
+pub mod Laws
 pub mod Verdicts
 pub mod DefinitionExamples
 pub mod ItemExamples

@@ -1,5 +1,5 @@
 -- The names in each instruction that makes an object or finds a place in one, from left to right.
-use Rattle.demands.specs.Demands.{Demands, none, ◌⨾◌}
+use Rattle.demands.specs.Demands.{Demands, ◌⨾◌}
 use Rattle.demands.specs.Names.{Names}
 use Rattle.ir_tree.specs.declared.allocating.Allocation.{Allocation}
 use Rattle.ir_tree.specs.declared.allocating.Allocation.TheVariants as allocations

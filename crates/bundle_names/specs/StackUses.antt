@@ -1,5 +1,5 @@
 -- The names in each instruction that asks the client, enters another stack or starts a thread, from left to right.
-use Rattle.demands.specs.Demands.{Demands, none, ◌⨾◌}
+use Rattle.demands.specs.Demands.{Demands, ◌⨾◌}
 use Rattle.demands.specs.Names.{Names}
 use Rattle.ir_tree.specs.declared.trapping.Trapping.{Trapping}
 use Rattle.ir_tree.specs.declared.trapping.Trapping.TheVariants as trappings

@@ -40,7 +40,10 @@ pub fn use_in_computation(
             use_operand(globals, function, right)
         }
         Computation::Convert {
-            from, to, operand, ..
+            from,
+            to,
+            operand,
+            ..
         } => {
             use_type(globals, from)?;
             use_type(globals, to)?;
@@ -65,7 +68,9 @@ pub fn use_in_computation(
             use_operand(globals, function, if_zero)
         }
         Computation::Extractvalue {
-            of_type, operand, ..
+            of_type,
+            operand,
+            ..
         } => {
             use_type(globals, of_type)?;
             use_operand(globals, function, operand)

@@ -36,16 +36,17 @@ fn define_type(alloc: Global, globals: &mut Globals, item: &Typedef) -> Result<(
     Ok(())
 }
 
-fn define_signature(
-    alloc: Global,
-    globals: &mut Globals,
-    item: &Funcsig,
-) -> Result<(), NameFault>
+fn define_signature(alloc: Global, globals: &mut Globals, item: &Funcsig) -> Result<(), NameFault>
     ensures met { Meets (item_demands globals.old (items.Funcsig item.now)) result }
     ensures ok { OnOk result (globals.new ≡ with_item globals.old (items.Funcsig item.now)) }
 {
     let number = globals.counts.signatures;
-    define(alloc, &mut globals.names, &item.name, Sort::Signature(number))?;
+    define(
+        alloc,
+        &mut globals.names,
+        &item.name,
+        Sort::Signature(number),
+    )?;
     globals.counts.signatures = next(number)?;
     Ok(())
 }
@@ -55,7 +56,12 @@ fn define_constant(alloc: Global, globals: &mut Globals, item: &Const) -> Result
     ensures ok { OnOk result (globals.new ≡ with_item globals.old (items.Const item.now)) }
 {
     let number = globals.counts.constants;
-    define(alloc, &mut globals.names, &item.name, Sort::Constant(number))?;
+    define(
+        alloc,
+        &mut globals.names,
+        &item.name,
+        Sort::Constant(number),
+    )?;
     globals.counts.constants = next(number)?;
     Ok(())
 }
@@ -69,7 +75,12 @@ fn define_global_cell(
     ensures ok { OnOk result (globals.new ≡ with_item globals.old (items.GlobalCell item.now)) }
 {
     let number = globals.counts.global_cells;
-    define(alloc, &mut globals.names, &item.name, Sort::GlobalCell(number))?;
+    define(
+        alloc,
+        &mut globals.names,
+        &item.name,
+        Sort::GlobalCell(number),
+    )?;
     globals.counts.global_cells = next(number)?;
     Ok(())
 }
@@ -93,18 +104,16 @@ fn name_function(alloc: Global, globals: &mut Globals, name: &Name) -> Result<()
 {
     let new = is_new_function(&globals.names, name)?;
     let number = globals.counts.functions;
-    globals.names.define(alloc, name.text.as_slice(), Sort::Function(number))?;
+    globals
+        .names
+        .define(alloc, name.text.as_slice(), Sort::Function(number))?;
     if new {
         globals.counts.functions = next(number)?;
     }
     Ok(())
 }
 
-fn declare_function(
-    alloc: Global,
-    globals: &mut Globals,
-    item: &Funcdecl,
-) -> Result<(), NameFault>
+fn declare_function(alloc: Global, globals: &mut Globals, item: &Funcdecl) -> Result<(), NameFault>
     ensures met { Meets (item_demands globals.old (items.Funcdecl item.now)) result }
     ensures ok { OnOk result (globals.new ≡ with_item globals.old (items.Funcdecl item.now)) }
 {

@@ -12,6 +12,7 @@ mod fault;
 mod function_names;
 mod globals;
 mod items;
+mod laws;
 mod objects;
 mod resolved;
 mod resolving;
@@ -21,9 +22,9 @@ mod uses;
 pub use fault::{NameFault, NameKind};
 pub use function_names::FunctionNames;
 pub use globals::{Counts, Globals, Sort};
+pub use laws::{accepted_meet_all, fault_is_of_one_list, fault_stands_behind_met_ones};
 pub use resolved::Resolved;
 pub use resolving::resolve;
-
 
 #[cfg(test)]
 mod tests;

@@ -52,7 +52,9 @@ pub fn use_in_addressing(
             use_operand(globals, function, reference)
         }
         Addressing::Getfieldiref {
-            of_type, location, ..
+            of_type,
+            location,
+            ..
         } => {
             use_type(globals, of_type)?;
             use_operand(globals, function, location)

@@ -44,7 +44,9 @@ pub fn use_in_trapping(
             use_keepalive(function, keepalive)
         }
         Trapping::Wpbranch {
-            disabled, enabled, ..
+            disabled,
+            enabled,
+            ..
         } => {
             use_destination(globals, function, disabled)?;
             use_destination(globals, function, enabled)

@@ -1,9 +1,9 @@
 -- Demands that are met.
 use Rattle.std.proofs.Common.{◌≡◌, ℕ, Bool, true, false, List, [], ◌∷◌, ◌++◌, Option, Some, None, if◌then◌else◌, refl, sym, ap, ◌∙◌, subst}
 use Rattle.demands.specs.declared.fault.Fault.{Fault}
-use Rattle.demands.specs.declared.fault.Fault.TheVariants.{At}
-use Rattle.demands.specs.Demands.{Demands, Demand, none, demand, ◌⨾◌, or_else, first_unmet, listed, first_of, AllMet}
-use Rattle.demands.specs.Laws.{EachMet, StandsBehindMet}
+use Rattle.demands.specs.declared.fault.Fault.TheVariants.{Memory, At}
+use Rattle.demands.specs.Demands.{Demands, Demand, none, demand, ◌⨾◌, or_else, first_unmet, listed, first_of, AllMet, as_kind}
+use Rattle.demands.specs.Laws.{EachMet, StandsBehindMet, fault_as}
 
 first_of-append : {K : Type 0} (a b : List (Demand K)) → first_of (a ++ b) ≡ or_else (first_of a) (first_of b)
 first_of-append [] b = refl
@@ -41,3 +41,15 @@ behind_one p k false ds kind place below h =
 pub behind : {K : Type 0} (ds : List (Demand K)) (kind : K) (place : ℕ) → first_of ds ≡ Some (At kind place) → StandsBehindMet ds kind place
 behind [] kind place h = cc
 behind (d ∷ ds) kind place h = behind_one d.place d.kind d.met ds kind place (behind ds kind place) h
+
+-- the first unmet one of demands of other kinds
+or_else_as : {K L : Type 0} (f : K → L) (a b : Option (Fault K)) → or_else (fault_as f a) (fault_as f b) ≡ fault_as f (or_else a b)
+or_else_as f None b = refl
+or_else_as f (Some Memory) b = refl
+or_else_as f (Some (At kind place)) b = refl
+
+pub carried : {K L : Type 0} (f : K → L) (ds : Demands K) → first_unmet (as_kind f ds) ≡ fault_as f (first_unmet ds)
+carried f none = refl
+carried f (demand place kind true) = refl
+carried f (demand place kind false) = refl
+carried f (a ⨾ b) = rw (carried f a, carried f b) (or_else_as f (first_unmet a) (first_unmet b))

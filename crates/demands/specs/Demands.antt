@@ -45,6 +45,12 @@ abbrev pub first_of : {K : Type 0} → List (Demand K) → Option (Fault K)
 first_of [] = None
 first_of (d ∷ ds) = if d.met then first_of ds else Some (At d.kind d.place)
 
+-- the same demands with faults of other kinds
+abbrev pub as_kind : {K L : Type 0} → (K → L) → Demands K → Demands L
+as_kind f none = none
+as_kind f (demand place kind met) = demand place (f kind) met
+as_kind f (a ⨾ b) = as_kind f a ⨾ as_kind f b
+
 -- what a judging function answers: what was made where all demands are met, else the first fault; want of memory says nothing
 abbrev pub Judges : {K A : Type 0} → Demands K → A → Result A (Fault K) → Type 0
 Judges ds made (Ok x) = (first_unmet ds ≡ None) × (x ≡ made)

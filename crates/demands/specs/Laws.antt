@@ -1,7 +1,8 @@
 -- Laws of demands.
-use Rattle.std.specs.Prelude.{◌≡◌, ℕ, true, false, List, [], ◌∷◌, ◌++◌, Some, None}
-use Rattle.demands.specs.declared.fault.Fault.TheVariants.{At}
-use Rattle.demands.specs.Demands.{Demands, Demand, first_unmet, first_of, listed, AllMet}
+use Rattle.std.specs.Prelude.{◌≡◌, ℕ, true, false, List, [], ◌∷◌, ◌++◌, Option, Some, None}
+use Rattle.demands.specs.declared.fault.Fault.{Fault}
+use Rattle.demands.specs.declared.fault.Fault.TheVariants.{Memory, At}
+use Rattle.demands.specs.Demands.{Demands, Demand, first_unmet, first_of, listed, AllMet, as_kind}
 
 -- the first unmet of some demands is the first in their list that is not met
 abbrev pub FirstIsOfTheList : Type 0 → Type 0
@@ -25,3 +26,13 @@ pub record StandsBehindMet {K : Type 0} (ds : List (Demand K)) (kind : K) (place
 
 abbrev pub UnmetStandsBehindMetOnes : Type 0 → Type 0
 UnmetStandsBehindMetOnes K = (ds : Demands K) (kind : K) (place : ℕ) → first_unmet ds ≡ Some (At kind place) → StandsBehindMet (listed ds) kind place
+
+-- the same fault of another kind
+abbrev pub fault_as : {K L : Type 0} → (K → L) → Option (Fault K) → Option (Fault L)
+fault_as f None = None
+fault_as f (Some Memory) = Some Memory
+fault_as f (Some (At kind place)) = Some (At (f kind) place)
+
+-- demands of other kinds have the same first fault, of that kind
+abbrev pub KindsAreCarried : Type 0 → Type 0 → Type 0
+KindsAreCarried K L = (f : K → L) (ds : Demands K) → first_unmet (as_kind f ds) ≡ fault_as f (first_unmet ds)

@@ -8,5 +8,7 @@ mod scope;
 mod tests;
 
 pub use fault::Fault;
-pub use laws::{first_is_of_the_list, met_where_none_is_first, unmet_stands_behind_met_ones};
+pub use laws::{
+    first_is_of_the_list, kinds_are_carried, met_where_none_is_first, unmet_stands_behind_met_ones,
+};
 pub use scope::Scope;

@@ -20,6 +20,9 @@ fn shows_a_fault(rt: HostRuntime) -> Result<(), Fail> {
         kind: "no name",
         place: 7,
     };
-    assert_eq!(rt; format!(in rt.alloc(); "{fault}")?.as_str(), "no name, at byte 7");
+    assert_eq!(rt;
+        format!(in rt.alloc(); "{fault}")?.as_str(),
+        "no name, at byte 7"
+    );
     Ok(())
 }

@@ -1,6 +1,8 @@
 // Comparisons of scalars.
 ghost use Rattle.std.specs.Prelude.{◌≡◌, not};
 ghost use Rattle.mu_values.specs.SameScalar.{same_scalar};
+ghost use Rattle.mu_values.specs.Integers.{IsInteger};
+ghost use Rattle.mu_values.specs.declared.scalars.Scalar.TheVariants as scalars;
 ghost use Rattle.mu_values.specs.Comparisons.{AreComparable, compared};
 
 use crate::integers::is_less;

@@ -54,7 +54,7 @@ fn magnitude(width: u32, n: u128) -> u128
 }
 
 /// The bits of -n.
-fn negated(width: u32, n: u128) -> u128
+pub fn negated(width: u32, n: u128) -> u128
     requires { IsInteger width n }
     ensures { result ≡ bits_of width (neg_ℤ (pos n)) }
 {

@@ -1,4 +1,4 @@
-use Rattle.std.proofs.Common.{◌≡◌, length, []}
+use Rattle.std.proofs.Common.{◌≡◌, length}
 use Rattle.demands.specs.Demands.{first_unmet}
 use Rattle.bundle_names.specs.Definitions.{list_demands, with_list}
 use Rattle.bundle_names.proofs.blocks.define_list.Given as goal

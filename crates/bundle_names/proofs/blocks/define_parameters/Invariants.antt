@@ -1,4 +1,4 @@
-use Rattle.std.proofs.Common.{◌≡◌, length, []}
+use Rattle.std.proofs.Common.{◌≡◌, length}
 use Rattle.demands.specs.Demands.{first_unmet}
 use Rattle.bundle_names.specs.Definitions.{parameter_demands, with_parameters}
 use Rattle.bundle_names.proofs.blocks.define_parameters.Given as goal

@@ -1,4 +1,4 @@
-use Rattle.std.proofs.Common.{◌≡◌, length, []}
+use Rattle.std.proofs.Common.{◌≡◌, length}
 use Rattle.bundle_names.specs.Definitions.{with_parameters}
 use Rattle.bundle_names.proofs.bodies.add_parameters.Given as goal
 

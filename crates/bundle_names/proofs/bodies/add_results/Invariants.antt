@@ -1,4 +1,4 @@
-use Rattle.std.proofs.Common.{◌≡◌, length, []}
+use Rattle.std.proofs.Common.{◌≡◌, length}
 use Rattle.bundle_names.specs.BodyUses.{with_results}
 use Rattle.bundle_names.proofs.bodies.add_results.Given as goal
 

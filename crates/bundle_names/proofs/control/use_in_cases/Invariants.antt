@@ -1,4 +1,4 @@
-use Rattle.std.proofs.Common.{◌≡◌, length, []}
+use Rattle.std.proofs.Common.{◌≡◌, length}
 use Rattle.demands.specs.Demands.{first_unmet}
 use Rattle.bundle_names.specs.ControlUses.{case_uses}
 use Rattle.bundle_names.proofs.control.use_in_cases.Given as goal

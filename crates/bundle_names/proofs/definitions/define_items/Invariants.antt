@@ -1,4 +1,4 @@
-use Rattle.std.proofs.Common.{◌≡◌, length, []}
+use Rattle.std.proofs.Common.{◌≡◌, length}
 use Rattle.demands.specs.Demands.{first_unmet}
 use Rattle.bundle_names.specs.Globals.{no_globals, with_items}
 use Rattle.bundle_names.specs.Definitions.{items_demands}

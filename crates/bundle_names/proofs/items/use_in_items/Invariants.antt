@@ -1,4 +1,4 @@
-use Rattle.std.proofs.Common.{◌≡◌, length, []}
+use Rattle.std.proofs.Common.{◌≡◌, length}
 use Rattle.demands.specs.Demands.{first_unmet}
 use Rattle.bundle_names.specs.ItemUses.{item_uses}
 use Rattle.bundle_names.proofs.items.use_in_items.Given as goal

@@ -1,4 +1,4 @@
-use Rattle.std.proofs.Common.{◌≡◌, length, []}
+use Rattle.std.proofs.Common.{◌≡◌, length}
 use Rattle.demands.specs.Demands.{first_unmet}
 use Rattle.bundle_names.specs.Uses.{type_uses}
 use Rattle.bundle_names.proofs.uses.use_types.Given as goal
