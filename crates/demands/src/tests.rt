@@ -13,16 +13,3 @@ fn keeps_the_first_of_a_name(rt: HostRuntime) -> Result<(), Fail> {
     assert_eq!(rt; scope.find(b"%c").copied(), None);
     Ok(())
 }
-
-#[test]
-fn shows_a_fault(rt: HostRuntime) -> Result<(), Fail> {
-    let fault = Fault::At {
-        kind: "no name",
-        place: 7,
-    };
-    assert_eq!(rt;
-        format!(in rt.alloc(); "{fault}")?.as_str(),
-        "no name, at byte 7"
-    );
-    Ok(())
-}
