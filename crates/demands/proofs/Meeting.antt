@@ -1,9 +1,9 @@
 -- Demands that are met.
-use Rattle.std.proofs.Common.{◌≡◌, ℕ, Bool, true, false, List, [], ◌∷◌, ◌++◌, Option, Some, None, if◌then◌else◌, refl, sym, ap, ◌∙◌, subst}
+use Rattle.std.proofs.Common.{◌≡◌, ℕ, Bool, true, false, List, [], ◌∷◌, ◌++◌, Option, Some, None, if◌then◌else◌, refl, sym, ap}
 use Rattle.demands.specs.declared.fault.Fault.{Fault}
 use Rattle.demands.specs.declared.fault.Fault.TheVariants.{Memory, At}
 use Rattle.demands.specs.Demands.{Demands, Demand, none, demand, ◌⨾◌, or_else, first_unmet, listed, first_of, AllMet, as_kind}
-use Rattle.demands.specs.Laws.{EachMet, StandsBehindMet, fault_as}
+use Rattle.demands.specs.Laws.{StandsBehindMet, fault_as}
 
 first_of-append : {K : Type 0} (a b : List (Demand K)) → first_of (a ++ b) ≡ or_else (first_of a) (first_of b)
 first_of-append [] b = refl
