@@ -1,1 +1,4 @@
 pub mod SameScalar
+pub mod Integers
+pub mod Comparisons
+pub mod Constants

@@ -1,0 +1,38 @@
+-- Worked examples. Instructions that compute.
+use Rattle.std.specs.Prelude.{◌≡◌, refl, codes}
+use Rattle.text_forms.specs.Reading.{elements}
+use Rattle.ir_lex.specs.WordTable.{words, directives, common_names}
+use Rattle.ir_lex.specs.Scanner.{gap_len, next_of}
+use Rattle.ir_lex.specs.Walk.{tokens_within, tokens_from}
+use Rattle.ir_lex.specs.TokenForms.{mark, name, numeral}
+use Rattle.ir_tree.specs.Words.{order}
+use Rattle.ir_tree.specs.Lists.{global, bracketed, local, bracketed_pair, local_list, type_list, value, values, dest, exc, keep, pass_values, throw_exc, new_stack_clause}
+use Rattle.ir_tree.specs.Computations.{binary, compare, convert, refcast, select, bracketed_field, extractvalue, insertvalue, computation}
+use Rattle.ir_tree.specs.Control.{branch, branch2, switch_case, switch, call, tailcall, ret, throw, control}
+use Rattle.ir_tree.specs.Objects.{new_object, newhybrid, alloca, allocation, getiref, getfieldiref, getelemiref, shiftiref, getvarpartiref, addressing_form}
+use Rattle.ir_tree.specs.Accesses.{optional_order, load, store, weak, cmpxchg, atomicrmw, fence, access}
+use Rattle.ir_tree.specs.Stacks.{trap, wpexc, watchpoint, wpbranch, trapping_form, returning, killing, swapstack, threadlocal, newthread, stack_switch}
+use Rattle.ir_tree.specs.CommonForms.{one_value, two_values, new_stack, kill_stack, thread_exit, current_stack, set_threadlocal, get_threadlocal, futex_wait, futex_wake, common_inst}
+use Rattle.ir_tree.specs.Instructions.{op}
+use Rattle.ir_tree.specs.Samples.{meaning}
+use Rattle.bundle_names.specs.Verdicts.{op_verdict, good, unknown, wrong_kind}
+
+computations_use_names :
+    (op_verdict (meaning op (codes "ADD <@t> %a @g EXC(%n(%a) %n(@k))")) ≡ good)
+    × (op_verdict (meaning op (codes "ADD <@t> %a @g EXC(%n(%a) %a(@k))")) ≡ unknown 26)
+    × (op_verdict (meaning op (codes "UREM <@u> %b @c")) ≡ unknown 6)
+    × (op_verdict (meaning op (codes "SHL <@t> @s @c")) ≡ wrong_kind 9)
+    × (op_verdict (meaning op (codes "SLE <@t> @k @f")) ≡ good)
+    × (op_verdict (meaning op (codes "NE <@t> @k %b")) ≡ unknown 11)
+    × (op_verdict (meaning op (codes "SEXT <@t @t> %a")) ≡ good)
+    × (op_verdict (meaning op (codes "TRUNC <@t @k> %b")) ≡ wrong_kind 10)
+    × (op_verdict (meaning op (codes "REFCAST <@t @t> @f")) ≡ good)
+    × (op_verdict (meaning op (codes "REFCAST <@u @t> @f")) ≡ unknown 9)
+    × (op_verdict (meaning op (codes "SELECT <@t @t> %a @k @g")) ≡ good)
+    × (op_verdict (meaning op (codes "SELECT <@t @t> %a @k @h")) ≡ unknown 21)
+    × (op_verdict (meaning op (codes "EXTRACTVALUE <@t 1> %a")) ≡ good)
+    × (op_verdict (meaning op (codes "EXTRACTVALUE <@t 1> %n")) ≡ unknown 20)
+    × (op_verdict (meaning op (codes "INSERTVALUE <@t 1> %a @k")) ≡ good)
+    × (op_verdict (meaning op (codes "INSERTVALUE <@t 1> %a @t")) ≡ wrong_kind 22)
+unfolding tokens_from tokens_within next_of gap_len words directives common_names elements mark name numeral order global local bracketed bracketed_pair local_list type_list value values dest exc keep pass_values throw_exc new_stack_clause binary compare convert refcast select bracketed_field extractvalue insertvalue computation branch branch2 switch_case switch call tailcall ret throw control new_object newhybrid alloca allocation getiref getfieldiref getelemiref shiftiref getvarpartiref addressing_form optional_order load store weak cmpxchg atomicrmw fence access trap wpexc watchpoint wpbranch trapping_form returning killing swapstack threadlocal newthread stack_switch one_value two_values new_stack kill_stack thread_exit current_stack set_threadlocal get_threadlocal futex_wait futex_wake common_inst op
+computations_use_names = (refl, refl, refl, refl, refl, refl, refl, refl, refl, refl, refl, refl, refl, refl, refl, refl)

@@ -1,0 +1,110 @@
+-- Definitions: each name has one in its space. Global names are one space; the blocks of a function are one; the parameters, the
+-- handler, the results and the labels of a block are one. A function may have one declaration and one definition, in either order.
+use Rattle.std.specs.Prelude.{Bool, true, false, List, [], ◌∷◌, Option, Some, None, is_some, not}
+use Rattle.demands.specs.Demands.{Demands, none, demand, ◌⨾◌}
+use Rattle.demands.specs.Names.{Names, found, added}
+use Rattle.ir_lex.specs.declared.name.Name.{Name}
+use Rattle.ir_tree.specs.declared.code.Parameter.{Parameter}
+use Rattle.ir_tree.specs.declared.code.BlockHead.{BlockHead}
+use Rattle.ir_tree.specs.declared.code.Inst.{Inst}
+use Rattle.ir_tree.specs.declared.code.Block.{Block}
+use Rattle.ir_tree.specs.declared.items.Item.{Item}
+use Rattle.ir_tree.specs.declared.items.Item.TheVariants as items
+use Rattle.bundle_names.specs.declared.fault.NameKind.{NameKind}
+use Rattle.bundle_names.specs.declared.fault.NameKind.TheVariants.{Duplicate}
+use Rattle.bundle_names.specs.declared.globals.Sort.{Sort}
+use Rattle.bundle_names.specs.declared.globals.Sort.TheVariants as sorts
+use Rattle.bundle_names.specs.declared.globals.Globals.{Globals}
+use Rattle.bundle_names.specs.Globals.{with_item, no_globals}
+
+-- names that stand for nothing but themselves
+abbrev pub Plain : Type 0
+Plain = Names (Unit {0})
+
+abbrev pub with_name : Plain → Name → Plain
+with_name es n = added es n.text tt
+
+-- the name is not defined before in its space
+abbrev pub fresh : {T : Type 0} → Names T → Name → Demands NameKind
+fresh es n = demand n.place Duplicate (not (is_some (found es n.text)))
+
+-- ---- in a block
+
+abbrev pub list_demands : Plain → List Name → Demands NameKind
+list_demands es [] = none
+list_demands es (n ∷ ns) = fresh es n ⨾ list_demands (with_name es n) ns
+
+abbrev pub with_list : Plain → List Name → Plain
+with_list es [] = es
+with_list es (n ∷ ns) = with_list (with_name es n) ns
+
+-- a name that may be left out
+abbrev pub optional_demands : Plain → Option Name → Demands NameKind
+optional_demands es None = none
+optional_demands es (Some n) = fresh es n
+
+abbrev pub with_optional : Plain → Option Name → Plain
+with_optional es None = es
+with_optional es (Some n) = with_name es n
+
+abbrev pub parameter_demands : Plain → List Parameter → Demands NameKind
+parameter_demands es [] = none
+parameter_demands es (p ∷ ps) = fresh es p.name ⨾ parameter_demands (with_name es p.name) ps
+
+abbrev pub with_parameters : Plain → List Parameter → Plain
+with_parameters es [] = es
+with_parameters es (p ∷ ps) = with_parameters (with_name es p.name) ps
+
+-- the parameters, then the handler
+abbrev pub head_demands : BlockHead → Demands NameKind
+head_demands h = parameter_demands [] h.parameters ⨾ optional_demands (with_parameters [] h.parameters) h.handler
+
+abbrev pub with_head : Plain → BlockHead → Plain
+with_head es h = with_optional (with_parameters es h.parameters) h.handler
+
+-- the results, then the label
+abbrev pub inst_demands : Plain → Inst → Demands NameKind
+inst_demands es i = list_demands es i.results ⨾ optional_demands (with_list es i.results) i.label
+
+abbrev pub insts_demands : Plain → List Inst → Demands NameKind
+insts_demands es [] = none
+insts_demands es (i ∷ is) = inst_demands es i ⨾ insts_demands (with_optional (with_list es i.results) i.label) is
+
+abbrev pub block_demands : Block → Demands NameKind
+block_demands b = head_demands b.head ⨾ insts_demands (with_head [] b.head) b.insts
+
+-- ---- in a function
+
+abbrev pub blocks_demands : Plain → List Block → Demands NameKind
+blocks_demands es [] = none
+blocks_demands es (b ∷ bs) = fresh es b.head.name ⨾ block_demands b ⨾ blocks_demands (with_name es b.head.name) bs
+
+-- ---- in a bundle
+
+-- the name is new, or that of a function
+abbrev pub may_be_function : Option Sort → Bool
+may_be_function None = true
+may_be_function (Some (sorts.Function n)) = true
+may_be_function (Some (sorts.Written n)) = false
+may_be_function (Some (sorts.Signature n)) = false
+may_be_function (Some (sorts.Constant n)) = false
+may_be_function (Some (sorts.GlobalCell n)) = false
+
+abbrev pub function_demands : Globals → Name → Demands NameKind
+function_demands g n = demand n.place Duplicate (may_be_function (found g.names n.text))
+
+abbrev pub item_demands : Globals → Item → Demands NameKind
+item_demands g (items.Typedef d) = fresh g.names d.name
+item_demands g (items.Funcsig d) = fresh g.names d.name
+item_demands g (items.Const d) = fresh g.names d.name
+item_demands g (items.GlobalCell d) = fresh g.names d.name
+item_demands g (items.Funcdecl d) = function_demands g d.name ⨾ fresh g.declared d.name
+item_demands g (items.Funcdef d) = function_demands g d.name ⨾ fresh g.defined d.name ⨾ blocks_demands [] d.blocks
+
+abbrev pub items_demands : Globals → List Item → Demands NameKind
+items_demands g [] = none
+items_demands g (i ∷ is) = item_demands g i ⨾ items_demands (with_item g i) is
+
+-- all definitions of a bundle
+abbrev pub definition_demands : List Item → Demands NameKind
+definition_demands bundle = items_demands no_globals bundle

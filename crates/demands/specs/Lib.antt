@@ -1,0 +1,4 @@
+pub mod Demands
+pub mod Names
+pub mod Laws
+pub mod Examples
