@@ -1,4 +1,1 @@
 pub mod SameScalar
-pub mod Integers
-pub mod Comparisons
-pub mod Constants
