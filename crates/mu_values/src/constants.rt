@@ -1,5 +1,5 @@
 // Judging constants by their types.
-ghost use Rattle.std.specs.Prelude.{◌≡◌, ◌^◌, ◌<◌, ◌≤◌, None, Some, length, slice_get, slice_index, IfSome, IfNone, IsSomeAnd};
+ghost use Rattle.std.specs.Prelude.{◌≡◌, ◌^◌, ◌<◌, ◌≤◌, None, Some, length, slice_get, slice_index, nat_lt, IsSomeAnd};
 ghost use Rattle.std.specs.List.{All};
 ghost use Rattle.type_laws.specs.Same.{same, IsGraph};
 ghost use Rattle.mu_values.specs.Constants.{fits, is_reference, is_count, member_count, member_type, member_demands, width_of, constant_demands, HasMembers, Judged};
@@ -8,21 +8,25 @@ use crate::literals::{ConstFault, ConstKind, Literal, LiteralKind};
 use mu_base::Ids;
 use mu_types::{Classes, TypeDef};
 
-/// 2^n, where that is a u128.
-fn power(n: u128) -> Option<u128>
-    ensures some { IfSome result (λ p. p ≡ 2 ^ n) }
-    ensures none { IfNone result (128 ≤ n) }
+/// Whether a number is less than 2^n.
+fn is_below(magnitude: u128, n: u128) -> bool
+    ensures { result ≡ nat_lt magnitude (2 ^ n) }
 {
-    if n < 128 { Some(1 << n as u32) } else { None }
+    if n >= 128 {
+        true
+    } else {
+        magnitude < 1 << n as u32
+    }
 }
 
 /// Whether a number is at least -2^(width-1) and less than 2^width.
 fn number_fits(negative: bool, magnitude: u128, width: u128) -> bool
     ensures { result ≡ fits negative magnitude width }
 {
-    match power(if negative { width.saturating_sub(1) } else { width }) {
-        Some(bound) => if negative { magnitude <= bound } else { magnitude < bound },
-        None => true,
+    if negative {
+        magnitude == 0 || is_below(magnitude - 1, width.saturating_sub(1))
+    } else {
+        is_below(magnitude, width)
     }
 }
 
@@ -41,7 +45,10 @@ fn may_be_null(definition: &TypeDef) -> bool
 {
     matches!(
         definition,
-        TypeDef::Ref(_) | TypeDef::Iref(_) | TypeDef::FuncRef(_) | TypeDef::StackRef
+        TypeDef::Ref(_)
+            | TypeDef::Iref(_)
+            | TypeDef::FuncRef(_)
+            | TypeDef::StackRef
             | TypeDef::ThreadRef
     )
 }
@@ -119,7 +126,12 @@ fn judge_members(
 /// fit the width, `NotNullable` at NULL for a type that is no reference, `WrongShape` at a list for a type that is neither struct
 /// nor array or that has another number of members, and `WrongShape` at the first member of another type. The types of members
 /// are compared by two look-ups each; it takes no memory.
-pub fn judge_const(classes: &Classes, t: u32, literal: &Literal, types: &Ids) -> Result<(), ConstFault>
+pub fn judge_const(
+    classes: &Classes,
+    t: u32,
+    literal: &Literal,
+    types: &Ids,
+) -> Result<(), ConstFault>
     requires graph { IsGraph classes.now.definitions }
     requires t { t < length classes.now.definitions }
     requires types { All (λ c. c < length classes.now.definitions) types.now.members }

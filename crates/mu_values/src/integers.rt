@@ -150,8 +150,16 @@ pub fn binary(op: BinOp, width: u32, a: u128, b: u128) -> Option<u128>
         BinOp::Add => Some(low_bits(width, a + b)),
         BinOp::Sub => Some(subtract(width, a, b)),
         BinOp::Mul => Some(low_bits(width, a * b)),
-        BinOp::Sdiv => if b == 0 { None } else { Some(signed_quotient(width, a, b)) },
-        BinOp::Srem => if b == 0 { None } else { Some(signed_remainder(width, a, b)) },
+        BinOp::Sdiv => if b == 0 {
+            None
+        } else {
+            Some(signed_quotient(width, a, b))
+        },
+        BinOp::Srem => if b == 0 {
+            None
+        } else {
+            Some(signed_remainder(width, a, b))
+        },
         BinOp::Udiv => if b == 0 { None } else { Some(a / b) },
         BinOp::Urem => if b == 0 { None } else { Some(a % b) },
         BinOp::Shl => Some(shift_left(width, a, b)),

@@ -9,6 +9,7 @@ mod literals;
 mod made;
 mod operators;
 mod scalars;
+mod slots;
 
 pub use comparing::compare;
 pub use constants::judge_const;
@@ -18,3 +19,7 @@ pub use literals::{ConstFault, ConstKind, Literal, LiteralKind};
 pub use made::{Made, make_const};
 pub use operators::{BinOp, CmpOp, ConvOp};
 pub use scalars::{Scalar, Value};
+pub use slots::{Passed, Slots};
+
+#[cfg(test)]
+mod tests;

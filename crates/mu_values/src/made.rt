@@ -90,13 +90,27 @@ fn number(
     }
 }
 
+fn append_value(made: &Made, n: u32, out: &mut Vec<Scalar>) -> Result<(), AllocError>
+    ensures { OnOk result (out.new.items ≡ out.old.items ++ value_at made.now n) }
+{
+    out.extend_from_slice(made.value(n))?;
+    Ok(())
+}
+
+fn append_each(made: &Made, constants: &[u32], out: &mut Vec<Scalar>) -> Result<(), AllocError>
+    ensures { OnOk result (out.new.items ≡ out.old.items ++ flat_map (value_at made.now) constants.now) }
+{
+    for n in constants {
+        append_value(made, *n, out)?;
+    }
+    Ok(())
+}
+
 fn joined(alloc: Global, made: &Made, constants: &[u32]) -> Result<Value, AllocError>
     ensures { IfOk result (λ v. v.members ≡ flat_map (value_at made.now) constants.now) }
 {
-    let mut scalars: Vec<Scalar> = Vec::new(alloc);
-    for n in constants {
-        scalars.extend_from_slice(made.value(*n))?;
-    }
+    let mut scalars = Vec::new(alloc);
+    append_each(made, constants, &mut scalars)?;
     Ok(Items::from_vec(scalars))
 }
 
@@ -118,7 +132,12 @@ pub fn make_const(
         LiteralKind::Number {
             negative,
             magnitude,
-        } => number(alloc, int_width(classes.definition(t)), *negative, *magnitude),
+        } => number(
+            alloc,
+            int_width(classes.definition(t)),
+            *negative,
+            *magnitude,
+        ),
         LiteralKind::Null => one(alloc, Scalar::Null),
         LiteralKind::Members { constants, .. } => joined(alloc, made, constants.as_slice()),
     }
