@@ -1,1 +1,4 @@
 pub mod Equal
+pub mod Signed
+pub mod Cuts
+pub mod Members

@@ -1,0 +1,161 @@
+-- Signed integers and their bits.
+use Rattle.std.proofs.Common.{◌≡◌, ℕ, zero, suc, ◌+◌, ◌-◌, ◌*◌, ◌/◌, ◌%◌, ◌^◌, ◌<◌, ◌≤◌, Bool, true, false, not, if◌then◌else◌, refl, sym, ap, ◌∙◌, arith, inl, inr}
+use Rattle.std.specs.Prelude.{ℤ, pos, negsuc, neg_ℤ, ◌-ℤ◌, nat_lt, nat_eq, int_lt, int_le, int_div, int_rem, unsigned_abs}
+use Rattle.std.specs.Int.Signed.{shr_z}
+use Rattle.std.proofs.lemmas.Bool.{lt-ltb, le-ltb, ltb-true, ltb-false, cases_lt}
+use Rattle.std.proofs.lemmas.Int.{ints}
+use Rattle.std.proofs.lemmas.Nat.{pow_pos, pow_below}
+use Rattle.std.proofs.Math.Nat.{mod-eq_of_lt, zero-mod, mod-le, div-le_self}
+use mathlib.Core.Bool.{beq}
+use Rattle.mu_values.specs.Integers.{signed, bits_of}
+
+not_less : (a b : ℕ) → b ≤ a → nat_lt a b ≡ false
+not_less a b l = le-ltb a b l
+
+pub minus : (n m : ℕ) → n < m → pos n -ℤ pos m ≡ negsuc (m - 1 - n)
+minus n m l = omega (arith, ints)
+
+pub signed_low : (w n : ℕ) → n < 2 ^ (w - 1) → signed w n ≡ pos n
+signed_low w n l = ap (λ b. if b then pos n else (pos n -ℤ pos (2 ^ w))) (lt-ltb n (2 ^ (w - 1)) l)
+
+pub signed_high : (w n : ℕ) → 2 ^ (w - 1) ≤ n → n < 2 ^ w → signed w n ≡ negsuc (2 ^ w - 1 - n)
+signed_high w n l m = ap (λ b. if b then pos n else (pos n -ℤ pos (2 ^ w))) (not_less n (2 ^ (w - 1)) l) ∙ minus n (2 ^ w) m
+
+-- ---- bits of a number that fits
+
+pub bits_pos : (w m : ℕ) → m < 2 ^ w → bits_of w (pos m) ≡ m
+bits_pos w m l = mod-eq_of_lt l
+
+pub bits_negsuc : (w m : ℕ) → m < 2 ^ w → bits_of w (negsuc m) ≡ 2 ^ w - 1 - m
+bits_negsuc w m l = ap (λ r. 2 ^ w - 1 - r) (mod-eq_of_lt l)
+
+pub bits_neg_zero : (w : ℕ) → bits_of w (neg_ℤ (pos 0)) ≡ 0
+bits_neg_zero w = zero-mod (2 ^ w)
+
+pub bits_neg : (w m : ℕ) → 0 < m → m < 2 ^ w → bits_of w (neg_ℤ (pos m)) ≡ 2 ^ w - m
+bits_neg w zero p l = absurd (omega (arith, p))
+bits_neg w (suc m) p l = bits_negsuc w m (omega (arith, l)) ∙ omega arith
+
+-- ---- quotients and remainders by the absolute values
+
+abbrev pub is_negative : ℤ → Bool
+is_negative (pos n) = false
+is_negative (negsuc n) = true
+
+pub div_alike : (x y : ℤ) → is_negative x ≡ is_negative y → int_div x y ≡ pos (unsigned_abs x / unsigned_abs y)
+div_alike (pos a) (pos b) e = refl
+div_alike (negsuc a) (negsuc b) e = refl
+div_alike (pos a) (negsuc b) e = cc
+div_alike (negsuc a) (pos b) e = cc
+
+pub div_unlike : (x y : ℤ) → is_negative x ≡ not (is_negative y) → int_div x y ≡ neg_ℤ (pos (unsigned_abs x / unsigned_abs y))
+div_unlike (pos a) (pos b) e = cc
+div_unlike (negsuc a) (negsuc b) e = cc
+div_unlike (pos a) (negsuc b) e = refl
+div_unlike (negsuc a) (pos b) e = refl
+
+pub rem_positive : (x y : ℤ) → is_negative x ≡ false → int_rem x y ≡ pos (unsigned_abs x % unsigned_abs y)
+rem_positive (pos a) y e = refl
+rem_positive (negsuc a) y e = cc
+
+pub rem_negative : (x y : ℤ) → is_negative x ≡ true → int_rem x y ≡ neg_ℤ (pos (unsigned_abs x % unsigned_abs y))
+rem_negative (pos a) y e = cc
+rem_negative (negsuc a) y e = refl
+
+pub sign_is : (w n : ℕ) → n < 2 ^ w → is_negative (signed w n) ≡ not (nat_lt n (2 ^ (w - 1)))
+sign_is w n l = elim (cases_lt n (2 ^ (w - 1))) [
+  | inl m ↦ ap is_negative (signed_low w n m) ∙ ap not (sym (lt-ltb n (2 ^ (w - 1)) m))
+  | inr m ↦ ap is_negative (signed_high w n m l) ∙ ap not (sym (not_less n (2 ^ (w - 1)) m))
+]
+
+-- ---- order
+
+pub less_low : (w a b : ℕ) → a < 2 ^ (w - 1) → b < 2 ^ (w - 1) → int_lt (signed w a) (signed w b) ≡ nat_lt a b
+less_low w a b l m = rw (signed_low w a l, signed_low w b m) refl
+
+less_flipped : (t a b : ℕ) → a ≤ t → b ≤ t → nat_lt (t - b) (t - a) ≡ nat_lt a b
+less_flipped t a b l m = grind arith
+
+pub less_high : (w a b : ℕ) → 2 ^ (w - 1) ≤ a → 2 ^ (w - 1) ≤ b → a < 2 ^ w → b < 2 ^ w → int_lt (signed w a) (signed w b) ≡ nat_lt a b
+less_high w a b l m p q = rw (signed_high w a l p, signed_high w b m q) (less_flipped (2 ^ w - 1) a b (omega (arith, p)) (omega (arith, q)))
+
+pub less_mixed : (w a b : ℕ) → a < 2 ^ (w - 1) → 2 ^ (w - 1) ≤ b → b < 2 ^ w → int_lt (signed w a) (signed w b) ≡ false
+less_mixed w a b l m q = rw (signed_low w a l, signed_high w b m q) refl
+
+pub less_crossed : (w a b : ℕ) → 2 ^ (w - 1) ≤ a → a < 2 ^ w → b < 2 ^ (w - 1) → int_lt (signed w a) (signed w b) ≡ true
+less_crossed w a b l p m = rw (signed_high w a l p, signed_low w b m) refl
+
+nat_le_not : (a b : ℕ) → not (nat_lt b a) ≡ (int_le (pos a) (pos b))
+nat_le_not a b = grind arith
+
+-- not greater is less or equal
+pub le_is : (x y : ℤ) → int_le x y ≡ not (int_lt y x)
+le_is (pos a) (pos b) = sym (nat_le_not a b)
+le_is (pos a) (negsuc b) = refl
+le_is (negsuc a) (pos b) = refl
+le_is (negsuc a) (negsuc b) = sym (nat_le_not b a)
+
+-- ---- what the functions need
+
+pub pow_up : (i j : ℕ) → i ≤ j → 2 ^ i ≤ 2 ^ j
+pow_up i j l = elim (cases_lt i j) [
+  | inl m ↦ let below = pow_below i j m in omega (arith, below)
+  | inr m ↦ let same : i ≡ j = omega (arith, l, m) in rw same (omega arith)
+]
+
+-- what the test of the sign says
+pub is_high : (w n : ℕ) → not (nat_lt n (2 ^ (w - 1))) ≡ true → 2 ^ (w - 1) ≤ n
+is_high w n h = ltb-false n (2 ^ (w - 1)) (not_true (nat_lt n (2 ^ (w - 1))) h)
+  where
+    not_true : (b : Bool) → not b ≡ true → b ≡ false
+    not_true true e = cc
+    not_true false e = refl
+
+pub is_low : (w n : ℕ) → not (nat_lt n (2 ^ (w - 1))) ≡ false → n < 2 ^ (w - 1)
+is_low w n h = ltb-true n (2 ^ (w - 1)) (not_false (nat_lt n (2 ^ (w - 1))) h)
+  where
+    not_false : (b : Bool) → not b ≡ false → b ≡ true
+    not_false true e = refl
+    not_false false e = cc
+
+pub abs_below : (w n : ℕ) → n < 2 ^ w → unsigned_abs (signed w n) < 2 ^ w
+abs_below w n l = elim (cases_lt n (2 ^ (w - 1))) [
+  | inl m ↦ rw (signed_low w n m) l
+  | inr m ↦ let p = pow_pos (w - 1) in rw (signed_high w n m l) (omega (arith, p, m, l))
+]
+
+beq_same : (x y : Bool) → beq x y ≡ true → x ≡ y
+beq_same true true h = refl
+beq_same false false h = refl
+beq_same true false h = cc
+beq_same false true h = cc
+
+pub quotient_alike : (w a b : ℕ) → a < 2 ^ w → b < 2 ^ w → beq (not (nat_lt a (2 ^ (w - 1)))) (not (nat_lt b (2 ^ (w - 1)))) ≡ true →
+    bits_of w (int_div (signed w a) (signed w b)) ≡ unsigned_abs (signed w a) / unsigned_abs (signed w b)
+quotient_alike w a b la lb e =
+    let same = sign_is w a la ∙ beq_same _ _ e ∙ sym (sign_is w b lb) in
+    let low = div-le_self (unsigned_abs (signed w a)) (unsigned_abs (signed w b)) in
+    let few = abs_below w a la in
+    ap (bits_of w) (div_alike (signed w a) (signed w b) same) ∙ bits_pos w (unsigned_abs (signed w a) / unsigned_abs (signed w b)) (omega (arith, low, few))
+
+pub remainder_positive : (w a b : ℕ) → a < 2 ^ w → not (nat_lt a (2 ^ (w - 1))) ≡ false →
+    bits_of w (int_rem (signed w a) (signed w b)) ≡ unsigned_abs (signed w a) % unsigned_abs (signed w b)
+remainder_positive w a b la e =
+    let low = mod-le (unsigned_abs (signed w a)) (unsigned_abs (signed w b)) in
+    let few = abs_below w a la in
+    ap (bits_of w) (rem_positive (signed w a) (signed w b) (sign_is w a la ∙ e)) ∙ bits_pos w (unsigned_abs (signed w a) % unsigned_abs (signed w b)) (omega (arith, low, few))
+
+pub shifted_high : (w a m : ℕ) → 2 ^ (w - 1) ≤ a → a < 2 ^ w → bits_of w (shr_z (signed w a) m) ≡ 2 ^ w - 1 - (2 ^ w - 1 - a) / m
+shifted_high w a m l h =
+    let low = div-le_self (2 ^ w - 1 - a) m in
+    ap (λ z. bits_of w (shr_z z m)) (signed_high w a l h) ∙ bits_negsuc w ((2 ^ w - 1 - a) / m) (omega (arith, low, h))
+
+pub extended_high : (from to n : ℕ) → 2 ^ (from - 1) ≤ n → n < 2 ^ from → from ≤ to → bits_of to (signed from n) ≡ 2 ^ to - 1 - (2 ^ from - 1 - n)
+extended_high from to n l h up =
+    let more = pow_up from to up in
+    ap (bits_of to) (signed_high from n l h) ∙ bits_negsuc to (2 ^ from - 1 - n) (omega (arith, more, h))
+
+pub extended_low : (from to n : ℕ) → n < 2 ^ (from - 1) → n < 2 ^ from → from ≤ to → bits_of to (signed from n) ≡ n
+extended_low from to n l h up =
+    let more = pow_up from to up in
+    ap (bits_of to) (signed_low from n l) ∙ bits_pos to n (omega (arith, more, h))

@@ -1,0 +1,199 @@
+// Integers of a number of bits.
+ghost use Rattle.std.specs.Prelude.{◌≡◌, ◌+◌, ◌-◌, ◌*◌, ◌/◌, ◌%◌, ◌^◌, ◌<◌, ◌≤◌, pos, negsuc, neg_ℤ, ◌-ℤ◌, nat_lt, not, int_lt, int_div, int_rem, unsigned_abs, bit_and, bit_or, bit_xor, if◌then◌else◌};
+ghost use Rattle.std.specs.Int.Signed.{shr_z};
+ghost use Rattle.mu_values.specs.Integers.{IsInteger, signed, bits_of, shift, binary_value, converted, IsConversion};
+
+use crate::operators::{BinOp, ConvOp};
+
+/// The integer whose bits are all 1.
+fn ones(width: u32) -> u128
+    requires { width ≤ 64 }
+    ensures { result ≡ 2 ^ width - 1 }
+{
+    (1 << width) - 1
+}
+
+/// The low bits.
+fn low_bits(width: u32, n: u128) -> u128
+    requires { width ≤ 64 }
+    ensures { result ≡ n % 2 ^ width }
+{
+    n % (1 << width)
+}
+
+pub fn is_negative(width: u32, n: u128) -> bool
+    requires { IsInteger width n }
+    ensures { result ≡ not (nat_lt n (2 ^ (width - 1))) }
+{
+    n >= 1 << (width - 1)
+}
+
+/// Whether the one is less than the other as signed integers: where both have one sign, as unsigned ones.
+pub fn is_less(width: u32, a: u128, b: u128) -> bool
+    requires a { IsInteger width a }
+    requires b { IsInteger width b }
+    ensures { result ≡ int_lt (signed width a) (signed width b) }
+{
+    if is_negative(width, a) == is_negative(width, b) {
+        a < b
+    } else {
+        is_negative(width, a)
+    }
+}
+
+/// The absolute value of a signed integer.
+fn magnitude(width: u32, n: u128) -> u128
+    requires { IsInteger width n }
+    ensures { result ≡ unsigned_abs (signed width n) }
+{
+    if is_negative(width, n) {
+        ones(width) - n + 1
+    } else {
+        n
+    }
+}
+
+/// The bits of -n.
+pub fn negated(width: u32, n: u128) -> u128
+    requires { IsInteger width n }
+    ensures { result ≡ bits_of width (neg_ℤ (pos n)) }
+{
+    if n == 0 { 0 } else { ones(width) - n + 1 }
+}
+
+fn subtract(width: u32, a: u128, b: u128) -> u128
+    requires a { IsInteger width a }
+    requires b { IsInteger width b }
+    ensures { result ≡ bits_of width (pos a -ℤ pos b) }
+{
+    if b <= a {
+        a - b
+    } else {
+        ones(width) - (b - a) + 1
+    }
+}
+
+fn signed_quotient(width: u32, a: u128, b: u128) -> u128
+    requires a { IsInteger width a }
+    requires b { IsInteger width b }
+    requires divisor { 0 < b }
+    ensures { result ≡ bits_of width (int_div (signed width a) (signed width b)) }
+{
+    let quotient = magnitude(width, a) / magnitude(width, b);
+    if is_negative(width, a) == is_negative(width, b) {
+        quotient
+    } else {
+        negated(width, quotient)
+    }
+}
+
+fn signed_remainder(width: u32, a: u128, b: u128) -> u128
+    requires a { IsInteger width a }
+    requires b { IsInteger width b }
+    requires divisor { 0 < b }
+    ensures { result ≡ bits_of width (int_rem (signed width a) (signed width b)) }
+{
+    let remainder = magnitude(width, a) % magnitude(width, b);
+    if is_negative(width, a) {
+        negated(width, remainder)
+    } else {
+        remainder
+    }
+}
+
+/// How far a shift by `b` goes.
+fn distance(width: u32, b: u128) -> u32
+    requires { IsInteger width b }
+    ensures is { result ≡ b % width }
+    ensures low { result < width }
+{
+    (b % width as u128) as u32
+}
+
+fn shift_left(width: u32, a: u128, b: u128) -> u128
+    requires a { IsInteger width a }
+    requires b { IsInteger width b }
+    ensures { result ≡ (a * shift width b) % 2 ^ width }
+{
+    low_bits(width, a * (1 << distance(width, b)))
+}
+
+fn shift_right(width: u32, a: u128, b: u128) -> u128
+    requires a { IsInteger width a }
+    requires b { IsInteger width b }
+    ensures { result ≡ a / shift width b }
+{
+    a >> distance(width, b)
+}
+
+/// A negative integer is the complement of one that is not.
+fn shift_signed(width: u32, a: u128, b: u128) -> u128
+    requires a { IsInteger width a }
+    requires b { IsInteger width b }
+    ensures { result ≡ bits_of width (shr_z (signed width a) (shift width b)) }
+{
+    if is_negative(width, a) {
+        ones(width) - shift_right(width, ones(width) - a, b)
+    } else {
+        shift_right(width, a, b)
+    }
+}
+
+/// What the operation makes of two integers of that many bits, 1 to 64. None comes exactly where a divisor is 0. The least
+/// integer divided by -1 is itself, with remainder 0. It takes constant time and no memory.
+pub fn binary(op: BinOp, width: u32, a: u128, b: u128) -> Option<u128>
+    requires a { IsInteger width a }
+    requires b { IsInteger width b }
+    ensures { result ≡ binary_value op width a b }
+{
+    match op {
+        BinOp::Add => Some(low_bits(width, a + b)),
+        BinOp::Sub => Some(subtract(width, a, b)),
+        BinOp::Mul => Some(low_bits(width, a * b)),
+        BinOp::Sdiv => if b == 0 {
+            None
+        } else {
+            Some(signed_quotient(width, a, b))
+        },
+        BinOp::Srem => if b == 0 {
+            None
+        } else {
+            Some(signed_remainder(width, a, b))
+        },
+        BinOp::Udiv => if b == 0 { None } else { Some(a / b) },
+        BinOp::Urem => if b == 0 { None } else { Some(a % b) },
+        BinOp::Shl => Some(shift_left(width, a, b)),
+        BinOp::Lshr => Some(shift_right(width, a, b)),
+        BinOp::Ashr => Some(shift_signed(width, a, b)),
+        BinOp::And => Some(a & b),
+        BinOp::Or => Some(a | b),
+        BinOp::Xor => Some(a ^ b),
+    }
+}
+
+/// What the integer of width `from` is at width `to`. It takes constant time and no memory.
+pub fn convert(op: ConvOp, from: u32, to: u32, bits: u128) -> u128
+    requires bits { IsInteger from bits }
+    requires to { (1 ≤ to) × (to ≤ 64) }
+    requires fits { IsConversion op from to }
+    ensures { result ≡ converted op from to bits }
+{
+    match op {
+        ConvOp::Trunc => low_bits(to, bits),
+        ConvOp::Zext => bits,
+        ConvOp::Sext => extend(from, to, bits),
+    }
+}
+
+fn extend(from: u32, to: u32, bits: u128) -> u128
+    requires bits { IsInteger from bits }
+    requires to { from ≤ to }
+    requires low { to ≤ 64 }
+    ensures { result ≡ bits_of to (signed from bits) }
+{
+    if is_negative(from, bits) {
+        ones(to) - (ones(from) - bits)
+    } else {
+        bits
+    }
+}

@@ -1,0 +1,49 @@
+// Operations on integers.
+
+/// An operation on two integers of one width.
+#[derive(Clone, Copy, Debug, PartialEq, Eq)]
+pub enum BinOp {
+    Add,
+    Sub,
+    Mul,
+    /// Signed quotient, rounded toward zero.
+    Sdiv,
+    /// Signed remainder, with the sign of the left operand.
+    Srem,
+    Udiv,
+    Urem,
+    /// Shifts are by the right operand modulo the width.
+    Shl,
+    Lshr,
+    /// A shift that copies the sign.
+    Ashr,
+    And,
+    Or,
+    Xor,
+}
+
+/// A comparison. `S` is signed, `U` unsigned.
+#[derive(Clone, Copy, Debug, PartialEq, Eq)]
+pub enum CmpOp {
+    Eq,
+    Ne,
+    Slt,
+    Sle,
+    Sgt,
+    Sge,
+    Ult,
+    Ule,
+    Ugt,
+    Uge,
+}
+
+/// A change of an integer's width.
+#[derive(Clone, Copy, Debug, PartialEq, Eq)]
+pub enum ConvOp {
+    /// The low bits.
+    Trunc,
+    /// Zeros in front.
+    Zext,
+    /// Copies of the sign in front.
+    Sext,
+}

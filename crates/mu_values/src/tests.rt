@@ -1,0 +1,362 @@
+use crate::{
+    BinOp, CmpOp, ConstFault, ConstKind, ConvOp, Literal, LiteralKind, Made, Passed, Scalar, Slots,
+    Value, binary, compare, convert, judge_const, make_const,
+};
+use mu_base::{Ids, Types};
+use mu_types::{Classes, TypeDef, TypeFault, TypeGraph, classes};
+use std::alloc::{AllocError, Global};
+use std::test::Fail;
+
+#[test]
+fn computes_with_integers(rt: HostRuntime) -> Result<(), Fail> {
+    let rows: [(BinOp, u32, u128, u128, Option<u128>); 82] = [
+        (BinOp::Add, 8, 255, 1, Some(0)),
+        (BinOp::Add, 8, 127, 1, Some(128)),
+        (BinOp::Add, 8, 128, 128, Some(0)),
+        (BinOp::Add, 64, 18446744073709551615, 1, Some(0)),
+        (
+            BinOp::Add,
+            64,
+            9223372036854775807,
+            1,
+            Some(9223372036854775808),
+        ),
+        (
+            BinOp::Add,
+            64,
+            9223372036854775808,
+            9223372036854775808,
+            Some(0),
+        ),
+        (BinOp::Sub, 8, 0, 1, Some(255)),
+        (BinOp::Sub, 8, 128, 1, Some(127)),
+        (BinOp::Sub, 8, 0, 128, Some(128)),
+        (BinOp::Sub, 64, 0, 1, Some(18446744073709551615)),
+        (
+            BinOp::Sub,
+            64,
+            9223372036854775808,
+            1,
+            Some(9223372036854775807),
+        ),
+        (
+            BinOp::Sub,
+            64,
+            0,
+            9223372036854775808,
+            Some(9223372036854775808),
+        ),
+        (BinOp::Mul, 8, 255, 255, Some(1)),
+        (BinOp::Mul, 8, 128, 2, Some(0)),
+        (BinOp::Mul, 8, 127, 127, Some(1)),
+        (
+            BinOp::Mul,
+            64,
+            18446744073709551615,
+            18446744073709551615,
+            Some(1),
+        ),
+        (BinOp::Mul, 64, 9223372036854775808, 2, Some(0)),
+        (
+            BinOp::Mul,
+            64,
+            9223372036854775807,
+            9223372036854775807,
+            Some(1),
+        ),
+        (BinOp::Sdiv, 8, 128, 255, Some(128)),
+        (BinOp::Sdiv, 8, 128, 1, Some(128)),
+        (BinOp::Sdiv, 8, 249, 2, Some(253)),
+        (
+            BinOp::Sdiv,
+            64,
+            9223372036854775808,
+            18446744073709551615,
+            Some(9223372036854775808),
+        ),
+        (
+            BinOp::Sdiv,
+            64,
+            9223372036854775808,
+            1,
+            Some(9223372036854775808),
+        ),
+        (
+            BinOp::Sdiv,
+            64,
+            18446744073709551609,
+            2,
+            Some(18446744073709551613),
+        ),
+        (BinOp::Srem, 8, 128, 255, Some(0)),
+        (BinOp::Srem, 8, 249, 2, Some(255)),
+        (BinOp::Srem, 8, 7, 254, Some(1)),
+        (
+            BinOp::Srem,
+            64,
+            9223372036854775808,
+            18446744073709551615,
+            Some(0),
+        ),
+        (
+            BinOp::Srem,
+            64,
+            18446744073709551609,
+            2,
+            Some(18446744073709551615),
+        ),
+        (BinOp::Srem, 64, 7, 18446744073709551614, Some(1)),
+        (BinOp::Udiv, 8, 255, 2, Some(127)),
+        (BinOp::Udiv, 8, 128, 255, Some(0)),
+        (BinOp::Udiv, 8, 255, 128, Some(1)),
+        (
+            BinOp::Udiv,
+            64,
+            18446744073709551615,
+            2,
+            Some(9223372036854775807),
+        ),
+        (
+            BinOp::Udiv,
+            64,
+            9223372036854775808,
+            18446744073709551615,
+            Some(0),
+        ),
+        (
+            BinOp::Udiv,
+            64,
+            18446744073709551615,
+            9223372036854775808,
+            Some(1),
+        ),
+        (BinOp::Urem, 8, 255, 2, Some(1)),
+        (BinOp::Urem, 8, 128, 255, Some(128)),
+        (BinOp::Urem, 8, 255, 128, Some(127)),
+        (BinOp::Urem, 64, 18446744073709551615, 2, Some(1)),
+        (
+            BinOp::Urem,
+            64,
+            9223372036854775808,
+            18446744073709551615,
+            Some(9223372036854775808),
+        ),
+        (
+            BinOp::Urem,
+            64,
+            18446744073709551615,
+            9223372036854775808,
+            Some(9223372036854775807),
+        ),
+        (BinOp::Shl, 8, 255, 8, Some(255)),
+        (BinOp::Shl, 8, 1, 7, Some(128)),
+        (BinOp::Shl, 8, 255, 9, Some(254)),
+        (
+            BinOp::Shl,
+            64,
+            18446744073709551615,
+            64,
+            Some(18446744073709551615),
+        ),
+        (BinOp::Shl, 64, 1, 63, Some(9223372036854775808)),
+        (
+            BinOp::Shl,
+            64,
+            18446744073709551615,
+            65,
+            Some(18446744073709551614),
+        ),
+        (BinOp::Lshr, 8, 255, 8, Some(255)),
+        (BinOp::Lshr, 8, 255, 7, Some(1)),
+        (BinOp::Lshr, 8, 128, 9, Some(64)),
+        (
+            BinOp::Lshr,
+            64,
+            18446744073709551615,
+            64,
+            Some(18446744073709551615),
+        ),
+        (BinOp::Lshr, 64, 18446744073709551615, 63, Some(1)),
+        (
+            BinOp::Lshr,
+            64,
+            9223372036854775808,
+            65,
+            Some(4611686018427387904),
+        ),
+        (BinOp::Ashr, 8, 128, 8, Some(128)),
+        (BinOp::Ashr, 8, 128, 7, Some(255)),
+        (BinOp::Ashr, 8, 127, 1, Some(63)),
+        (
+            BinOp::Ashr,
+            64,
+            9223372036854775808,
+            64,
+            Some(9223372036854775808),
+        ),
+        (
+            BinOp::Ashr,
+            64,
+            9223372036854775808,
+            63,
+            Some(18446744073709551615),
+        ),
+        (
+            BinOp::Ashr,
+            64,
+            9223372036854775807,
+            1,
+            Some(4611686018427387903),
+        ),
+        (BinOp::And, 8, 255, 128, Some(128)),
+        (BinOp::And, 8, 90, 60, Some(24)),
+        (
+            BinOp::And,
+            64,
+            18446744073709551615,
+            9223372036854775808,
+            Some(9223372036854775808),
+        ),
+        (BinOp::And, 64, 90, 60, Some(24)),
+        (BinOp::Or, 8, 127, 128, Some(255)),
+        (BinOp::Or, 8, 90, 60, Some(126)),
+        (
+            BinOp::Or,
+            64,
+            9223372036854775807,
+            9223372036854775808,
+            Some(18446744073709551615),
+        ),
+        (BinOp::Or, 64, 90, 60, Some(126)),
+        (BinOp::Xor, 8, 255, 128, Some(127)),
+        (BinOp::Xor, 8, 90, 60, Some(102)),
+        (
+            BinOp::Xor,
+            64,
+            18446744073709551615,
+            9223372036854775808,
+            Some(9223372036854775807),
+        ),
+        (BinOp::Xor, 64, 90, 60, Some(102)),
+        (BinOp::Sdiv, 1, 1, 1, Some(1)),
+        (BinOp::Sdiv, 1, 1, 0, None),
+        (BinOp::Srem, 1, 1, 1, Some(0)),
+        (BinOp::Srem, 1, 1, 0, None),
+        (BinOp::Srem, 1, 0, 0, None),
+        (BinOp::Ashr, 1, 1, 1, Some(1)),
+        (BinOp::Ashr, 1, 1, 0, Some(1)),
+        (BinOp::Ashr, 1, 0, 1, Some(0)),
+        (BinOp::Shl, 1, 1, 1, Some(1)),
+        (BinOp::Shl, 1, 1, 0, Some(1)),
+    ];
+    for (op, width, a, b, expected) in rows {
+        assert_eq!(rt; binary(op, width, a, b), expected);
+    }
+    Ok(())
+}
+
+#[test]
+fn compares_and_converts(rt: HostRuntime) -> Result<(), Fail> {
+    let least = Scalar::Int {
+        width: 8,
+        bits: 128,
+    };
+    let one = Scalar::Int { width: 8, bits: 1 };
+    assert!(rt; compare(CmpOp::Slt, &least, &one));
+    assert!(rt; !compare(CmpOp::Ult, &least, &one));
+    assert!(rt; compare(CmpOp::Uge, &least, &one));
+    assert!(rt; compare(CmpOp::Eq, &Scalar::Null, &Scalar::Null));
+    assert!(rt; compare(CmpOp::Ne, &Scalar::Null, &Scalar::Object(0)));
+    assert_eq!(rt; convert(ConvOp::Trunc, 64, 8, 511), 255);
+    assert_eq!(rt; convert(ConvOp::Zext, 8, 64, 128), 128);
+    assert_eq!(rt; convert(ConvOp::Sext, 8, 16, 128), 65408);
+    Ok(())
+}
+
+fn value(alloc: Global, scalars: &[Scalar]) -> Result<Value, AllocError> {
+    let mut value = Value::new(alloc);
+    for scalar in scalars {
+        value.push(*scalar)?;
+    }
+    Ok(value)
+}
+
+#[test]
+fn keeps_values_in_a_row(rt: HostRuntime) -> Result<(), Fail> {
+    let mut slots = Slots::new(rt.alloc());
+    slots.reserve(2, 2)?;
+    slots.push(value(rt.alloc(), &[Scalar::Null, Scalar::Func(7)])?)?;
+    slots.push(value(rt.alloc(), &[])?)?;
+    slots.push(value(rt.alloc(), &[Scalar::Stack(1)])?)?;
+    assert_eq!(rt; slots.len(), 3);
+    assert_eq!(rt; slots.at(0), [Scalar::Null, Scalar::Func(7)].as_slice());
+    assert_eq!(rt; slots.at(1).len(), 0);
+    assert_eq!(rt; slots.at(2), [Scalar::Stack(1)].as_slice());
+    let mut types = Types::new(rt.alloc());
+    for class in 4..7 {
+        types.push(class)?;
+    }
+    if types.len() == slots.len() {
+        let passed = Passed::new(types, slots);
+        assert_eq!(rt; passed.types().len(), 3);
+        assert_eq!(rt; passed.values().len(), 3);
+        let (types, slots) = passed.into_parts();
+        assert_eq!(rt; types.at(1), 5);
+        assert_eq!(rt; slots.at(0).len(), 2);
+    }
+    Ok(())
+}
+
+/// The types of a bundle that has `int<8>` alone
+fn one_type(alloc: Global) -> Result<Classes, TypeFault> {
+    let mut graph = TypeGraph::new(alloc);
+    graph.add(TypeDef::Int { width: 8 }, Ids::new(alloc))?;
+    classes(alloc, graph)
+}
+
+fn number(negative: bool, magnitude: u128) -> Literal {
+    Literal {
+        place: 40,
+        kind: LiteralKind::Number {
+            negative,
+            magnitude,
+        },
+    }
+}
+
+#[test]
+fn judges_and_makes_constants(rt: HostRuntime) -> Result<(), Fail> {
+    let types = Ids::new(rt.alloc());
+    let classes = one_type(rt.alloc())?;
+    assert_eq!(rt;
+        judge_const(&classes, 0, &number(false, 255), &types),
+        Ok(())
+    );
+    assert_eq!(rt;
+        judge_const(&classes, 0, &number(true, 128), &types),
+        Ok(())
+    );
+    let too_wide = ConstFault {
+        kind: ConstKind::OutOfWidth,
+        place: 40,
+    };
+    assert_eq!(rt;
+        judge_const(&classes, 0, &number(false, 256), &types),
+        Err(too_wide)
+    );
+    assert_eq!(rt;
+        judge_const(&classes, 0, &number(true, 129), &types),
+        Err(too_wide)
+    );
+    let mut made = Made::new(rt.alloc());
+    let least = make_const(rt.alloc(), &classes, 0, &number(true, 128), &made)?;
+    let expected = Scalar::Int {
+        width: 8,
+        bits: 128,
+    };
+    assert_eq!(rt; least.as_slice(), [expected].as_slice());
+    made.add(3, least)?;
+    assert_eq!(rt; made.value(3), [expected].as_slice());
+    assert_eq!(rt; made.value(0).len(), 0);
+    Ok(())
+}
