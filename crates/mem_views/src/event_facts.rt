@@ -1,5 +1,6 @@
 // What an event is: the tests of the definitions, of one event.
-ghost use Rattle.std.specs.Prelude.{◌≡◌, ◌&&◌, ◌||◌};
+ghost use Rattle.std.specs.Prelude.{◌≡◌, ◌&&◌, ◌||◌, true, false, MatchOption};
+ghost use Rattle.typed_heap.specs.declared.cells.CellId.{CellId};
 ghost use Rattle.mu_values.specs.SameScalar.{same_scalar};
 ghost use Rattle.typed_heap.specs.SameCell.{same_cell};
 ghost use Rattle.mem_axioms.specs.Events.{is_atomic, is_seq_cst, loads, accesses, modifies, is_update, is_modification, order_of, position_of, position_taken, is_fence, is_seq_cst_fence, is_wake};
@@ -185,4 +186,14 @@ pub fn wake(event: &Event) -> bool
     ensures { result ≡ is_wake event.now }
 {
     matches!(event.kind, Kind::Wake { .. })
+}
+
+/// The cell that the event accesses, if it is an access.
+pub fn cell_of(event: &Event) -> Option<CellId>
+    ensures { MatchOption result ((cell : CellId) → accesses cell event.now ≡ false) (λ cell. accesses cell event.now ≡ true) }
+{
+    match event.kind {
+        Kind::Access { cell, .. } => Some(cell),
+        _ => None,
+    }
 }

@@ -5,10 +5,17 @@
 mod cell;
 mod clock;
 mod event_facts;
+mod floors;
+mod gains;
 mod indexes;
+mod kept_cells;
 mod look_ups;
 mod places;
+mod probe;
+mod racing;
 mod rows;
 mod tables;
+mod view_memory;
 
 pub use clock::Clock;
+pub use view_memory::ViewMemory;
