@@ -1,5 +1,5 @@
 -- Searches for each thread stay within the bound.
-use Rattle.std.proofs.Common.{◌≡◌, ℕ, zero, suc, ◌+◌, ◌*◌, ◌≤◌, List, length, arith}
+use Rattle.std.proofs.Common.{◌≡◌, ℕ, ◌+◌, ◌*◌, ◌≤◌, List, arith}
 use Rattle.std.proofs.Math.Nat.{mul-le-mul_right}
 use Rattle.mem_axioms.specs.declared.types.Event.{Event}
 use Rattle.mem_views.specs.Threads.{thread_count}

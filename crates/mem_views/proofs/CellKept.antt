@@ -1,12 +1,9 @@
 -- What is kept of a cell with one more event.
-use Rattle.std.proofs.Common.{◌≡◌, ℕ, suc, ◌-◌, ◌<◌, ◌≤◌, Bool, true, false, cond, ◌&&◌, eqb, max, List, [], ◌∷◌, ◌++◌, length, Some, refl, sym, ap, ◌∙◌, inl, inr, ◌⊎◌, slice_index, arith}
-use Rattle.std.specs.Prelude.{◌^◌, All}
-use Rattle.std.proofs.lemmas.Bool.{false≢true}
-use Rattle.mu_values.specs.declared.scalars.Scalar.{Scalar}
+use Rattle.std.proofs.Common.{◌≡◌, ℕ, suc, ◌-◌, ◌<◌, Bool, true, false, List, [], ◌∷◌, length, refl, sym, ◌∙◌, slice_index, arith}
+use Rattle.std.specs.Prelude.{◌^◌}
 use Rattle.mu_values.specs.declared.scalars.Scalar.TheVariants.{Null}
 use Rattle.typed_heap.specs.declared.cells.CellId.{CellId}
-use Rattle.mem_axioms.specs.Events.{accesses, modifies, is_modification, is_update, position_of, value_of}
-use Rattle.mem_axioms.specs.Synchronizes.{continues}
+use Rattle.mem_axioms.specs.Events.{accesses, modifies, is_modification, position_of}
 use Rattle.mem_axioms.specs.declared.types.Event.{Event}
 use Rattle.mem_axioms.specs.declared.types.Rule.{Rule}
 use Rattle.mem_axioms.specs.declared.types.Kind.{Kind}
@@ -14,15 +11,13 @@ use Rattle.mem_axioms.specs.declared.types.Kind.TheVariants.{Access, Fence, NewS
 use Rattle.mem_axioms.specs.declared.types.Mode.TheVariants.{Read, Write, Update}
 use Rattle.clock_laws.specs.Clocks.{views, gives}
 use Rattle.write_history.specs.Rooms.{Accesses}
-use Rattle.mem_views.specs.Tables.{table_at}
 use Rattle.mem_views.specs.Indexed.{accesses_at, entries_of, by_thread}
 use Rattle.mem_views.specs.Families.{is_any, is_not_atomic, is_not_atomic_modification, has_seq_cst_order}
 use Rattle.mem_views.specs.CellAdded.{CellAdded, CellBelow, SameCell, IsFresh, Indexes}
 use Rattle.mem_views.specs.Looks.{IsFew, AllFew}
 use Rattle.mem_views.specs.Holding.{values_of, CellHolds, IsUntouched}
 use Rattle.mem_views.specs.declared.cell.CellViews.{CellViews}
-use Rattle.mem_axioms.specs.Logs.{event_at}
-use Rattle.mem_axioms.proofs.Numbers.{event-kept, event-newest}
+use Rattle.mem_axioms.proofs.Numbers.{event-newest}
 use Rattle.mem_views.proofs.Entries.{entries-few, entries-below, entries-none}
 use Rattle.mem_views.proofs.ValuesKept.{untouched-same, untouched-past}
 

@@ -1,14 +1,14 @@
 -- What is kept of all cells with one more event, one more place, or more room.
-use Rattle.std.proofs.Common.{◌≡◌, ℕ, zero, suc, ◌+◌, ◌<◌, ◌≤◌, Bool, true, false, cond, ◌&&◌, eqb, List, [], ◌∷◌, ◌++◌, length, Some, refl, sym, ap, ◌∙◌, inl, inr, ◌⊎◌, slice_index, arith}
+use Rattle.std.proofs.Common.{◌≡◌, ℕ, zero, suc, ◌+◌, ◌<◌, true, false, cond, List, [], ◌∷◌, ◌++◌, length, Some, sym, ap, ◌∙◌, inl, inr, ◌⊎◌, slice_index, arith}
 use Rattle.std.specs.Prelude.{slice_get, slice_index_or, slice_set}
-use Rattle.std.proofs.lemmas.Bool.{false≢true, cases_eq, cases_lt, cases_Bool}
+use Rattle.std.proofs.lemmas.Bool.{false≢true, cases_eq, cases_Bool}
 use Rattle.std.proofs.lemmas.List.{get_or_default, get_or_append_left, get_or_push, get_or-set_same, get_or-set_other, length-set}
 use Rattle.mu_values.specs.declared.scalars.Scalar.{Scalar}
 use Rattle.typed_heap.specs.declared.cells.CellId.{CellId}
 use Rattle.typed_heap.specs.SameCell.{same_cell}
-use Rattle.typed_heap.proofs.Equal.{same_cell-true, same_cell-refl}
+use Rattle.typed_heap.proofs.Equal.{same_cell-true}
 use Rattle.mem_axioms.specs.Events.{accesses}
-use Rattle.mem_axioms.specs.Logs.{event_at, newest}
+use Rattle.mem_axioms.specs.Logs.{newest}
 use Rattle.mem_axioms.specs.declared.types.Event.{Event}
 use Rattle.mem_axioms.specs.declared.types.Rule.{Rule}
 use Rattle.mem_axioms.specs.declared.types.Kind.{Kind}
@@ -16,7 +16,7 @@ use Rattle.mem_axioms.specs.declared.types.Kind.TheVariants.{Access, Fence, NewS
 use Rattle.mem_axioms.proofs.Numbers.{event-cases}
 use Rattle.clock_laws.specs.Clocks.{views, gives}
 use Rattle.mem_views.specs.Placing.{place_in, Owned}
-use Rattle.mem_views.specs.CellAdded.{CellAdded, CellRoom, CellBelow, SameCell, IsFresh}
+use Rattle.mem_views.specs.CellAdded.{CellAdded, CellRoom, SameCell, IsFresh}
 use Rattle.mem_views.specs.CellRooms.{CellRoomAt}
 use Rattle.mem_views.specs.AddedAt.{AddedAt, CanAdd}
 use Rattle.mem_views.specs.Holding.{CellHolds, CellsHold, IsUntouched}
@@ -190,7 +190,7 @@ added-at rule old place n e given before after l b a r = record {
 }
   where
     was : (d : CellViews) → slice_index_or old place d ≡ before
-    was d = get_or_default old place d before before l ∙ sym b
+    was d = get_or_default old place d before l ∙ sym b
 
 -- an access whose cell has a place
 pub cells-added : (rule : Rule) (log : List Event) (e : Event) (numbers : List (List ℕ)) (owners : List CellId) → Owned numbers owners → (old new : List CellViews) (cell : CellId) (place n : ℕ) (given : List ℕ) → n ≡ length log

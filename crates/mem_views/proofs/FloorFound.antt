@@ -1,5 +1,5 @@
 -- The floor of a load is the greatest of what three look-ups find.
-use Rattle.std.proofs.Common.{◌≡◌, ℕ, suc, ◌<◌, ◌≤◌, Bool, true, false, cond, ◌&&◌, ◌||◌, eqb, ltb, max, List, [], ◌∷◌, length, Some, slice_index, refl, sym, ap, ◌∙◌, inl, inr, ◌⊎◌, arith}
+use Rattle.std.proofs.Common.{◌≡◌, ℕ, ◌<◌, ◌≤◌, Bool, true, false, cond, ◌&&◌, ◌||◌, eqb, ltb, List, [], ◌∷◌, length, Some, slice_index, refl, sym, ap, ◌∙◌, inl, inr, ◌⊎◌, arith}
 use Rattle.std.proofs.lemmas.Bool.{false≢true, ltb-true, lt-ltb, and_from, and_parts, or_cases, cases_eq, ne_eqb, eq-eqb, eqb-true}
 use Rattle.mu_base.specs.declared.order.Order.{Order}
 use Rattle.mu_values.specs.declared.scalars.Scalar.{Scalar}
@@ -9,20 +9,19 @@ use Rattle.mem_axioms.specs.Logs.{event_at, last_number, greatest_position}
 use Rattle.mem_axioms.specs.Form.{has_form}
 use Rattle.mem_axioms.specs.Form.{is_value_at}
 use Rattle.mem_axioms.specs.Axioms.{is_coherent, is_seq_cst_ordered, meets_axioms}
-use Rattle.mem_axioms.specs.Floor.{seq_cst_limit, first_kind, second_kind, third_kind, raises_floor, floor}
+use Rattle.mem_axioms.specs.Floor.{seq_cst_limit, first_kind, second_kind, raises_floor, floor}
 use Rattle.mem_axioms.specs.declared.types.Event.{Event}
 use Rattle.mem_axioms.specs.declared.types.Rule.{Rule}
 use Rattle.mem_axioms.proofs.Numbers.{event-kept, event-cases, event-newest}
 use Rattle.mem_axioms.proofs.Relations.{Coherence, coherence-is}
 use Rattle.mem_axioms.proofs.Floors.{greatest-at, greatest-below}
-use Rattle.clock_laws.specs.Clocks.{Clock, views}
+use Rattle.clock_laws.specs.Clocks.{views}
 use Rattle.clock_laws.specs.NamedWakes.{wakes_are_named}
 use Rattle.clock_laws.specs.ViewFloor.{known_access, view_limit, fences_knew, raises_view_floor, view_floor}
 use Rattle.clock_laws.proofs.FloorTests.{view_floor-is}
-use Rattle.write_history.specs.Rooms.{Accesses}
 use Rattle.mem_views.specs.Tables.{table_at}
 use Rattle.mem_views.specs.Families.{is_any, has_seq_cst_order}
-use Rattle.mem_views.specs.Indexed.{accesses_at, entries_of, by_thread}
+use Rattle.mem_views.specs.Indexed.{by_thread}
 use Rattle.mem_views.specs.Holding.{RowsHold, CellHolds, IsUntouched, fence_by}
 use Rattle.mem_views.specs.Answers.{IsKnown}
 use Rattle.mem_views.specs.FloorLooks.{IsFound, FoundFloor}
@@ -97,7 +96,7 @@ module _ (rule : Rule) (log : List Event) (thread : ℕ) where
   pub limit-found : (rows : Rows) (known : List ℕ) (found : ℕ) → RowsHold rule log rows → IsKnown rule log thread known → IsFound rows.fences.items known found → found ≡ last_number is_known_fence log
   limit-found rows known found h k f =
       let low : found ≤ last_number is_known_fence log = found-below (λ n e. n) fence_by log rows.fences.items known found h.fences (λ u e t. (fence-parts u e t).1) fences-rise f (last_number is_known_fence log)
-          (λ y ey at t l. number-at is_known_fence log y ey at (and_from (is_seq_cst_fence ey) (ltb y ((views rule log).thread thread ey.thread)) (fence-parts ey.thread ey t).0 (lt-ltb y ((views rule log).thread thread ey.thread) (let z = k ey.thread in omega (arith, l, z))))) in
+      (λ y ey at t l. number-at is_known_fence log y ey at (and_from (is_seq_cst_fence ey) (ltb y ((views rule log).thread thread ey.thread)) (fence-parts ey.thread ey t).0 (lt-ltb y ((views rule log).thread thread ey.thread) (let z = k ey.thread in omega (arith, l, z))))) in
       let high : last_number is_known_fence log ≤ found = up (number-there is_known_fence log) in
       omega (arith, low, high)
     where

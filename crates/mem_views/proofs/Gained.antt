@@ -1,7 +1,6 @@
 -- What an event takes, gains and gives, by what is kept.
-use Rattle.std.proofs.Common.{◌≡◌, ℕ, ◌-◌, Bool, true, false, cond, ◌&&◌, eqb, max, List, length, Some, refl, sym, ap, ◌∙◌, slice_index}
+use Rattle.std.proofs.Common.{◌≡◌, ℕ, Bool, true, false, cond, ◌&&◌, eqb, List, length, refl, sym, ap, ◌∙◌, slice_index}
 use Rattle.std.proofs.lemmas.Bool.{false≢true, and_parts, eqb-true}
-use Rattle.mu_values.specs.declared.scalars.Scalar.{Scalar}
 use Rattle.typed_heap.specs.declared.cells.CellId.{CellId}
 use Rattle.typed_heap.proofs.Equal.{same_cell-true, same_cell-refl}
 use Rattle.mem_axioms.specs.Events.{accesses, position_taken, loads, is_atomic, is_wake}
@@ -12,7 +11,7 @@ use Rattle.mem_axioms.specs.declared.types.Rule.{Rule}
 use Rattle.mem_axioms.specs.declared.types.Kind.{Kind}
 use Rattle.mem_axioms.specs.declared.types.Kind.TheVariants.{Access, Fence, NewStack, NewThread, Leave, Enter, Wake, Woken}
 use Rattle.mem_axioms.proofs.Numbers.{any-some}
-use Rattle.clock_laws.specs.Clocks.{Views, views, gains, pends, gives, knows}
+use Rattle.clock_laws.specs.Clocks.{Views, views, gains, pends, gives}
 use Rattle.clock_laws.specs.NamedWakes.{names_wake}
 use Rattle.mem_views.specs.Tables.{table_at}
 use Rattle.mem_views.specs.Gaining.{takes_atomic, given_of}

@@ -1,6 +1,6 @@
 -- The least of what look-ups for each thread find is the race.
-use Rattle.std.proofs.Common.{◌≡◌, ◌≢◌, ℕ, suc, zero, ◌<◌, ◌≤◌, Bool, true, false, cond, not, ◌&&◌, ◌||◌, eqb, ltb, leb, ◌-◌, max, List, [], ◌∷◌, length, Option, Some, None, slice_index, refl, sym, ap, ◌∙◌, inl, inr, ◌⊎◌, ◌↔◌, arith}
-use Rattle.std.proofs.lemmas.Bool.{false≢true, le-leb, lt-leb, lt-ltb, le-ltb, leb-true, ltb-true, eqb-true, eq-eqb, ne_eqb, cases_lt, and_from, and_parts}
+use Rattle.std.proofs.Common.{◌≡◌, ◌≢◌, ℕ, suc, ◌≤◌, Bool, true, false, cond, not, ◌&&◌, ◌||◌, eqb, ltb, leb, ◌-◌, max, List, ◌∷◌, length, Option, Some, None, slice_index, refl, sym, ap, ◌∙◌, inl, inr, arith}
+use Rattle.std.proofs.lemmas.Bool.{false≢true, le-leb, lt-ltb, le-ltb, leb-true, eqb-true, eq-eqb, cases_lt, and_from, and_parts}
 use Rattle.mu_values.specs.declared.scalars.Scalar.{Scalar}
 use Rattle.typed_heap.specs.declared.cells.CellId.{CellId}
 use Rattle.mem_axioms.specs.Events.{accesses, is_atomic, order_of, is_modification, on_one_cell}
@@ -12,11 +12,10 @@ use Rattle.mem_axioms.specs.declared.types.Event.{Event}
 use Rattle.mem_axioms.specs.declared.types.Rule.{Rule}
 use Rattle.mem_axioms.proofs.Racings.{LeastOr, least-is}
 use Rattle.mem_axioms.proofs.Kept.{on_one, one_cell}
-use Rattle.clock_laws.specs.Clocks.{views, knew}
+use Rattle.clock_laws.specs.Clocks.{views}
 use Rattle.clock_laws.proofs.Tests.{next-test}
-use Rattle.write_history.specs.Rooms.{Accesses}
 use Rattle.write_history.specs.Indexes.{first_after}
-use Rattle.mem_views.specs.Families.{is_any, is_not_atomic, is_not_atomic_modification}
+use Rattle.mem_views.specs.Families.{is_not_atomic}
 use Rattle.mem_views.specs.Indexed.{accesses_at, entries_of, by_thread}
 use Rattle.mem_views.specs.LookUps.{FirstAfter, LeastOf}
 use Rattle.mem_views.specs.Racing.{race_indexes, IsFirstUnknown}
@@ -111,7 +110,7 @@ module _ (rule : Rule) (initial : CellId → Scalar) (log : List Event) (cell : 
       let own = eqb-true u ei.thread p.1 in
       let apart : not (eqb ei.thread e.thread) ≡ true = not-is (eqb ei.thread e.thread) (λ z. n (own ∙ eqb-true ei.thread e.thread z)) in
       let c : may_race ei e ≡ true = clash (on_one_cell ei e) (eqb ei.thread e.thread) (is_modification ei) (is_modification e) (is_atomic (order_of ei)) (is_atomic (order_of e))
-          ∙ and_from (on_one_cell ei e && not (eqb ei.thread e.thread)) (family_of e ei) (and_from (on_one_cell ei e) (not (eqb ei.thread e.thread)) (on_one ei e cell q.0 f.access) apart) q.1 in
+      ∙ and_from (on_one_cell ei e && not (eqb ei.thread e.thread)) (family_of e ei) (and_from (on_one_cell ei e) (not (eqb ei.thread e.thread)) (on_one ei e cell q.0 f.access) apart) q.1 in
       let k : slice_index clock ei.thread ≤ i = rw own at l in
       let b : happens_before rule (e ∷ log) i (length log) ≡ false = before-is i ei at ∙ le-ltb i (slice_index clock ei.thread) k in
       and_from (may_race ei e) (not (happens_before rule (e ∷ log) i (length log))) c (rw b refl)

@@ -1,15 +1,15 @@
 -- What a load or a failing comparison may read, by the floor, and the values that it reads.
-use Rattle.std.proofs.Common.{◌≡◌, ℕ, zero, suc, ◌+◌, ◌-◌, ◌<◌, ◌≤◌, Bool, true, false, not, ◌&&◌, leb, Option, Some, None, List, [], ◌∷◌, length, filter, slice_get, refl, sym, ap, ◌∙◌, inl, inr, ◌⊎◌, ◌↔◌, arith}
-use Rattle.std.proofs.lemmas.Bool.{false≢true, le-leb, lt-leb, leb-true, cases_lt}
+use Rattle.std.proofs.Common.{◌≡◌, ℕ, zero, suc, ◌+◌, ◌-◌, ◌<◌, ◌≤◌, Bool, true, false, not, ◌&&◌, leb, Some, None, List, [], ◌∷◌, length, filter, slice_get, refl, sym, ap, ◌∙◌, inl, inr, ◌⊎◌, ◌↔◌, arith}
+use Rattle.std.proofs.lemmas.Bool.{false≢true, le-leb, lt-leb, cases_lt}
 use Rattle.mu_base.specs.declared.order.Order.{Order}
 use Rattle.mu_values.specs.declared.scalars.Scalar.{Scalar}
 use Rattle.typed_heap.specs.declared.cells.CellId.{CellId}
-use Rattle.mem_axioms.specs.Events.{modifies, position_of}
+use Rattle.mem_axioms.specs.Events.{modifies}
 use Rattle.mem_axioms.specs.Logs.{newest}
 use Rattle.mem_axioms.specs.Form.{value_at, has_form, fits_form, is_value_at}
 use Rattle.mem_axioms.specs.Axioms.{meets_axioms}
 use Rattle.mem_axioms.specs.Choices.{is_option, options, holds}
-use Rattle.mem_axioms.specs.Reads.{is_kept, reads}
+use Rattle.mem_axioms.specs.Reads.{reads}
 use Rattle.mem_axioms.specs.Floor.{floor}
 use Rattle.mem_axioms.specs.declared.types.Event.{Event}
 use Rattle.mem_axioms.specs.declared.types.Rule.{Rule}
@@ -18,8 +18,8 @@ use Rattle.mem_axioms.proofs.Values.{value-kept}
 use Rattle.mem_axioms.proofs.Downward.{below, below-same}
 use Rattle.mem_axioms.proofs.Offers.{may_take, reads-below}
 use Rattle.mem_axioms.proofs.Options.{floor-option, floor-below, options-number, options-nth}
-use Rattle.mem_views.specs.Differing.{differs_from, looks_bound}
-use Rattle.mem_views.specs.Holding.{values_of, CellHolds}
+use Rattle.mem_views.specs.Differing.{differs_from}
+use Rattle.mem_views.specs.Holding.{CellHolds}
 use Rattle.mem_views.specs.declared.cell.CellViews.{CellViews}
 use Rattle.mem_views.proofs.ValuesKept.{values-at, values-length}
 
@@ -67,6 +67,9 @@ below-none test (suc n) h = rw (h n (omega arith)) (below-none test n (λ p l. h
 -- below the floor nothing is read
 pub below-floor : (initial : CellId → Scalar) (log : List Event) (cell : CellId) (f : ℕ) (scalar : Scalar) → below (differs_from initial log cell f scalar) f ≡ []
 below-floor initial log cell f scalar = below-none (differs_from initial log cell f scalar) f (λ p l. rw (lt-leb f p l) refl)
+
+pub below-under : (initial : CellId → Scalar) (log : List Event) (cell : CellId) (f : ℕ) (scalar : Scalar) (n : ℕ) → n ≤ f → below (differs_from initial log cell f scalar) n ≡ []
+below-under initial log cell f scalar n h = below-none (differs_from initial log cell f scalar) n (λ p l. rw (lt-leb f p (omega (arith, l, h))) refl)
 
 module _ (rule : Rule) (initial : CellId → Scalar) (log : List Event) (thread : ℕ) (cell : CellId) (order : Order) (m : meets_axioms rule initial log ≡ true) where
   option-test : (p : ℕ) → p ≤ newest log cell → is_option rule initial log thread cell order p ≡ leb (floor rule log thread cell order) p

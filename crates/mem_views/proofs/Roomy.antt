@@ -1,5 +1,5 @@
 -- Room after one more event.
-use Rattle.std.proofs.Common.{◌≡◌, ℕ, suc, ◌+◌, ◌-◌, ◌<◌, ◌≤◌, Bool, true, false, Option, Some, None, List, [], ◌∷◌, ◌++◌, length, length-append, refl, sym, ap, ◌∙◌, inl, inr, ◌⊎◌, arith}
+use Rattle.std.proofs.Common.{◌≡◌, ℕ, ◌+◌, ◌-◌, ◌<◌, true, false, Some, List, [], ◌∷◌, ◌++◌, length, length-append, refl, sym, ap, ◌∙◌, inl, inr, ◌⊎◌, arith}
 use Rattle.std.proofs.lemmas.Bool.{false≢true}
 use Rattle.typed_heap.specs.declared.cells.CellId.{CellId}
 use Rattle.typed_heap.proofs.Equal.{same_cell-true, same_cell-refl}
@@ -12,7 +12,7 @@ use Rattle.mem_axioms.specs.declared.types.Kind.TheVariants.{Access, Fence, NewS
 use Rattle.mem_views.specs.CellRooms.{CellRoomAt}
 use Rattle.mem_views.specs.Roominess.{CellFits}
 use Rattle.mem_views.specs.declared.cell.CellViews.{CellViews}
-use Rattle.mem_views.proofs.CellsKept.{cell-room-less, one-access}
+use Rattle.mem_views.proofs.CellsKept.{cell-room-less}
 
 room-kind : (room : Room) (t : ℕ) (k : Kind) (cell : CellId) → HasRoom room (record { thread = t; kind = k }) → accesses cell (record { thread = t; kind = k }) ≡ true → (room.thread ≡ t) × (room.cell ≡ Some cell)
 room-kind room t (Access mode of o p x) cell h a = (h.1.0, h.1.1 ∙ ap Some (same_cell-true of cell a))
@@ -62,7 +62,7 @@ fits-less room e numbers old new f h same less cell q t = go (access-cases e)
     some-one x y p = cc
 
     go : ((c : CellId) → accesses c e ≡ false) ⊎ ((x : CellId) × (accesses x e ≡ true)) → CellRoomAt (room.events - 1) room.thread numbers new cell
-    go (inl no) = rw (same no) (cell-room-less (room.events - 1) room.thread numbers old cell had)
+    go (inl none) = rw (same none) (cell-room-less (room.events - 1) room.thread numbers old cell had)
     go (inr w) =
         let r = room-of room e w.0 h w.1 in
         let x : w.0 ≡ cell = some-one w.0 cell (sym r.1 ∙ q) in

@@ -1,5 +1,5 @@
 -- The threads of a run, and what holds of its log.
-use Rattle.std.proofs.Common.{◌≡◌, ℕ, suc, ◌+◌, ◌<◌, ◌≤◌, Bool, true, false, ◌&&◌, ◌||◌, eqb, List, [], ◌∷◌, ◌++◌, length, length-append, Some, None, refl, sym, ap, ◌∙◌, inl, inr, ◌⊎◌, arith}
+use Rattle.std.proofs.Common.{◌≡◌, ℕ, ◌<◌, ◌≤◌, Bool, true, false, ◌&&◌, ◌||◌, eqb, List, [], ◌∷◌, ◌++◌, length, length-append, Some, None, refl, sym, ap, ◌∙◌, inl, inr, ◌⊎◌, arith}
 use Rattle.std.specs.Prelude.{All, Contains}
 use Rattle.std.proofs.lemmas.Bool.{false≢true, or_cases, eqb-true, eq-eqb, and_from, cases_lt}
 use Rattle.std.proofs.lemmas.List.{get_or_push, get_or_append_left}
@@ -7,21 +7,20 @@ use Rattle.std.proofs.lemmas.List.Elements.{Contains-append_left, Contains-appen
 use Rattle.mu_values.specs.declared.scalars.Scalar.{Scalar}
 use Rattle.typed_heap.specs.declared.cells.CellId.{CellId}
 use Rattle.mem_axioms.specs.Events.{accesses}
-use Rattle.mem_axioms.specs.Logs.{event_at, any_event}
+use Rattle.mem_axioms.specs.Logs.{event_at}
 use Rattle.mem_axioms.specs.Synchronizes.{makes_thread}
 use Rattle.mem_axioms.specs.EventFits.{is_thread, EventFits}
 use Rattle.mem_axioms.specs.Races.{race}
-use Rattle.mem_axioms.specs.Known.{HasCells}
 use Rattle.mem_axioms.specs.declared.types.Event.{Event}
 use Rattle.mem_axioms.specs.declared.types.Rule.{Rule}
 use Rattle.mem_axioms.specs.declared.types.Kind.{Kind}
 use Rattle.mem_axioms.specs.declared.types.Kind.TheVariants.{Access, Fence, NewStack, NewThread, Leave, Enter, Wake, Woken}
-use Rattle.mem_axioms.proofs.Numbers.{event-kept, event-cases, event-newest}
+use Rattle.mem_axioms.proofs.Numbers.{event-cases}
 use Rattle.mem_axioms.proofs.Growing.{cells-more, sound-more, sound-none, cells-none}
 use Rattle.mem_axioms.proofs.Widening.{cells-wider, sound-wider}
 use Rattle.clock_laws.specs.NamedWakes.{names_wake, wakes_are_named}
 use Rattle.mem_views.specs.Threads.{threads_of}
-use Rattle.mem_views.specs.Holding.{LogHolds, MadeHolds, CellHolds, IsUntouched}
+use Rattle.mem_views.specs.Holding.{LogHolds, MadeHolds, CellHolds}
 use Rattle.mem_views.specs.Families.{is_any, is_not_atomic, is_not_atomic_modification, has_seq_cst_order}
 use Rattle.mem_axioms.specs.Events.{is_modification, position_of}
 use Rattle.write_history.specs.Rooms.{Accesses}

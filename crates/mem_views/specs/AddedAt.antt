@@ -1,7 +1,6 @@
 -- What one more access does to what is kept of the cells.
-use Rattle.std.specs.Prelude.{◌≡◌, ℕ, suc, ◌+◌, ◌<◌, true, List, length, slice_index_or}
+use Rattle.std.specs.Prelude.{◌≡◌, ℕ, suc, ◌+◌, ◌<◌, List, length, slice_index_or}
 use Rattle.typed_heap.specs.declared.cells.CellId.{CellId}
-use Rattle.mem_axioms.specs.Events.{accesses}
 use Rattle.mem_axioms.specs.declared.types.Rule.{Rule}
 use Rattle.mem_axioms.specs.declared.types.Event.{Event}
 use Rattle.mem_views.specs.Placing.{place_in}

@@ -1,5 +1,5 @@
 -- What the look-ups for a floor find.
-use Rattle.std.specs.Prelude.{ℕ, ◌≡◌, ◌≤◌, ◌+◌, ◌*◌, ◌^◌, ◌<◌, max, List, length}
+use Rattle.std.specs.Prelude.{ℕ, ◌≡◌, ◌≤◌, max, List}
 use Rattle.write_history.specs.Rooms.{Accesses}
 use Rattle.mem_views.specs.LookUps.{position_known}
 use Rattle.mem_views.specs.declared.cell.CellViews.{CellViews}

@@ -9,6 +9,7 @@ ghost use Rattle.mem_views.specs.Placing.{place_in};
 ghost use Rattle.mem_views.specs.CellAdded.{CellRoom, CellBelow};
 ghost use Rattle.mem_views.specs.CellRooms.{CellRoomAt};
 ghost use Rattle.mem_views.specs.AddedAt.{AddedAt, CanAdd};
+ghost use Rattle.mem_views.specs.Roominess.{CellFits};
 ghost use Rattle.mem_views.specs.Holding.{CellsHold};
 
 use crate::cell::CellViews;
@@ -82,7 +83,7 @@ fn make_place(
 }
 
 /// Gives the cell a place if it has none.
-pub fn touch(
+fn touch(
     places: &mut Places,
     kept: &mut Vec<CellViews>,
     alloc: Global,
@@ -100,7 +101,7 @@ pub fn touch(
 }
 
 /// Makes room for that many more accesses of a touched cell by a thread.
-pub fn reserve(
+fn reserve(
     places: &Places,
     kept: &mut Vec<CellViews>,
     alloc: Global,
@@ -119,4 +120,29 @@ pub fn reserve(
         unreachable!()
     };
     kept[place].reserve(alloc, thread, count)
+}
+
+/// Makes room for that many accesses by a thread of a cell, if there is one. A number of 64 or more is no thread's, and
+/// takes no room.
+pub fn reserve_step(
+    places: &mut Places,
+    kept: &mut Vec<CellViews>,
+    alloc: Global,
+    thread: u32,
+    cell: Option<CellId>,
+    events: u32,
+) -> Result<(), AllocError>
+    requires placed { length places.old.owners.items ≡ length kept.old.items }
+    ensures placed { length places.new.owners.items ≡ length kept.new.items }
+    ensures holds { (rule : Rule) (log : List Event) → CellsHold rule log places.old.objects.items kept.old.items → CellsHold rule log places.new.objects.items kept.new.items }
+    ensures room { OnOk result (CellFits (record { thread = thread; cell = cell; events = events }) places.new.objects.items kept.new.items) }
+{
+    let Some(accessed) = cell else {
+        return Ok(());
+    };
+    if 64 <= thread {
+        return Ok(());
+    }
+    touch(places, kept, alloc, accessed)?;
+    reserve(places, kept, alloc, accessed, thread, events)
 }

@@ -1,5 +1,5 @@
-//! Parts of the memory that runs will use: histories, indexes and clocks in place of whole logs. Clocks, their rows, what is
-//! kept of one cell, look-ups and the places of touched cells stand; the memory that is made of them does not yet.
+//! The memory that runs use: histories, indexes and clocks in place of whole logs. It keeps the contract of the trait
+//! `Memory`, and each call looks at few entries of histories and indexes.
 #![tactic(auto)]
 
 mod cell;
@@ -11,7 +11,6 @@ mod indexes;
 mod kept_cells;
 mod look_ups;
 mod places;
-mod probe;
 mod racing;
 mod rows;
 mod tables;

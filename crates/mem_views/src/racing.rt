@@ -51,5 +51,11 @@ pub fn first_racing<L: Ledger>(
     if modification(event) {
         return found_unknown(&kept.not_atomic, threads, event.thread, clock, steps);
     }
-    found_unknown(&kept.not_atomic_modifications, threads, event.thread, clock, steps)
+    found_unknown(
+        &kept.not_atomic_modifications,
+        threads,
+        event.thread,
+        clock,
+        steps,
+    )
 }

@@ -154,12 +154,7 @@ impl ViewMemory {
     }
 
     /// The least earlier event that races with one that gains a clock.
-    fn race_of<L: Ledger>(
-        &self,
-        event: &Event,
-        gained: &Clock,
-        steps: &mut Steps<L>,
-    ) -> Option<u32>
+    fn race_of<L: Ledger>(&self, event: &Event, gained: &Clock, steps: &mut Steps<L>) -> Option<u32>
         requires fits { EventFits self.now.rule (scalars_of self.now.objects.items) self.now.tape.events event.now }
         requires gained { (u : ℕ) → slice_index gained.now u ≡ gains (views self.now.rule self.now.tape.events) event.now u }
         ensures race { result ≡ race self.now.rule self.now.tape.events event.now }
@@ -247,13 +242,7 @@ impl ViewMemory {
     }
 
     /// The least position that a load of the cell may read.
-    fn floor<L: Ledger>(
-        &self,
-        thread: u32,
-        cell: CellId,
-        order: Order,
-        steps: &mut Steps<L>,
-    ) -> u32
+    fn floor<L: Ledger>(&self, thread: u32, cell: CellId, order: Order, steps: &mut Steps<L>) -> u32
         ensures floor { result ≡ floor self.now.rule self.now.tape.events thread cell order }
         ensures cost { (d : ℕ) → length self.now.tape.events < 2 ^ d → steps.new ≤ steps.old + floor_bound self.now.tape.events d }
     {
@@ -536,19 +525,14 @@ impl Memory for ViewMemory {
         self.tape.reserve_many(events as usize)?;
         self.rows.reserve(self.alloc, events)?;
         reserve_threads(&mut self.made, events as usize)?;
-        if let Some(cell) = cell {
-            if thread < 64 {
-                kept_cells::touch(&mut self.places, &mut self.kept, self.alloc, cell)?;
-                kept_cells::reserve(
-                    &self.places,
-                    &mut self.kept,
-                    self.alloc,
-                    cell,
-                    thread,
-                    events,
-                )?;
-            }
-        }
+        kept_cells::reserve_step(
+            &mut self.places,
+            &mut self.kept,
+            self.alloc,
+            thread,
+            cell,
+            events,
+        )?;
         self.room = Room {
             thread,
             cell,

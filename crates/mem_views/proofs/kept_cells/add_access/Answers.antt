@@ -1,4 +1,4 @@
-use Rattle.std.proofs.Common.{◌≡◌, suc, sym, arith}
+use Rattle.std.proofs.Common.{◌≡◌, suc, arith}
 use Rattle.mem_views.specs.Placing.{place_in}
 use Rattle.mem_views.proofs.CellsKept.{cells-added, cells-same, one-access, room-less}
 use Rattle.mem_views.proofs.kept_cells.add_access.Goals as goal

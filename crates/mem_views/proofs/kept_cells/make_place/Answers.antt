@@ -1,4 +1,4 @@
-use Rattle.std.proofs.Common.{◌≡◌, ◌+◌, ◌∙◌, suc, length, cond, sym, ap, ℕ, arith}
+use Rattle.std.proofs.Common.{◌+◌, ◌∙◌, length, cond, ap, ℕ}
 use Rattle.typed_heap.specs.SameCell.{same_cell}
 use Rattle.mem_views.specs.Placing.{place_in}
 use Rattle.mem_views.proofs.CellsKept.{cells-touched, cells-moved, place-below}

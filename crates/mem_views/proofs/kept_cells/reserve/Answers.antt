@@ -1,5 +1,4 @@
-use Rattle.std.proofs.Common.{◌≡◌, ◌<◌, suc, length, arith}
-use Rattle.mem_views.specs.Placing.{place_in}
+use Rattle.std.proofs.Common.{◌<◌, length, arith}
 use Rattle.mem_views.proofs.CellsKept.{place-below, cells-set}
 use Rattle.mem_views.proofs.kept_cells.reserve.Goals as goal
 

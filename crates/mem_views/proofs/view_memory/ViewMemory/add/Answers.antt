@@ -1,7 +1,5 @@
-use Rattle.std.proofs.Common.{◌≡◌, ◌+◌, ◌-◌, suc, sym, ap, arith, ℕ}
+use Rattle.std.proofs.Common.{◌≡◌, ◌+◌, ◌-◌, arith}
 use Rattle.mem_axioms.specs.Scalars.{scalars_of}
-use Rattle.clock_laws.specs.Clocks.{views, gives}
-use Rattle.mem_views.specs.RowsAdded.{RowsRoom}
 use Rattle.mem_views.proofs.Gained.{gives-are}
 use Rattle.mem_views.proofs.RowsKept.{rows-more, rows-below}
 use Rattle.mem_views.proofs.ThreadsMade.{log-more, made-more}

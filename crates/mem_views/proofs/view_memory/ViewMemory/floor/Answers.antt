@@ -1,4 +1,4 @@
-use Rattle.std.proofs.Common.{◌∙◌, sym, arith, length}
+use Rattle.std.proofs.Common.{◌∙◌, length}
 use Rattle.mem_axioms.specs.Objects.{initial_of}
 use Rattle.mem_axioms.specs.Scalars.{scalars_of}
 use Rattle.mem_views.proofs.Budget.{four-within}

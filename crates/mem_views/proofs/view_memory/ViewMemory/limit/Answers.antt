@@ -1,4 +1,4 @@
-use Rattle.std.proofs.Common.{◌∙◌, sym, arith}
+use Rattle.std.proofs.Common.{◌∙◌, sym}
 use Rattle.mem_axioms.specs.Scalars.{scalars_of}
 use Rattle.mem_views.specs.Holding.{fence_by}
 use Rattle.mem_views.proofs.RowsKept.{rows-few}

@@ -1,9 +1,9 @@
-use Rattle.std.proofs.Common.{◌≡◌, ◌∙◌, ◌+◌, sym, ap, slice_get, length, List, ℕ, arith}
+use Rattle.std.proofs.Common.{◌∙◌, sym, ap, slice_get, length, List, ℕ, arith}
 use Rattle.mem_axioms.specs.Objects.{initial_of}
 use Rattle.mem_axioms.specs.Scalars.{scalars_of}
-use Rattle.mem_axioms.proofs.Downward.{below, below-in, below-in-length, below-out, below-here}
+use Rattle.mem_axioms.proofs.Downward.{below-in, below-in-length, below-out}
 use Rattle.mem_views.specs.Differing.{differs_from}
-use Rattle.mem_views.proofs.Reading.{below-floor}
+use Rattle.mem_views.proofs.Reading.{below-under}
 use Rattle.mem_views.proofs.view_memory.ViewMemory.nth_differing.Goals as goal
 
 pub loop-position-preserved-then-differs : goal.loop-position-preserved-then-differs
@@ -35,7 +35,6 @@ loop-position-preserved g c =
 pub unreachable-requires : goal.unreachable-requires
 unreachable-requires g c =
     let memory = c.args.self.now in
-    let end : c.loop-position.position ≡ c.args.floor = omega arith in
-    let there = rw end at c.loop-position.invariant.there in
-    let none = ap (λ (positions : List ℕ). length positions) (below-floor (initial_of (scalars_of memory.objects.items)) memory.tape.events c.args.cell c.args.floor c.args.scalar) in
+    let there = c.loop-position.invariant.there in
+    let none = ap (λ (positions : List ℕ). length positions) (below-under (initial_of (scalars_of memory.objects.items)) memory.tape.events c.args.cell c.args.floor c.args.scalar c.loop-position.position (omega arith)) in
     omega (arith, there, none)

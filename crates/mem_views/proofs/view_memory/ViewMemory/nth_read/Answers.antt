@@ -1,4 +1,4 @@
-use Rattle.std.proofs.Common.{◌∙◌, sym, ap, length, slice_get, Some, List, ℕ, ◌-◌, arith}
+use Rattle.std.proofs.Common.{◌∙◌, sym, ap, slice_get, Some, List, ℕ, ◌-◌, arith}
 use Rattle.mem_axioms.specs.Objects.{initial_of}
 use Rattle.mem_axioms.specs.Scalars.{scalars_of}
 use Rattle.mem_views.proofs.Reading.{floor-low, reads-count, reads-nth, reads-differing, options-count}

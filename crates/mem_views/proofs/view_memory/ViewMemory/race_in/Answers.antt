@@ -1,8 +1,7 @@
-use Rattle.std.proofs.Common.{◌≤◌, ◌≡◌, ◌+◌, ◌*◌, List, Option, Some, None, length, arith, ℕ}
+use Rattle.std.proofs.Common.{Some, None, length, arith}
 use Rattle.mem_axioms.specs.Objects.{initial_of}
 use Rattle.mem_axioms.specs.Races.{race}
 use Rattle.mem_axioms.specs.Scalars.{scalars_of}
-use Rattle.mem_views.specs.Answers.{one_higher}
 use Rattle.mem_views.proofs.Budget.{one-within}
 use Rattle.mem_views.proofs.CellKept.{cell-few}
 use Rattle.mem_views.proofs.ThreadsMade.{made-small, made-few, cell-made}
