@@ -18,3 +18,6 @@ mod view_memory;
 
 pub use clock::Clock;
 pub use view_memory::ViewMemory;
+
+#[cfg(test)]
+mod tests;
