@@ -19,6 +19,7 @@ use Rattle.mem_axioms.proofs.Kept.{on_one}
 use Rattle.write_history.specs.Rooms.{Accesses}
 use Rattle.mem_views.specs.Indexed.{accesses_at, entries_by}
 use Rattle.mem_views.specs.LookUps.{position_known}
+use Rattle.mem_views.specs.FloorLooks.{IsFound}
 use Rattle.mem_views.proofs.Entries.{last_below, entries-floor}
 
 mode-kind : (t : ℕ) (k : Kind) (c : CellId) → accesses c (record { thread = t; kind = k }) ≡ true → (is_read (record { thread = t; kind = k }) ≡ true) ⊎ (modifies c (record { thread = t; kind = k }) ≡ true)
@@ -67,11 +68,6 @@ module _ (position : ℕ → Event → ℕ) (test : Event → Bool) (bound : ℕ
       go ih true p = let q = and_parts (test e) _ p in inr (length past, e, event-newest e past, q.0, ltb-true (length past) bound q.1, rw (p, last_below) refl)
       go (inl z) false p = inl (rw (p, last_below) z)
       go (inr z) false p = inr (z.0, z.1, event-kept e past z.0 z.1 z.2, z.3, z.4, rw (p, last_below) z.5)
-
--- what the loop over the threads answered
-pub record IsFound (indexes : List Accesses) (clock : List ℕ) (found : ℕ) : Type 0 where
-  pub above : (u : ℕ) → position_known indexes clock u ≤ found
-  pub least : (p : ℕ) → ((u : ℕ) → position_known indexes clock u ≤ p) → found ≤ p
 
 -- it is at most p exactly where the positions of the events that the clock knows are
 module _ (position : ℕ → Event → ℕ) (test : ℕ → Event → Bool) (log : List Event) (indexes : List Accesses) (clock : List ℕ) (found : ℕ)

@@ -6,3 +6,12 @@ pub mod Entries
 pub mod Found
 pub mod ValuesKept
 pub mod RowsKept
+pub mod CellKept
+pub mod ThreadsMade
+pub mod Gained
+pub mod CellsKept
+pub mod FloorFound
+pub mod RaceFound
+pub mod Reading
+pub mod Budget
+pub mod Roomy

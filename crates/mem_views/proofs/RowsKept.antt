@@ -1,5 +1,6 @@
 -- The clocks of threads, stacks, wakes and fences with one more event.
-use Rattle.std.proofs.Common.{◌≡◌, ℕ, ◌<◌, Bool, true, false, cond, ◌&&◌, eqb, List, ◌∷◌, length, Some, refl, ◌∙◌, inl, inr, ◌⊎◌, slice_index, arith}
+use Rattle.std.proofs.Common.{◌≡◌, ℕ, ◌<◌, Bool, true, false, cond, ◌&&◌, eqb, suc, List, [], ◌∷◌, length, Some, refl, ◌∙◌, inl, inr, ◌⊎◌, slice_index, arith}
+use Rattle.std.specs.Prelude.{◌^◌, All}
 use Rattle.std.proofs.lemmas.Bool.{eq-eqb, ne_eqb}
 use Rattle.mem_axioms.specs.Events.{is_wake, is_seq_cst_fence}
 use Rattle.mem_axioms.specs.Logs.{event_at}
@@ -9,7 +10,10 @@ use Rattle.mem_axioms.proofs.Numbers.{event-cases}
 use Rattle.clock_laws.specs.Clocks.{views, knows, gains, pends}
 use Rattle.mem_views.specs.Tables.{table_at}
 use Rattle.mem_views.specs.RowsAdded.{RowsAdded}
-use Rattle.mem_views.specs.Holding.{RowsHold}
+use Rattle.mem_views.specs.Holding.{RowsHold, fence_by}
+use Rattle.mem_views.specs.Indexed.{accesses_at}
+use Rattle.mem_views.specs.Looks.{IsFew}
+use Rattle.mem_views.proofs.Entries.{entries-few, entries-below}
 use Rattle.mem_views.specs.declared.rows.Rows.{Rows}
 
 and-false : (b : Bool) → (b && false) ≡ false
@@ -48,3 +52,24 @@ module _ (rule : Rule) (log : List Event) (e : Event) (old new : Rows) (gained t
     before = before-more;
     fences = λ u. a.fences u ∙ rw (h.fences u) refl;
   }
+
+-- the fences of a thread are no more than the events
+pub rows-few : (rule : Rule) (log : List Event) (rows : Rows) (d : ℕ) → RowsHold rule log rows → length log < 2 ^ d → IsFew d rows.fences.items
+rows-few rule log rows d h l u = rw (h.fences u) (let n = entries-few (λ n e. n) (fence_by u) log in omega (arith, n, l))
+
+-- and have numbers of the log
+pub rows-below : (rule : Rule) (log : List Event) (rows : Rows) (t : ℕ) → RowsHold rule log rows → All (λ entry. entry.event < suc (length log)) (accesses_at rows.fences.items t)
+rows-below rule log rows t h = rw (h.fences t) (entries-below (λ n e. n) (fence_by t) log)
+
+pub rows-none : (rule : Rule) (rows : Rows) → ((t u : ℕ) → table_at rows.threads t u ≡ 0) → ((s u : ℕ) → table_at rows.left s u ≡ 0) → ((t u : ℕ) → table_at rows.fenced t u ≡ 0) → ((t u : ℕ) → table_at rows.pending t u ≡ 0)
+    → ((u : ℕ) → slice_index rows.joined u ≡ 0) → ((u : ℕ) → accesses_at rows.fences.items u ≡ []) → RowsHold rule [] rows
+rows-none rule rows t l f p j i = record {
+  threads = t;
+  left = l;
+  fenced = f;
+  pending = p;
+  joined = j;
+  wakes = λ i e at. absurd (cc);
+  before = λ a e at. absurd (cc);
+  fences = i;
+}

@@ -1,14 +1,13 @@
 -- What the answers of look-ups rest on. No clause of a public call speaks of it.
-use Rattle.std.specs.Prelude.{◌≡◌, ◌↔◌, ℕ, suc, ◌<◌, true, List, length, slice_index, Option, Some, None}
+use Rattle.std.specs.Prelude.{◌≡◌, ℕ, suc, true, List, length, slice_index, Option, Some, None}
 use Rattle.mu_values.specs.declared.scalars.Scalar.{Scalar}
 use Rattle.typed_heap.specs.declared.cells.CellId.{CellId}
-use Rattle.mem_axioms.specs.Logs.{event_at}
 use Rattle.mem_axioms.specs.Axioms.{meets_axioms}
 use Rattle.mem_axioms.specs.Events.{accesses}
 use Rattle.mem_axioms.specs.Form.{fits_form, has_form}
 use Rattle.mem_axioms.specs.declared.types.Rule.{Rule}
 use Rattle.mem_axioms.specs.declared.types.Event.{Event}
-use Rattle.clock_laws.specs.Clocks.{Clock, views, knew}
+use Rattle.clock_laws.specs.Clocks.{views, knew}
 use Rattle.clock_laws.specs.NamedWakes.{names_wake, wakes_are_named}
 use Rattle.mem_views.specs.Holding.{RowsHold, CellHolds}
 use Rattle.mem_views.specs.declared.cell.CellViews.{CellViews}
@@ -20,10 +19,6 @@ pub record RowFacts (rule : Rule) (initial : CellId → Scalar) (log : List Even
   pub named : wakes_are_named log ≡ true
   pub counted : next ≡ length log
   pub rows_hold : RowsHold rule log rows
-
--- two clocks know the same events of the log
-abbrev pub KnowSame : List Event → Clock → Clock → Type 0
-KnowSame log a b = (y : ℕ) (ey : Event) → event_at log y ≡ Some ey → (y < a ey.thread) ↔ (y < b ey.thread)
 
 -- a clock is what a thread knows
 abbrev pub IsKnown : Rule → List Event → ℕ → List ℕ → Type 0

@@ -11,3 +11,9 @@ pub mod Bounds
 pub mod Holding
 pub mod Looks
 pub mod Answers
+pub mod Gaining
+pub mod Racing
+pub mod FloorLooks
+pub mod Roominess
+pub mod AddedAt
+pub mod Differing

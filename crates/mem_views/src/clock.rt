@@ -28,6 +28,15 @@ impl Clock {
         Clock { known: [0; 64] }
     }
 
+    /// A clock that knows all events below a number.
+    pub fn below(number: u32) -> Clock
+        ensures { (u : ℕ) → u < 64 → slice_index result u ≡ number }
+    {
+        Clock {
+            known: [number; 64],
+        }
+    }
+
     /// The number of a thread.
     pub fn of(&self, thread: usize) -> u32
         requires { thread < 64 }

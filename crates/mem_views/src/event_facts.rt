@@ -1,21 +1,14 @@
 // What an event is: the tests of the definitions, of one event.
-ghost use Rattle.std.specs.Prelude.{◌≡◌, ◌&&◌, ◌||◌};
+ghost use Rattle.std.specs.Prelude.{◌≡◌, ◌&&◌, ◌||◌, true, false, MatchOption};
+ghost use Rattle.typed_heap.specs.declared.cells.CellId.{CellId};
 ghost use Rattle.mu_values.specs.SameScalar.{same_scalar};
-ghost use Rattle.typed_heap.specs.SameCell.{same_cell};
-ghost use Rattle.mem_axioms.specs.Events.{is_atomic, is_seq_cst, loads, accesses, modifies, is_update, is_modification, order_of, position_of, position_taken, is_fence, is_seq_cst_fence, is_wake};
-ghost use Rattle.mem_axioms.specs.Synchronizes.{acquires, releases, gives_up, makes_thread};
+ghost use Rattle.mem_axioms.specs.Events.{is_atomic, is_seq_cst, loads, accesses, is_update, is_modification, order_of, position_of, position_taken, is_fence, is_seq_cst_fence, is_wake};
+ghost use Rattle.mem_axioms.specs.Synchronizes.{acquires, releases, makes_thread};
 
 use mem_axioms::{Event, Kind, Mode};
 use mu_base::Order;
 use mu_values::Scalar;
 use typed_heap::CellId;
-
-/// Whether two cells are one.
-pub fn is_same_cell(a: CellId, b: CellId) -> bool
-    ensures { result ≡ same_cell a b }
-{
-    a.object == b.object && a.at == b.at
-}
 
 /// Whether two scalars are one.
 pub fn is_same_scalar(a: Scalar, b: Scalar) -> bool
@@ -63,30 +56,6 @@ pub fn release(order: Order) -> bool
     ensures { result ≡ releases order }
 {
     matches!(order, Order::Release | Order::AcqRel | Order::SeqCst)
-}
-
-/// Whether the event is an access of the cell.
-pub fn is_of_cell(event: &Event, cell: CellId) -> bool
-    ensures { result ≡ accesses cell event.now }
-{
-    match event.kind {
-        Kind::Access { cell: other, .. } => is_same_cell(other, cell),
-        _ => false,
-    }
-}
-
-/// Whether the event writes or updates the cell.
-pub fn modifies_cell(event: &Event, cell: CellId) -> bool
-    ensures { result ≡ modifies cell event.now }
-{
-    match event.kind {
-        Kind::Access {
-            mode,
-            cell: other,
-            ..
-        } => !matches!(mode, Mode::Read) && is_same_cell(other, cell),
-        _ => false,
-    }
 }
 
 /// Whether the event writes or updates a cell.
@@ -159,17 +128,6 @@ pub fn seq_cst_fence(event: &Event) -> bool
     fence(event) && seq_cst(order_in(event))
 }
 
-/// Whether the event leaves or makes the stack.
-pub fn gives_up_stack(event: &Event, stack: u32) -> bool
-    ensures { result ≡ gives_up stack event.now }
-{
-    match event.kind {
-        Kind::Leave { stack: left } => left == stack,
-        Kind::NewStack { stack: made } => made == stack,
-        _ => false,
-    }
-}
-
 /// Whether the event makes the thread.
 pub fn makes(event: &Event, thread: u32) -> bool
     ensures { result ≡ makes_thread thread event.now }
@@ -185,4 +143,14 @@ pub fn wake(event: &Event) -> bool
     ensures { result ≡ is_wake event.now }
 {
     matches!(event.kind, Kind::Wake { .. })
+}
+
+/// The cell that the event accesses, if it is an access.
+pub fn cell_of(event: &Event) -> Option<CellId>
+    ensures { MatchOption result ((cell : CellId) → accesses cell event.now ≡ false) (λ cell. accesses cell event.now ≡ true) }
+{
+    match event.kind {
+        Kind::Access { cell, .. } => Some(cell),
+        _ => None,
+    }
 }

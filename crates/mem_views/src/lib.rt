@@ -1,14 +1,23 @@
-//! Parts of the memory that runs will use: histories, indexes and clocks in place of whole logs. Clocks, their rows, what is
-//! kept of one cell, look-ups and the places of touched cells stand; the memory that is made of them does not yet.
+//! The memory that runs use: histories, indexes and clocks in place of whole logs. It keeps the contract of the trait
+//! `Memory`, and each call looks at few entries of histories and indexes.
 #![tactic(auto)]
 
 mod cell;
 mod clock;
 mod event_facts;
+mod floors;
+mod gains;
 mod indexes;
+mod kept_cells;
 mod look_ups;
 mod places;
+mod racing;
 mod rows;
 mod tables;
+mod view_memory;
 
 pub use clock::Clock;
+pub use view_memory::ViewMemory;
+
+#[cfg(test)]
+mod tests;

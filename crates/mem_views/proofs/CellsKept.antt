@@ -1,0 +1,214 @@
+-- What is kept of all cells with one more event, one more place, or more room.
+use Rattle.std.proofs.Common.{◌≡◌, ℕ, zero, suc, ◌+◌, ◌<◌, true, false, cond, List, [], ◌∷◌, ◌++◌, length, Some, sym, ap, ◌∙◌, inl, inr, ◌⊎◌, slice_index, arith}
+use Rattle.std.specs.Prelude.{slice_get, slice_index_or, slice_set}
+use Rattle.std.proofs.lemmas.Bool.{false≢true, cases_eq, cases_Bool}
+use Rattle.std.proofs.lemmas.List.{get_or_default, get_or_append_left, get_or_push, get_or-set_same, get_or-set_other, length-set}
+use Rattle.mu_values.specs.declared.scalars.Scalar.{Scalar}
+use Rattle.typed_heap.specs.declared.cells.CellId.{CellId}
+use Rattle.typed_heap.specs.SameCell.{same_cell}
+use Rattle.typed_heap.proofs.Equal.{same_cell-true}
+use Rattle.mem_axioms.specs.Events.{accesses}
+use Rattle.mem_axioms.specs.Logs.{newest}
+use Rattle.mem_axioms.specs.declared.types.Event.{Event}
+use Rattle.mem_axioms.specs.declared.types.Rule.{Rule}
+use Rattle.mem_axioms.specs.declared.types.Kind.{Kind}
+use Rattle.mem_axioms.specs.declared.types.Kind.TheVariants.{Access, Fence, NewStack, NewThread, Leave, Enter, Wake, Woken}
+use Rattle.mem_axioms.proofs.Numbers.{event-cases}
+use Rattle.clock_laws.specs.Clocks.{views, gives}
+use Rattle.mem_views.specs.Placing.{place_in, Owned}
+use Rattle.mem_views.specs.CellAdded.{CellAdded, CellRoom, SameCell, IsFresh}
+use Rattle.mem_views.specs.CellRooms.{CellRoomAt}
+use Rattle.mem_views.specs.AddedAt.{AddedAt, CanAdd}
+use Rattle.mem_views.specs.Holding.{CellHolds, CellsHold, IsUntouched}
+use Rattle.mem_views.specs.declared.cell.CellViews.{CellViews}
+use Rattle.mem_views.proofs.CellKept.{cell-more, cell-same, cell-kept, cell-fresh, cell-below}
+use Rattle.mem_views.proofs.ValuesKept.{values-length}
+
+one-kind : (t : ℕ) (k : Kind) (c cell : CellId) → accesses c (record { thread = t; kind = k }) ≡ true → accesses cell (record { thread = t; kind = k }) ≡ true → c ≡ cell
+one-kind t (Access mode of o p x) c cell h a = sym (same_cell-true of c h) ∙ same_cell-true of cell a
+one-kind t (Fence o) c cell h a = absurd (false≢true h)
+one-kind t (NewStack o) c cell h a = absurd (false≢true h)
+one-kind t (NewThread o) c cell h a = absurd (false≢true h)
+one-kind t (Leave o) c cell h a = absurd (false≢true h)
+one-kind t (Enter o) c cell h a = absurd (false≢true h)
+one-kind t (Wake o n) c cell h a = absurd (false≢true h)
+one-kind t (Woken o) c cell h a = absurd (false≢true h)
+
+-- an event accesses one cell
+pub one-access : (e : Event) (c cell : CellId) → accesses c e ≡ true → accesses cell e ≡ true → c ≡ cell
+one-access e = one-kind e.thread e.kind
+
+get-below : (xs : List CellId) (p : ℕ) (x : CellId) → slice_get xs p ≡ Some x → p < length xs
+get-below [] p x h = absurd (cc)
+get-below (y ∷ ys) zero x h = omega arith
+get-below (y ∷ ys) (suc p) x h = let q = get-below ys p x h in omega arith
+
+-- a place is one of those that are kept
+pub place-below : (numbers : List (List ℕ)) (owners : List CellId) (n : ℕ) (cell : CellId) (p : ℕ) → Owned numbers owners → length owners ≡ n → place_in numbers cell ≡ suc p → p < n
+place-below numbers owners n cell p o l h = let q = get-below owners p cell (o cell p h) in omega (arith, q, l)
+
+-- two cells of one place are one
+one-owner : (numbers : List (List ℕ)) (owners : List CellId) (c cell : CellId) (p : ℕ) → Owned numbers owners → place_in numbers c ≡ suc p → place_in numbers cell ≡ suc p → c ≡ cell
+one-owner numbers owners c cell p o h k = let x = o c p h in let y = o cell p k in cc
+
+module _ (rule : Rule) (log : List Event) (e : Event) (numbers : List (List ℕ)) (owners : List CellId) (o : Owned numbers owners) where
+  others-untouched : (c : CellId) → accesses c e ≡ false → IsUntouched log c → IsUntouched (e ∷ log) c
+  others-untouched c h u i ei at = elim (event-cases e log i ei at) [
+    | inl p ↦ ap (λ (x : Event). accesses c x) p.1 ∙ h
+    | inr p ↦ u i ei p.1
+  ]
+
+  pub cells-more : (old new : List CellViews) (cell : CellId) (place : ℕ) (given : List ℕ) → AddedAt rule old new place (length log) e given → place_in numbers cell ≡ suc place → accesses cell e ≡ true
+      → ((u : ℕ) → slice_index given u ≡ gives (views rule log) (length log) e u) → CellsHold rule log numbers old → CellsHold rule (e ∷ log) numbers new
+  cells-more old new cell place given a at s g h = record {
+    touched = λ c p d q l. go c p d q (let n = a.size in omega (arith, n, l)) (cases_eq p place);
+    untouched = λ c z. others-untouched c (stranger c z (cases_Bool (accesses c e))) (h.untouched c z);
+  }
+    where
+      stranger : (c : CellId) → place_in numbers c ≡ 0 → (accesses c e ≡ true) ⊎ (accesses c e ≡ false) → accesses c e ≡ false
+      stranger c z (inr f) = f
+      stranger c z (inl t) = let q = ap (λ (x : CellId). place_in numbers x) (one-access e c cell t s) in absurd (omega (arith, z, q, at))
+
+      other : (c : CellId) (p : ℕ) → place_in numbers c ≡ suc p → (p ≡ place → ⊥) → (accesses c e ≡ true) ⊎ (accesses c e ≡ false) → accesses c e ≡ false
+      other c p q n (inr f) = f
+      other c p q n (inl t) = let z = ap (λ (x : CellId). place_in numbers x) (one-access e c cell t s) in absurd (n (omega (arith, z, q, at)))
+
+      go : (c : CellId) (p : ℕ) (d : CellViews) → place_in numbers c ≡ suc p → p < length old → (p ≡ place) ⊎ (p ≡ place → ⊥) → CellHolds rule (e ∷ log) c (slice_index_or new p d)
+      go c p d q l (inl r) =
+          let z : place_in numbers c ≡ suc place = q ∙ ap suc r in
+          let w : c ≡ cell = one-owner numbers owners c cell place o z at in
+          let x : CellHolds rule log cell (slice_index_or old place d) = h.touched cell place d at (omega (arith, l, r)) in
+          rw (w, r) (cell-more rule log cell e (slice_index_or old place d) (slice_index_or new place d) given (a.here d) x s g)
+      go c p d q l (inr n) = rw (a.others p d n) (cell-same rule log c e (slice_index_or old p d) (h.touched c p d q l) (other c p q n (cases_Bool (accesses c e))))
+
+  pub cells-same : (kept : List CellViews) → ((c : CellId) → accesses c e ≡ false) → CellsHold rule log numbers kept → CellsHold rule (e ∷ log) numbers kept
+  cells-same kept s h = record {
+    touched = λ c p d q l. cell-same rule log c e (slice_index_or kept p d) (h.touched c p d q l) (s c);
+    untouched = λ c z. others-untouched c (s c) (h.untouched c z);
+  }
+
+-- one access takes one from the room of its cell
+pub room-less : (rule : Rule) (old new : List CellViews) (place n : ℕ) (e : Event) (given : List ℕ) (numbers : List (List ℕ)) (cell : CellId) (count : ℕ) → AddedAt rule old new place n e given → place_in numbers cell ≡ suc place
+    → CellRoomAt (count + 1) e.thread numbers old cell → CellRoomAt count e.thread numbers new cell
+room-less rule old new place n e given numbers cell count a at r = record {
+  placed = r.placed;
+  room = λ p d q l. (let z : p ≡ place = omega (arith, q, at) in let s = a.size in rw z (a.room count d (r.room place d at (omega (arith, l, z, s)))));
+}
+
+-- what the memory holds lets an event be added
+pub can-add : (rule : Rule) (log : List Event) (e : Event) (numbers : List (List ℕ)) (owners : List CellId) (kept : List CellViews) (cell : CellId) (count : ℕ) → Owned numbers owners → length owners ≡ length kept
+    → CellsHold rule log numbers kept → newest log cell + 1 < 4294967295 → CellRoomAt (count + 1) e.thread numbers kept cell → CanAdd (length log) e numbers kept cell
+can-add rule log e numbers owners kept cell count o s h l r = record {
+  placed = r.placed;
+  room = λ p d q. one (slice_index_or kept p d) (r.room p d q (place-below numbers owners (length kept) cell p o s q));
+  below = λ p d q. cell-below rule log cell (slice_index_or kept p d) e.thread (holds p d q);
+  few = λ p d q. (let v = ap (λ (xs : List Scalar). length xs) ((holds p d q).values) in let n = values-length log cell in omega (arith, v, n, l));
+  there = λ p q. place-below numbers owners (length kept) cell p o s q;
+}
+  where
+    holds : (p : ℕ) (d : CellViews) → place_in numbers cell ≡ suc p → CellHolds rule log cell (slice_index_or kept p d)
+    holds p d q = h.touched cell p d q (place-below numbers owners (length kept) cell p o s q)
+
+    one : (x : CellViews) → CellRoom (count + 1) e.thread x → CellRoom 1 e.thread x
+    one x c = record {
+      history = (let q = c.history in omega arith);
+      released = (let q = c.released in omega arith);
+      sequence = (let q = c.sequence in omega arith);
+      all = record { there = c.all.there; room = (let q = c.all.room in omega arith) };
+      modifications = record { there = c.modifications.there; room = (let q = c.modifications.room in omega arith) };
+      not_atomic = record { there = c.not_atomic.there; room = (let q = c.not_atomic.room in omega arith) };
+      not_atomic_modifications = record { there = c.not_atomic_modifications.there; room = (let q = c.not_atomic_modifications.room in omega arith) };
+      seq_cst = record { there = c.seq_cst.there; room = (let q = c.seq_cst.room in omega arith) };
+    }
+
+-- less room is there too
+pub cell-room-less : (count t : ℕ) (numbers : List (List ℕ)) (kept : List CellViews) (cell : CellId) → CellRoomAt (count + 1) t numbers kept cell → CellRoomAt count t numbers kept cell
+cell-room-less count t numbers kept cell r = record { placed = r.placed; room = λ p d q l. less (slice_index_or kept p d) (r.room p d q l) }
+  where
+    less : (x : CellViews) → CellRoom (count + 1) t x → CellRoom count t x
+    less x c = record {
+      history = (let q = c.history in omega arith);
+      released = (let q = c.released in omega arith);
+      sequence = (let q = c.sequence in omega arith);
+      all = record { there = c.all.there; room = (let q = c.all.room in omega arith) };
+      modifications = record { there = c.modifications.there; room = (let q = c.modifications.room in omega arith) };
+      not_atomic = record { there = c.not_atomic.there; room = (let q = c.not_atomic.room in omega arith) };
+      not_atomic_modifications = record { there = c.not_atomic_modifications.there; room = (let q = c.not_atomic_modifications.room in omega arith) };
+      seq_cst = record { there = c.seq_cst.there; room = (let q = c.seq_cst.room in omega arith) };
+    }
+
+-- a new place
+pub cells-touched : (rule : Rule) (log : List Event) (numbers numbers' : List (List ℕ)) (kept : List CellViews) (fresh : CellViews) (cell : CellId) → place_in numbers cell ≡ 0
+    → ((c : CellId) → place_in numbers' c ≡ cond (same_cell c cell) (length kept + 1) (place_in numbers c)) → ((c : CellId) (p : ℕ) → place_in numbers c ≡ suc p → p < length kept) → IsFresh fresh
+    → CellsHold rule log numbers kept → CellsHold rule log numbers' (kept ++ fresh ∷ [])
+cells-touched rule log numbers numbers' kept fresh cell z m b f h = record {
+  touched = λ c p d q l. go c p d (cases_Bool (same_cell c cell)) (sym (m c) ∙ q);
+  untouched = λ c q. none c (cases_Bool (same_cell c cell)) (sym (m c) ∙ q);
+}
+  where
+    go : (c : CellId) (p : ℕ) (d : CellViews) → (same_cell c cell ≡ true) ⊎ (same_cell c cell ≡ false) → cond (same_cell c cell) (length kept + 1) (place_in numbers c) ≡ suc p → CellHolds rule log c (slice_index_or (kept ++ fresh ∷ []) p d)
+    go c p d (inl t) q =
+        let r : length kept + 1 ≡ suc p = rw t at q in
+        rw (same_cell-true c cell t, get_or_push kept fresh d p (omega (arith, r))) (cell-fresh rule log cell fresh f (h.untouched cell z))
+    go c p d (inr n) q =
+        let r : place_in numbers c ≡ suc p = rw n at q in
+        rw (get_or_append_left kept (fresh ∷ []) d p (b c p r)) (h.touched c p d r (b c p r))
+
+    none : (c : CellId) → (same_cell c cell ≡ true) ⊎ (same_cell c cell ≡ false) → cond (same_cell c cell) (length kept + 1) (place_in numbers c) ≡ 0 → IsUntouched log c
+    none c (inl t) q = let r : length kept + 1 ≡ 0 = rw t at q in absurd (omega (arith, r))
+    none c (inr n) q = let r : place_in numbers c ≡ 0 = rw n at q in h.untouched c r
+
+-- places stand, though their table grew
+pub cells-moved : (rule : Rule) (log : List Event) (numbers numbers' : List (List ℕ)) (kept : List CellViews) → ((c : CellId) → place_in numbers' c ≡ place_in numbers c) → CellsHold rule log numbers kept → CellsHold rule log numbers' kept
+cells-moved rule log numbers numbers' kept m h = record {
+  touched = λ c p d q l. h.touched c p d (sym (m c) ∙ q) l;
+  untouched = λ c q. h.untouched c (sym (m c) ∙ q);
+}
+
+-- more room at a place
+pub cells-reserved : (rule : Rule) (log : List Event) (numbers : List (List ℕ)) (old new : List CellViews) → length new ≡ length old → ((p : ℕ) (d : CellViews) → p < length old → SameCell (slice_index_or old p d) (slice_index_or new p d))
+    → CellsHold rule log numbers old → CellsHold rule log numbers new
+cells-reserved rule log numbers old new l s h = record {
+  touched = λ c p d q k. (let b : p < length old = omega (arith, l, k) in cell-kept rule log c (slice_index_or old p d) (slice_index_or new p d) (s p d b) (h.touched c p d q b));
+  untouched = h.untouched;
+}
+
+pub cells-none : (rule : Rule) (numbers : List (List ℕ)) → ((c : CellId) → place_in numbers c ≡ 0) → CellsHold rule [] numbers []
+cells-none rule numbers z = record {
+  touched = λ c p d q l. absurd (omega (arith, l));
+  untouched = λ c q i e at. absurd (cc);
+}
+
+-- what one access does, of a list with what stands at the place replaced
+pub added-at : (rule : Rule) (old : List CellViews) (place n : ℕ) (e : Event) (given : List ℕ) (before after : CellViews) → place < length old → before ≡ slice_index_or old place before → CellAdded rule before after n e given
+    → ((count : ℕ) → CellRoom (count + 1) e.thread before → CellRoom count e.thread after) → AddedAt rule old (slice_set old place after) place n e given
+added-at rule old place n e given before after l b a r = record {
+  size = length-set old place after;
+  here = λ d. rw (get_or-set_same old place after d l, was d) a;
+  others = λ p d q. get_or-set_other old place p after d q;
+  room = λ count d w. rw (get_or-set_same old place after d l) (r count (rw (was d) at w));
+}
+  where
+    was : (d : CellViews) → slice_index_or old place d ≡ before
+    was d = get_or_default old place d before l ∙ sym b
+
+-- an access whose cell has a place
+pub cells-added : (rule : Rule) (log : List Event) (e : Event) (numbers : List (List ℕ)) (owners : List CellId) → Owned numbers owners → (old new : List CellViews) (cell : CellId) (place n : ℕ) (given : List ℕ) → n ≡ length log
+    → AddedAt rule old new place n e given → place_in numbers cell ≡ suc place → accesses cell e ≡ true
+    → ((u : ℕ) → slice_index given u ≡ gives (views rule log) n e u) → CellsHold rule log numbers old → CellsHold rule (e ∷ log) numbers new
+cells-added rule log e numbers owners o old new cell place n given q a at s g h =
+    cells-more rule log e numbers owners o old new cell place given (rw q at a) at s (λ u. g u ∙ ap (λ (i : ℕ). gives (views rule log) i e u) q) h
+
+-- more room for what stands at the place
+pub cells-set : (rule : Rule) (log : List Event) (numbers : List (List ℕ)) (kept : List CellViews) (place : ℕ) (before after : CellViews) → place < length kept → before ≡ slice_index_or kept place before → SameCell before after
+    → CellsHold rule log numbers kept → CellsHold rule log numbers (slice_set kept place after)
+cells-set rule log numbers kept place before after l b s h = record {
+  touched = λ c p d q k. (let n = length-set kept place after in go c p d q (omega (arith, n, k)) (cases_eq p place));
+  untouched = h.untouched;
+}
+  where
+    go : (c : CellId) (p : ℕ) (d : CellViews) → place_in numbers c ≡ suc p → p < length kept → (p ≡ place) ⊎ (p ≡ place → ⊥) → CellHolds rule log c (slice_index_or (slice_set kept place after) p d)
+    go c p d q k (inl r) =
+        let x : CellHolds rule log c (slice_index_or kept place before) = rw r at (h.touched c p before q k) in
+        rw (r, get_or-set_same kept place after d l) (cell-kept rule log c before after s (rw (sym b) at x))
+    go c p d q k (inr n) = rw (get_or-set_other kept place p after d n) (h.touched c p d q k)

@@ -1,0 +1,103 @@
+-- What an event takes, gains and gives, by what is kept.
+use Rattle.std.proofs.Common.{◌≡◌, ℕ, Bool, true, false, cond, ◌&&◌, eqb, List, length, refl, sym, ap, ◌∙◌, slice_index}
+use Rattle.std.proofs.lemmas.Bool.{false≢true, and_parts, eqb-true}
+use Rattle.typed_heap.specs.declared.cells.CellId.{CellId}
+use Rattle.typed_heap.proofs.Equal.{same_cell-true, same_cell-refl}
+use Rattle.mem_axioms.specs.Events.{accesses, position_taken, loads, is_atomic, is_wake}
+use Rattle.mem_axioms.specs.Logs.{event_at}
+use Rattle.mem_axioms.specs.Synchronizes.{acquires}
+use Rattle.mem_axioms.specs.declared.types.Event.{Event}
+use Rattle.mem_axioms.specs.declared.types.Rule.{Rule}
+use Rattle.mem_axioms.specs.declared.types.Kind.{Kind}
+use Rattle.mem_axioms.specs.declared.types.Kind.TheVariants.{Access, Fence, NewStack, NewThread, Leave, Enter, Wake, Woken}
+use Rattle.mem_axioms.proofs.Numbers.{any-some}
+use Rattle.clock_laws.specs.Clocks.{Views, views, gains, pends, gives}
+use Rattle.clock_laws.specs.NamedWakes.{names_wake}
+use Rattle.mem_views.specs.Tables.{table_at}
+use Rattle.mem_views.specs.Gaining.{takes_atomic, given_of}
+use Rattle.mem_views.specs.RowsAdded.{RowsAdded, row_gains}
+use Rattle.mem_views.specs.Holding.{RowsHold, CellHolds, IsUntouched}
+use Rattle.mem_views.specs.declared.cell.CellViews.{CellViews}
+use Rattle.mem_views.specs.declared.rows.Rows.{Rows}
+use Rattle.mem_views.proofs.RowsKept.{clock-knows}
+use Rattle.mem_views.proofs.CellKept.{untouched-released}
+
+taken-kind : (rule : Rule) (log : List Event) (cell : CellId) (kept : CellViews) (t : ℕ) (k : Kind) → CellHolds rule log cell kept → accesses cell (record { thread = t; kind = k }) ≡ true → (u : ℕ)
+    → cond (takes_atomic (record { thread = t; kind = k })) (table_at kept.released (position_taken (record { thread = t; kind = k })) u) 0 ≡ pends (views rule log) (record { thread = t; kind = k }) u
+taken-kind rule log cell kept t (Access mode of o p x) h a u = rw (same_cell-true of cell a, h.released (position_taken (record { thread = t; kind = Access mode cell o p x })) u) refl
+taken-kind rule log cell kept t (Fence o) h a u = refl
+taken-kind rule log cell kept t (NewStack o) h a u = refl
+taken-kind rule log cell kept t (NewThread o) h a u = refl
+taken-kind rule log cell kept t (Leave o) h a u = refl
+taken-kind rule log cell kept t (Enter o) h a u = refl
+taken-kind rule log cell kept t (Wake o n) h a u = refl
+taken-kind rule log cell kept t (Woken o) h a u = refl
+
+-- what is kept of the cell
+pub taken-are : (rule : Rule) (log : List Event) (cell : CellId) (kept : CellViews) (e : Event) → CellHolds rule log cell kept → accesses cell e ≡ true → (u : ℕ)
+    → cond (takes_atomic e) (table_at kept.released (position_taken e) u) 0 ≡ pends (views rule log) e u
+taken-are rule log cell kept e h a u = taken-kind rule log cell kept e.thread e.kind h a u
+
+untaken-kind : (rule : Rule) (log : List Event) (cell : CellId) (t : ℕ) (k : Kind) → IsUntouched log cell → accesses cell (record { thread = t; kind = k }) ≡ true → (u : ℕ) → pends (views rule log) (record { thread = t; kind = k }) u ≡ 0
+untaken-kind rule log cell t (Access mode of o p x) h a u = rw (same_cell-true of cell a) (go (loads mode && is_atomic o))
+  where
+    go : (b : Bool) → cond b ((views rule log).released cell (position_taken (record { thread = t; kind = Access mode cell o p x })) u) 0 ≡ 0
+    go true = untouched-released rule log cell (position_taken (record { thread = t; kind = Access mode cell o p x })) u h
+    go false = refl
+untaken-kind rule log cell t (Fence o) h a u = refl
+untaken-kind rule log cell t (NewStack o) h a u = refl
+untaken-kind rule log cell t (NewThread o) h a u = refl
+untaken-kind rule log cell t (Leave o) h a u = refl
+untaken-kind rule log cell t (Enter o) h a u = refl
+untaken-kind rule log cell t (Wake o n) h a u = refl
+untaken-kind rule log cell t (Woken o) h a u = refl
+
+-- nothing of an untouched one
+pub untaken-are : (rule : Rule) (log : List Event) (cell : CellId) (e : Event) → IsUntouched log cell → accesses cell e ≡ true → (u : ℕ) → pends (views rule log) e u ≡ 0
+untaken-are rule log cell e h a u = untaken-kind rule log cell e.thread e.kind h a u
+
+none-kind : (v : Views) (t : ℕ) (k : Kind) → ((cell : CellId) → accesses cell (record { thread = t; kind = k }) ≡ false) → (u : ℕ) → pends v (record { thread = t; kind = k }) u ≡ 0
+none-kind v t (Access mode of o p x) h u = absurd (false≢true (sym (h of) ∙ same_cell-refl of))
+none-kind v t (Fence o) h u = refl
+none-kind v t (NewStack o) h u = refl
+none-kind v t (NewThread o) h u = refl
+none-kind v t (Leave o) h u = refl
+none-kind v t (Enter o) h u = refl
+none-kind v t (Wake o n) h u = refl
+none-kind v t (Woken o) h u = refl
+
+-- nothing by an event that is no access
+pub none-taken : (v : Views) (e : Event) → ((cell : CellId) → accesses cell e ≡ false) → (u : ℕ) → pends v e u ≡ 0
+none-taken v e = none-kind v e.thread e.kind
+
+-- what an event gains
+module _ (rule : Rule) (log : List Event) (rows : Rows) (taken : List ℕ) (h : RowsHold rule log rows) where
+  gains-kind : (t : ℕ) (k : Kind) → ((u : ℕ) → slice_index taken u ≡ pends (views rule log) (record { thread = t; kind = k }) u) → names_wake log (record { thread = t; kind = k }) ≡ true → (u : ℕ)
+      → row_gains rows taken (record { thread = t; kind = k }) u ≡ gains (views rule log) (record { thread = t; kind = k }) u
+  gains-kind t (Access mode cell o p x) s n u = rw (s u) (go (acquires o) (loads mode && is_atomic o))
+    where
+      go : (a b : Bool) → cond a (cond b ((views rule log).released cell (position_taken (record { thread = t; kind = Access mode cell o p x })) u) 0) 0 ≡ cond (a && b) ((views rule log).released cell (position_taken (record { thread = t; kind = Access mode cell o p x })) u) 0
+      go true b = refl
+      go false b = refl
+  gains-kind t (Fence o) s n u = rw (h.pending t u) refl
+  gains-kind t (NewStack o) s n u = refl
+  gains-kind t (NewThread o) s n u = refl
+  gains-kind t (Leave o) s n u = refl
+  gains-kind t (Enter stack) s n u = h.left stack u
+  gains-kind t (Wake o n) s w u = refl
+  gains-kind t (Woken wake) s n u =
+      let w = any-some (λ i ei. eqb i wake && is_wake ei) log n in
+      let p = and_parts (eqb w.0 wake) (is_wake w.1) w.3 in
+      let e = eqb-true w.0 wake p.0 in
+      h.wakes wake w.1 (ap (λ (i : ℕ). event_at log i) (sym e) ∙ w.2) p.1 u
+
+  pub gains-are : (e : Event) → ((u : ℕ) → slice_index taken u ≡ pends (views rule log) e u) → names_wake log e ≡ true → (u : ℕ) → row_gains rows taken e u ≡ gains (views rule log) e u
+  gains-are e = gains-kind e.thread e.kind
+
+-- what it gives
+pub gives-are : (rule : Rule) (log : List Event) (e : Event) (old new : Rows) (gained taken clock given fenced : List ℕ) → RowsAdded old new (length log) e gained taken clock → RowsHold rule log old
+    → ((u : ℕ) → slice_index gained u ≡ gains (views rule log) e u) → ((u : ℕ) → slice_index taken u ≡ pends (views rule log) e u)
+    → ((u : ℕ) → slice_index fenced u ≡ table_at old.fenced e.thread u) → ((u : ℕ) → slice_index given u ≡ given_of e clock fenced u)
+    → (u : ℕ) → slice_index given u ≡ gives (views rule log) (length log) e u
+gives-are rule log e old new gained taken clock given fenced a h g p f s u =
+    s u ∙ rw (clock-knows rule log e old new gained taken clock a h g p u, f u, h.fenced e.thread u) refl

@@ -1,0 +1,10 @@
+use Rattle.std.proofs.Common.{arith}
+use Rattle.mem_views.proofs.CellsKept.{added-at}
+use Rattle.mem_views.proofs.kept_cells.add_at.Goals as goal
+
+pub add-requires-clause-below : goal.add-requires-clause-below
+add-requires-clause-below c = rw c.index_mut.ensures.value (c.requires.below c.index_mut.result.now)
+
+pub returns : goal.returns
+returns c =
+    added-at c.args.rule c.args.kept.now.items c.args.place c.args.number c.args.event.now c.args.given.now c.index_mut.result.now c.add.new.self (let l = c.requires.there in omega (arith, l)) c.index_mut.ensures.value c.add.ensures.added c.add.ensures.room

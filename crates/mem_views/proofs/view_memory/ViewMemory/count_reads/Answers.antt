@@ -1,0 +1,50 @@
+use Rattle.std.proofs.Common.{◌∙◌, sym, ap, length, List, ℕ, arith}
+use Rattle.mem_axioms.specs.Objects.{initial_of}
+use Rattle.mem_axioms.specs.Scalars.{scalars_of}
+use Rattle.mem_views.proofs.Reading.{floor-low, reads-count, reads-differing, options-count}
+use Rattle.mem_views.proofs.view_memory.ViewMemory.count_reads.Goals as goal
+
+pub overflow_sub-result : goal.overflow_sub-result
+overflow_sub-result g c =
+    let memory = c.args.self.now in
+    let low = floor-low memory.rule (initial_of (scalars_of memory.objects.items)) memory.tape.events c.args.thread c.args.cell c.args.order memory.log_holds.sound.axioms in
+    let floor = c.floor-floor.ensures.floor in
+    let newest = c.newest-newest.ensures.newest in
+    omega (arith, low, floor, newest)
+
+pub count_differing-requires-clause-floor : goal.count_differing-requires-clause-floor
+count_differing-requires-clause-floor g c =
+    let memory = c.args.self.now in
+    let low = floor-low memory.rule (initial_of (scalars_of memory.objects.items)) memory.tape.events c.args.thread c.args.cell c.args.order memory.log_holds.sound.axioms in
+    let floor = c.floor-floor.ensures.floor in
+    let newest = c.newest-newest.ensures.newest in
+    omega (arith, low, floor, newest)
+
+pub returns-in-None-clause-count : goal.returns-in-None-clause-count
+returns-in-None-clause-count g c =
+    let memory = c.args.self.now in
+    let initial = initial_of (scalars_of memory.objects.items) in
+    let low = floor-low memory.rule initial memory.tape.events c.args.thread c.args.cell c.args.order memory.log_holds.sound.axioms in
+    let count = reads-count memory.rule initial memory.tape.events c.args.thread c.args.cell c.args.order memory.log_holds.sound.axioms in
+    let floor = c.floor-floor.ensures.floor in
+    let newest = c.newest-newest.ensures.newest in
+    rw c.in-None.is (omega (arith, low, count, floor, newest))
+
+pub returns-in-Some-clause-count : goal.returns-in-Some-clause-count
+returns-in-Some-clause-count g c =
+    let memory = c.args.self.now in
+    let initial = initial_of (scalars_of memory.objects.items) in
+    rw c.in-Some.is ((rw (c.floor-floor.ensures.floor, c.newest-newest.ensures.newest) at c.count_differing.ensures.count)
+    ∙ sym (ap (λ (positions : List ℕ). length positions) (reads-differing memory.rule initial memory.tape.events c.args.thread c.args.cell c.args.order memory.log_holds.sound.axioms c.in-Some.scalar)))
+
+pub returns-in-Some-clause-cost : goal.returns-in-Some-clause-cost
+returns-in-Some-clause-cost g c d l =
+    let memory = c.args.self.now in
+    let initial = initial_of (scalars_of memory.objects.items) in
+    let count = options-count memory.rule initial memory.tape.events c.args.thread c.args.cell c.args.order memory.log_holds.sound.axioms in
+    let low = floor-low memory.rule initial memory.tape.events c.args.thread c.args.cell c.args.order memory.log_holds.sound.axioms in
+    let floor = c.floor-floor.ensures.floor in
+    let newest = c.newest-newest.ensures.newest in
+    let first = c.floor-floor.ensures.cost d l in
+    let rest = c.count_differing.ensures.cost in
+    rw c.in-Some.is (omega (arith, count, low, floor, newest, first, rest))

@@ -1,0 +1,38 @@
+use Rattle.std.proofs.Common.{◌∙◌, length}
+use Rattle.mem_axioms.specs.Objects.{initial_of}
+use Rattle.mem_axioms.specs.Scalars.{scalars_of}
+use Rattle.mem_views.proofs.Budget.{four-within}
+use Rattle.mem_views.proofs.CellKept.{cell-few}
+use Rattle.mem_views.proofs.ThreadsMade.{made-small, made-few, cell-made}
+use Rattle.mem_views.proofs.FloorFound.{untouched-floor, floor-found, before-known}
+use Rattle.mem_views.proofs.view_memory.ViewMemory.floor.Goals as goal
+
+pub returns-in_default-clause-floor : goal.returns-in_default-clause-floor
+returns-in_default-clause-floor g c = untouched-floor c.args.self.now.rule c.args.self.now.tape.events c.args.thread c.args.cell c.args.order c.in_default.ensures
+
+pub greatest_of_kinds-requires-clause-few : goal.greatest_of_kinds-requires-clause-few
+greatest_of_kinds-requires-clause-few g c =
+    let memory = c.args.self.now in
+    rw c.deref.ensures.value (made-small memory.rule (scalars_of memory.objects.items) memory.tape.events memory.made.items memory.log_holds memory.made_holds)
+
+pub greatest_of_kinds-requires-clause-made : goal.greatest_of_kinds-requires-clause-made
+greatest_of_kinds-requires-clause-made g c =
+    let memory = c.args.self.now in
+    rw c.deref.ensures.value (cell-made memory.rule (scalars_of memory.objects.items) memory.tape.events memory.made.items c.args.cell c.in-Some.kept.now memory.log_holds memory.made_holds c.in-Some.ensures)
+
+pub returns-clause-floor : goal.returns-clause-floor
+returns-clause-floor g c =
+    let memory = c.args.self.now in
+    let log = memory.tape.events in
+    floor-found memory.rule (initial_of (scalars_of memory.objects.items)) log c.args.thread c.args.cell c.args.order c.in-Some.kept.now c.of-known.result c.below-below.result c.fences_before-before.result c.greatest_of_kinds.result c.limit-limit.result
+    memory.log_holds.sound.axioms memory.log_holds.named c.in-Some.ensures (λ y ey at. memory.log_holds.small ey.thread (memory.log_holds.threads y ey at))
+    (λ u. c.of-known.ensures u ∙ memory.rows_hold.threads c.args.thread u) c.limit-limit.ensures.limit c.below-below.ensures
+    (λ u. c.fences_before-before.ensures u ∙ before-known memory.rule log c.args.thread c.args.order memory.rows c.limit-limit.result memory.rows_hold c.limit-limit.ensures.limit u)
+    c.greatest_of_kinds.ensures.found
+
+pub returns-clause-cost : goal.returns-clause-cost
+returns-clause-cost g c d l =
+    let memory = c.args.self.now in
+    let log = memory.tape.events in
+    four-within log (length memory.made.items) d c.args.steps.now c.limit-limit.new.steps c.greatest_of_kinds.new.steps (made-few log memory.made.items memory.made_holds) (c.limit-limit.ensures.cost d l)
+    (rw c.deref.ensures.value at (c.greatest_of_kinds.ensures.cost d (cell-few memory.rule log c.args.cell c.in-Some.kept.now d c.in-Some.ensures l)))

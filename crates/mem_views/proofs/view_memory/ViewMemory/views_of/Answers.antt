@@ -1,0 +1,19 @@
+use Rattle.std.proofs.Common.{◌≡◌, ◌<◌, suc, arith, length}
+use Rattle.mem_views.specs.Placing.{place_in}
+use Rattle.mem_views.proofs.CellsKept.{place-below}
+use Rattle.mem_views.proofs.view_memory.ViewMemory.views_of.Goals as goal
+
+pub index-requires : goal.index-requires
+index-requires c =
+    let memory = c.args.self.now in
+    let at = c.in-Some.ensures in
+    let below = place-below memory.places.objects.items memory.places.owners.items (length memory.kept.items) c.args.cell c.in-Some.place memory.places.owned memory.placed (omega (arith, at)) in
+    omega (arith, below)
+
+pub returns-in-Some : goal.returns-in-Some
+returns-in-Some c =
+    let memory = c.args.self.now in
+    let e = c.in-Some.ensures in
+    let at : place_in memory.places.objects.items c.args.cell ≡ suc c.in-Some.place = omega (arith, e) in
+    let below : c.in-Some.place < length memory.kept.items = place-below memory.places.objects.items memory.places.owners.items (length memory.kept.items) c.args.cell c.in-Some.place memory.places.owned memory.placed at in
+    rw c.index.ensures (memory.cells_hold.touched c.args.cell c.in-Some.place c.index.result.now at below)

@@ -1,0 +1,10 @@
+-- Room for the events of one step.
+use Rattle.std.specs.Prelude.{◌≡◌, ℕ, ◌<◌, List, Some}
+use Rattle.typed_heap.specs.declared.cells.CellId.{CellId}
+use Rattle.mem_axioms.specs.declared.types.Room.{Room}
+use Rattle.mem_views.specs.CellRooms.{CellRoomAt}
+use Rattle.mem_views.specs.declared.cell.CellViews.{CellViews}
+
+-- Where the room is for a cell, the cell has a place with room for all its events. A number of 64 or more is no thread's.
+abbrev pub CellFits : Room → List (List ℕ) → List CellViews → Type 0
+CellFits room numbers kept = (cell : CellId) → room.cell ≡ Some cell → room.thread < 64 → CellRoomAt room.events room.thread numbers kept cell

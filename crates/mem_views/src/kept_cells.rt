@@ -1,0 +1,148 @@
+// What is kept of the touched cells, each at its place.
+ghost use Rattle.std.specs.Prelude.{◌≡◌, ℕ, suc, ◌+◌, ◌<◌, ◌≤◌, true, false, List, ◌∷◌, length, slice_index, slice_index_or, OnOk, IfOk};
+ghost use Rattle.typed_heap.specs.declared.cells.CellId.{CellId};
+ghost use Rattle.mem_axioms.specs.Events.{accesses};
+ghost use Rattle.mem_axioms.specs.declared.types.Rule.{Rule};
+ghost use Rattle.mem_axioms.specs.declared.types.Event.{Event};
+ghost use Rattle.clock_laws.specs.Clocks.{views, gives};
+ghost use Rattle.mem_views.specs.Placing.{place_in};
+ghost use Rattle.mem_views.specs.CellAdded.{CellRoom, CellBelow};
+ghost use Rattle.mem_views.specs.CellRooms.{CellRoomAt};
+ghost use Rattle.mem_views.specs.AddedAt.{AddedAt, CanAdd};
+ghost use Rattle.mem_views.specs.Roominess.{CellFits};
+ghost use Rattle.mem_views.specs.Holding.{CellsHold};
+
+use crate::cell::CellViews;
+use crate::clock::Clock;
+use crate::event_facts::cell_of;
+use crate::places::Places;
+use mem_axioms::{Event, Rule};
+use std::alloc::{AllocError, Global};
+use typed_heap::CellId;
+
+/// Adds an access to what is kept at a place.
+fn add_at(
+    kept: &mut Vec<CellViews>,
+    place: usize,
+    rule: Rule,
+    event: &Event,
+    number: u32,
+    given: &Clock,
+)
+    requires number { number < 4294967295 }
+    requires there { place < length kept.old.items }
+    requires room { (d : CellViews) → CellRoom 1 event.now.thread (slice_index_or kept.old.items place d) }
+    requires below { (d : CellViews) → CellBelow (suc number) event.now.thread (slice_index_or kept.old.items place d) }
+    requires few { (d : CellViews) → length (slice_index_or kept.old.items place d).history.values < 4294967295 }
+    ensures { AddedAt rule kept.old.items kept.new.items place number event.now given.now }
+{
+    kept[place].add(rule, event, number, given);
+}
+
+/// Adds an event to what is kept of the cell that it accesses.
+pub fn add_access(
+    rule: Rule,
+    places: &Places,
+    kept: &mut Vec<CellViews>,
+    event: &Event,
+    number: u32,
+    given: &Clock,
+)
+    requires number { number < 4294967295 }
+    requires can { (cell : CellId) → accesses cell event.now ≡ true → CanAdd number event.now places.now.objects.items kept.old.items cell }
+    ensures holds { (log : List Event) → number ≡ length log → ((u : ℕ) → slice_index given.now u ≡ gives (views rule log) number event.now u) → CellsHold rule log places.now.objects.items kept.old.items → CellsHold rule (event.now ∷ log) places.now.objects.items kept.new.items }
+    ensures room { (count : ℕ) (cell : CellId) → accesses cell event.now ≡ true → CellRoomAt (count + 1) event.now.thread places.now.objects.items kept.old.items cell → CellRoomAt count event.now.thread places.now.objects.items kept.new.items cell }
+    ensures same { ((cell : CellId) → accesses cell event.now ≡ false) → kept.new.items ≡ kept.old.items }
+    ensures len { length kept.new.items ≡ length kept.old.items }
+{
+    if let Some(cell) = cell_of(event) {
+        if let Some(place) = places.find(cell) {
+            add_at(kept, place, rule, event, number, given);
+        }
+    }
+}
+
+/// Gives a place to a cell that has none, with nothing kept there yet.
+fn make_place(
+    places: &mut Places,
+    kept: &mut Vec<CellViews>,
+    alloc: Global,
+    cell: CellId,
+) -> Result<(), AllocError>
+    requires placed { length places.old.owners.items ≡ length kept.old.items }
+    requires none { place_in places.old.objects.items cell ≡ 0 }
+    ensures placed { length places.new.owners.items ≡ length kept.new.items }
+    ensures holds { (rule : Rule) (log : List Event) → CellsHold rule log places.old.objects.items kept.old.items → CellsHold rule log places.new.objects.items kept.new.items }
+    ensures touched { OnOk result (0 < place_in places.new.objects.items cell) }
+{
+    let fresh = CellViews::new(alloc)?;
+    places.make_room(alloc, cell)?;
+    kept.push(fresh)?;
+    places.touch(cell);
+    Ok(())
+}
+
+/// Gives the cell a place if it has none.
+fn touch(
+    places: &mut Places,
+    kept: &mut Vec<CellViews>,
+    alloc: Global,
+    cell: CellId,
+) -> Result<(), AllocError>
+    requires placed { length places.old.owners.items ≡ length kept.old.items }
+    ensures placed { length places.new.owners.items ≡ length kept.new.items }
+    ensures holds { (rule : Rule) (log : List Event) → CellsHold rule log places.old.objects.items kept.old.items → CellsHold rule log places.new.objects.items kept.new.items }
+    ensures touched { OnOk result (0 < place_in places.new.objects.items cell) }
+{
+    match places.find(cell) {
+        Some(_) => Ok(()),
+        None => make_place(places, kept, alloc, cell),
+    }
+}
+
+/// Makes room for that many more accesses of a touched cell by a thread.
+fn reserve(
+    places: &Places,
+    kept: &mut Vec<CellViews>,
+    alloc: Global,
+    cell: CellId,
+    thread: u32,
+    count: u32,
+) -> Result<(), AllocError>
+    requires thread { thread < 64 }
+    requires placed { length places.now.owners.items ≡ length kept.old.items }
+    requires touched { 0 < place_in places.now.objects.items cell }
+    ensures placed { length places.now.owners.items ≡ length kept.new.items }
+    ensures holds { (rule : Rule) (log : List Event) → CellsHold rule log places.now.objects.items kept.old.items → CellsHold rule log places.now.objects.items kept.new.items }
+    ensures room { OnOk result (CellRoomAt count thread places.now.objects.items kept.new.items cell) }
+{
+    let Some(place) = places.find(cell) else {
+        unreachable!()
+    };
+    kept[place].reserve(alloc, thread, count)
+}
+
+/// Makes room for that many accesses by a thread of a cell, if there is one. A number of 64 or more is no thread's, and
+/// takes no room.
+pub fn reserve_step(
+    places: &mut Places,
+    kept: &mut Vec<CellViews>,
+    alloc: Global,
+    thread: u32,
+    cell: Option<CellId>,
+    events: u32,
+) -> Result<(), AllocError>
+    requires placed { length places.old.owners.items ≡ length kept.old.items }
+    ensures placed { length places.new.owners.items ≡ length kept.new.items }
+    ensures holds { (rule : Rule) (log : List Event) → CellsHold rule log places.old.objects.items kept.old.items → CellsHold rule log places.new.objects.items kept.new.items }
+    ensures room { OnOk result (CellFits (record { thread = thread; cell = cell; events = events }) places.new.objects.items kept.new.items) }
+{
+    let Some(accessed) = cell else {
+        return Ok(());
+    };
+    if 64 <= thread {
+        return Ok(());
+    }
+    touch(places, kept, alloc, accessed)?;
+    reserve(places, kept, alloc, accessed, thread, events)
+}

@@ -1,0 +1,656 @@
+// The memory of histories and clocks.
+ghost use Rattle.std.specs.Prelude.{◌≡◌, ℕ, ◌+◌, ◌*◌, ◌^◌, ◌<◌, ◌≤◌, true, false, None, Some, List, [], ◌∷◌, ◌++◌, map, length, slice_index, slice_get, vec_len, vec_capacity, OnOk, OnErr, MatchOption, IsNone, IsSome};
+ghost use Rattle.mem_axioms.specs.Events.{accesses, is_seq_cst};
+ghost use Rattle.mem_axioms.specs.Logs.{newest};
+ghost use Rattle.mem_axioms.specs.Form.{value_at};
+ghost use Rattle.mem_axioms.specs.Floor.{floor};
+ghost use Rattle.mem_axioms.specs.Choices.{chosen_at, holds, choices};
+ghost use Rattle.mem_axioms.specs.Reads.{reads, excluded_by};
+ghost use Rattle.mem_axioms.specs.Objects.{initial_of, HasCell};
+ghost use Rattle.mem_axioms.specs.EventFits.{EventFits, is_thread};
+ghost use Rattle.mem_axioms.specs.Races.{race};
+ghost use Rattle.mem_axioms.specs.Rooms.{HasRoom, one_less};
+ghost use Rattle.mem_axioms.specs.Scalars.{scalars_of};
+ghost use Rattle.mem_axioms.specs.declared.types.Event.{Event};
+ghost use Rattle.mem_axioms.specs.declared.types.Kind.TheVariants.{NewThread};
+ghost use Rattle.clock_laws.specs.Clocks.{views, gains, pends};
+ghost use Rattle.clock_laws.specs.ViewFloor.{view_limit};
+ghost use Rattle.mem_views.specs.Holding.{LogHolds, MadeHolds, RowsHold, CellHolds, CellsHold, IsUntouched};
+ghost use Rattle.mem_views.specs.RowsAdded.{RowsRoom};
+ghost use Rattle.mem_views.specs.Roominess.{CellFits};
+ghost use Rattle.mem_views.specs.Answers.{IsKnown};
+ghost use Rattle.mem_views.specs.Bounds.{search_bound, values_bound};
+ghost use Rattle.mem_views.specs.Differing.{differs_from, floor_bound, looks_bound};
+ghost use Rattle.mem_axioms.proofs.Downward.{below};
+
+use crate::cell::CellViews;
+use crate::clock::Clock;
+use crate::event_facts::{cell_of, is_same_scalar, seq_cst};
+use crate::floors::{fences_before, greatest_of_kinds, last_fence};
+use crate::gains::{gained_by, given_by, taken_from};
+use crate::kept_cells;
+use crate::places::Places;
+use crate::racing::first_racing;
+use crate::rows::Rows;
+use mem_axioms::{Chosen, Event, Kind, Memory, Race, Room, Rule, Wanted};
+use mu_base::{Order, Steps};
+use mu_values::{Scalar, Value};
+use std::alloc::{AllocError, Global};
+use std::sync::ledger::Ledger;
+use typed_heap::CellId;
+use write_history::Tape;
+
+/// A memory that keeps clocks, the values of each touched cell, and its accesses by thread, in place of whole logs. What it
+/// answers is what the memory of whole logs answers, and it looks at few entries for that.
+#[derive(Drop)]
+pub struct ViewMemory {
+    alloc: Global,
+    rule: Rule,
+    objects: Vec<Value>,
+    // All events. No call reads them.
+    tape: Tape,
+    // The number of the next event.
+    next: u32,
+    // The threads of the run, once there was room for an event.
+    made: Vec<u32>,
+    rows: Rows,
+    places: Places,
+    // What is kept of each touched cell, by its place.
+    kept: Vec<CellViews>,
+    room: Room,
+    ghost counted: { next ≡ length tape.events },
+    ghost placed: { length places.owners.items ≡ length kept.items },
+    ghost log_holds: { LogHolds rule (scalars_of objects.items) tape.events },
+    ghost made_holds: { MadeHolds made.items tape.events },
+    ghost rows_hold: { RowsHold rule tape.events rows },
+    ghost cells_hold: { CellsHold rule tape.events places.objects.items kept.items },
+    ghost tape_fits: { room.events ≤ tape.spare },
+    ghost made_fits: { vec_len made + room.events ≤ vec_capacity made },
+    ghost made_some: { 0 < room.events → 0 < length made.items },
+    ghost rows_fit: { RowsRoom room.events rows },
+    ghost cell_fits: { CellFits room places.objects.items kept.items },
+}
+
+/// Adds the thread that the event makes, if it makes one.
+fn add_thread(made: &mut Vec<u32>, event: &Event)
+    requires { vec_len made.old < vec_capacity made.old }
+    ensures made { made.new.items ≡ elim event.now.kind [ NewThread child ↦ made.old.items ++ child ∷ [] | _ ↦ made.old.items ] }
+    ensures len { vec_len made.new ≤ vec_len made.old + 1 }
+    ensures capacity { vec_capacity made.old ≤ vec_capacity made.new }
+{
+    if let Kind::NewThread { child } = event.kind {
+        made.push_reserved(child);
+    }
+}
+
+/// Makes room for that many more threads, and puts thread 0 on the list.
+fn reserve_threads(made: &mut Vec<u32>, count: usize) -> Result<(), AllocError>
+    ensures holds { (log : List Event) → MadeHolds made.old.items log → MadeHolds made.new.items log }
+    ensures some { OnOk result (0 < length made.new.items) }
+    ensures room { OnOk result (vec_len made.new + count ≤ vec_capacity made.new) }
+{
+    if made.is_empty() {
+        made.push(0)?;
+    }
+    made.reserve(count)
+}
+
+impl ViewMemory {
+    /// A memory with an empty log, no objects and no room, whose release sequences follow the rule.
+    pub fn new(alloc: Global, rule: Rule) -> ViewMemory
+        ensures log { ⟦<ViewMemory as Memory>⟧.log result ≡ [] }
+        ensures objects { ⟦<ViewMemory as Memory>⟧.objects result ≡ [] }
+        ensures rule { ⟦<ViewMemory as Memory>⟧.rule result ≡ rule }
+        ensures room { ⟦<ViewMemory as Memory>⟧.room result ≡ record { thread = 0; cell = None; events = 0 } }
+    {
+        ViewMemory {
+            alloc,
+            rule,
+            objects: Vec::new(alloc),
+            tape: Tape::new(alloc),
+            next: 0,
+            made: Vec::new(alloc),
+            rows: Rows::new(alloc),
+            places: Places::new(alloc),
+            kept: Vec::new(alloc),
+            room: Room {
+                thread: 0,
+                cell: None,
+                events: 0,
+            },
+        }
+    }
+
+    /// What is kept of a cell, if it was touched.
+    fn views_of(&self, cell: CellId) -> Option<&CellViews>
+        ensures { MatchOption result (IsUntouched self.now.tape.events cell) (λ kept. CellHolds self.now.rule self.now.tape.events cell kept.now) }
+    {
+        match self.places.find(cell) {
+            Some(place) => Some(&self.kept[place]),
+            None => None,
+        }
+    }
+
+    /// What an event leaves for a later acquire fence of its thread.
+    fn taken(&self, event: &Event) -> Clock
+        ensures { (u : ℕ) → slice_index result u ≡ pends (views self.now.rule self.now.tape.events) event.now u }
+    {
+        let Some(cell) = cell_of(event) else {
+            return Clock::new();
+        };
+        match self.views_of(cell) {
+            Some(kept) => taken_from(kept, event),
+            None => Clock::new(),
+        }
+    }
+
+    /// What an event gains.
+    fn gained(&self, event: &Event, taken: &Clock) -> Clock
+        requires fits { EventFits self.now.rule (scalars_of self.now.objects.items) self.now.tape.events event.now }
+        requires taken { (u : ℕ) → slice_index taken.now u ≡ pends (views self.now.rule self.now.tape.events) event.now u }
+        ensures { (u : ℕ) → slice_index result u ≡ gains (views self.now.rule self.now.tape.events) event.now u }
+    {
+        gained_by(&self.rows, event, taken)
+    }
+
+    /// The least earlier event that races with one that gains a clock.
+    fn race_of<L: Ledger>(&self, event: &Event, gained: &Clock, steps: &mut Steps<L>) -> Option<u32>
+        requires fits { EventFits self.now.rule (scalars_of self.now.objects.items) self.now.tape.events event.now }
+        requires gained { (u : ℕ) → slice_index gained.now u ≡ gains (views self.now.rule self.now.tape.events) event.now u }
+        ensures race { result ≡ race self.now.rule self.now.tape.events event.now }
+        ensures cost { (d : ℕ) → length self.now.tape.events < 2 ^ d → steps.new ≤ steps.old + search_bound self.now.tape.events d }
+    {
+        let Some(cell) = cell_of(event) else {
+            return None;
+        };
+        match self.views_of(cell) {
+            Some(kept) => self.race_in(cell, kept, event, gained, steps),
+            None => None,
+        }
+    }
+
+    /// The least earlier event of a touched cell that races with an access of the cell.
+    fn race_in<L: Ledger>(
+        &self,
+        cell: CellId,
+        kept: &CellViews,
+        event: &Event,
+        gained: &Clock,
+        steps: &mut Steps<L>,
+    ) -> Option<u32>
+        requires fits { EventFits self.now.rule (scalars_of self.now.objects.items) self.now.tape.events event.now }
+        requires access { accesses cell event.now ≡ true }
+        requires holds { CellHolds self.now.rule self.now.tape.events cell kept.now }
+        requires gained { (u : ℕ) → slice_index gained.now u ≡ gains (views self.now.rule self.now.tape.events) event.now u }
+        ensures race { result ≡ race self.now.rule self.now.tape.events event.now }
+        ensures cost { (d : ℕ) → length self.now.tape.events < 2 ^ d → steps.new ≤ steps.old + search_bound self.now.tape.events d }
+    {
+        let mut clock = self.rows.threads.of(event.thread);
+        clock.join(gained);
+        match first_racing(kept, &self.made, event, &clock, steps) {
+            Some(first) => Some(first - 1),
+            None => None,
+        }
+    }
+
+    /// Adds an event that races with no earlier one.
+    fn add(&mut self, event: Event, taken: &Clock, gained: &Clock)
+        requires fits { EventFits self.old.rule (scalars_of self.old.objects.items) self.old.tape.events event }
+        requires alone { race self.old.rule self.old.tape.events event ≡ None }
+        requires room { HasRoom self.old.room event }
+        requires count { length self.old.tape.events + 1 < 4294967295 }
+        requires taken { (u : ℕ) → slice_index taken.now u ≡ pends (views self.old.rule self.old.tape.events) event u }
+        requires gained { (u : ℕ) → slice_index gained.now u ≡ gains (views self.old.rule self.old.tape.events) event u }
+        ensures log { self.new.tape.events ≡ event ∷ self.old.tape.events }
+        ensures room { self.new.room ≡ one_less self.old.room }
+        ensures objects { self.new.objects.items ≡ self.old.objects.items }
+        ensures rule { self.new.rule ≡ self.old.rule }
+    {
+        let fenced = self.rows.fenced.of(event.thread);
+        let clock = self.rows.add(&event, self.next, gained, taken);
+        let given = given_by(&event, &clock, &fenced);
+        kept_cells::add_access(
+            self.rule,
+            &self.places,
+            &mut self.kept,
+            &event,
+            self.next,
+            &given,
+        );
+        add_thread(&mut self.made, &event);
+        self.tape.push(event);
+        self.next += 1;
+        self.room.events -= 1;
+    }
+
+    /// The number of a SEQ_CST load, or of the last SEQ_CST fence that the thread knows, or 0.
+    fn limit<L: Ledger>(
+        &self,
+        thread: u32,
+        known: &Clock,
+        order: Order,
+        steps: &mut Steps<L>,
+    ) -> u32
+        requires { IsKnown self.now.rule self.now.tape.events thread known.now }
+        ensures limit { result ≡ view_limit (views self.now.rule self.now.tape.events) self.now.tape.events thread order }
+        ensures cost { (d : ℕ) → length self.now.tape.events < 2 ^ d → steps.new ≤ steps.old + length self.now.made.items * (d + 1) }
+    {
+        if seq_cst(order) {
+            return self.next;
+        }
+        last_fence(&self.rows, &self.made, known, steps)
+    }
+
+    /// The least position that a load of the cell may read.
+    fn floor<L: Ledger>(&self, thread: u32, cell: CellId, order: Order, steps: &mut Steps<L>) -> u32
+        ensures floor { result ≡ floor self.now.rule self.now.tape.events thread cell order }
+        ensures cost { (d : ℕ) → length self.now.tape.events < 2 ^ d → steps.new ≤ steps.old + floor_bound self.now.tape.events d }
+    {
+        let Some(kept) = self.views_of(cell) else {
+            return 0;
+        };
+        let known = self.rows.threads.of(thread);
+        let limit = self.limit(thread, &known, order, steps);
+        let below = Clock::below(limit);
+        let before = fences_before(&self.rows, order, limit);
+        greatest_of_kinds(kept, &self.made, &known, &below, &before, steps)
+    }
+
+    /// The newest position of the cell.
+    fn newest(&self, cell: CellId) -> u32
+        ensures newest { result ≡ newest self.now.tape.events cell }
+        ensures few { result ≤ length self.now.tape.events }
+    {
+        match self.views_of(cell) {
+            Some(kept) => kept.history.newest(),
+            None => 0,
+        }
+    }
+
+    /// The initial scalar of the cell.
+    fn initial(&self, cell: CellId) -> Scalar
+        requires { HasCell (scalars_of self.now.objects.items) cell }
+        ensures { result ≡ initial_of (scalars_of self.now.objects.items) cell }
+    {
+        self.objects[cell.object as usize].at(cell.at as usize)
+    }
+
+    /// The value at a position of the cell.
+    fn value<L: Ledger>(&self, cell: CellId, position: u32, steps: &mut Steps<L>) -> Scalar
+        requires cell { HasCell (scalars_of self.now.objects.items) cell }
+        requires position { position ≤ newest self.now.tape.events cell }
+        ensures value { result ≡ value_at (initial_of (scalars_of self.now.objects.items)) self.now.tape.events cell position }
+        ensures cost { steps.new ≤ steps.old + 1 }
+    {
+        if position == 0 {
+            return self.initial(cell);
+        }
+        match self.views_of(cell) {
+            Some(kept) => kept.history.value(position, steps),
+            None => self.initial(cell),
+        }
+    }
+
+    /// Whether the value at the position is the scalar.
+    fn holds<L: Ledger>(
+        &self,
+        cell: CellId,
+        scalar: Scalar,
+        position: u32,
+        steps: &mut Steps<L>,
+    ) -> bool
+        requires cell { HasCell (scalars_of self.now.objects.items) cell }
+        requires position { position ≤ newest self.now.tape.events cell }
+        ensures holds { result ≡ holds (initial_of (scalars_of self.now.objects.items)) self.now.tape.events cell scalar position }
+        ensures cost { steps.new ≤ steps.old + 1 }
+    {
+        is_same_scalar(self.value(cell, position, steps), scalar)
+    }
+
+    /// Whether the position is from the floor on and has another value.
+    fn differs<L: Ledger>(
+        &self,
+        cell: CellId,
+        floor: u32,
+        scalar: Scalar,
+        position: u32,
+        steps: &mut Steps<L>,
+    ) -> bool
+        requires cell { HasCell (scalars_of self.now.objects.items) cell }
+        requires position { position ≤ newest self.now.tape.events cell }
+        ensures differs { result ≡ differs_from (initial_of (scalars_of self.now.objects.items)) self.now.tape.events cell floor scalar position }
+        ensures cost { steps.new ≤ steps.old + 1 }
+    {
+        floor <= position && !self.holds(cell, scalar, position, steps)
+    }
+
+    /// How many positions from the floor on have another value.
+    fn count_differing<L: Ledger>(
+        &self,
+        cell: CellId,
+        floor: u32,
+        last: u32,
+        scalar: Scalar,
+        steps: &mut Steps<L>,
+    ) -> u32
+        requires cell { HasCell (scalars_of self.now.objects.items) cell }
+        requires last { last ≡ newest self.now.tape.events cell }
+        requires floor { floor ≤ last }
+        requires few { last + 1 < 4294967295 }
+        ensures count { result ≡ length (below (differs_from (initial_of (scalars_of self.now.objects.items)) self.now.tape.events cell floor scalar) (last + 1)) }
+        ensures at_most { result ≤ last + 1 }
+        ensures cost { steps.new + floor ≤ steps.old + (last + 1) }
+    {
+        let mut count = 0;
+        for position in floor..last + 1 {
+            if self.differs(cell, floor, scalar, position, steps) {
+                count += 1;
+            }
+        }
+        count
+    }
+
+    /// The n-th of these positions, from the newest down.
+    fn nth_differing<L: Ledger>(
+        &self,
+        cell: CellId,
+        floor: u32,
+        last: u32,
+        scalar: Scalar,
+        n: u32,
+        steps: &mut Steps<L>,
+    ) -> u32
+        requires cell { HasCell (scalars_of self.now.objects.items) cell }
+        requires last { last ≡ newest self.now.tape.events cell }
+        requires floor { floor ≤ last }
+        requires few { last + 1 < 4294967295 }
+        requires n { n < length (below (differs_from (initial_of (scalars_of self.now.objects.items)) self.now.tape.events cell floor scalar) (last + 1)) }
+        ensures nth { slice_get (below (differs_from (initial_of (scalars_of self.now.objects.items)) self.now.tape.events cell floor scalar) (last + 1)) n ≡ Some result }
+        ensures at_most { result ≤ last }
+        ensures cost { steps.new + floor ≤ steps.old + (last + 1) }
+    {
+        let mut left = n;
+        for position in (floor..last + 1).rev() {
+            if self.differs(cell, floor, scalar, position, steps) {
+                if left == 0 {
+                    return position;
+                }
+                left -= 1;
+            }
+        }
+        unreachable!()
+    }
+
+    /// How many positions may be read.
+    fn count_reads<L: Ledger>(
+        &self,
+        thread: u32,
+        cell: CellId,
+        order: Order,
+        excluded: Option<Scalar>,
+        steps: &mut Steps<L>,
+    ) -> u32
+        requires cell { HasCell (scalars_of self.now.objects.items) cell }
+        requires count { length self.now.tape.events + 1 < 4294967295 }
+        ensures count { result ≡ length (reads self.now.rule (initial_of (scalars_of self.now.objects.items)) self.now.tape.events thread cell order excluded) }
+        ensures at_most { result ≤ length self.now.tape.events + 1 }
+        ensures cost { (d : ℕ) → length self.now.tape.events < 2 ^ d → steps.new ≤ steps.old + (floor_bound self.now.tape.events d + looks_bound self.now.rule (initial_of (scalars_of self.now.objects.items)) self.now.tape.events thread cell order excluded) }
+    {
+        let floor = self.floor(thread, cell, order, steps);
+        let newest = self.newest(cell);
+        match excluded {
+            None => newest - floor + 1,
+            Some(scalar) => self.count_differing(cell, floor, newest, scalar, steps),
+        }
+    }
+
+    /// The n-th of the positions that may be read, from the newest down.
+    fn nth_read<L: Ledger>(
+        &self,
+        thread: u32,
+        cell: CellId,
+        order: Order,
+        excluded: Option<Scalar>,
+        n: u32,
+        steps: &mut Steps<L>,
+    ) -> u32
+        requires cell { HasCell (scalars_of self.now.objects.items) cell }
+        requires count { length self.now.tape.events + 1 < 4294967295 }
+        requires n { n < length (reads self.now.rule (initial_of (scalars_of self.now.objects.items)) self.now.tape.events thread cell order excluded) }
+        ensures nth { slice_get (reads self.now.rule (initial_of (scalars_of self.now.objects.items)) self.now.tape.events thread cell order excluded) n ≡ Some result }
+        ensures at_most { result ≤ newest self.now.tape.events cell }
+        ensures cost { (d : ℕ) → length self.now.tape.events < 2 ^ d → steps.new ≤ steps.old + (floor_bound self.now.tape.events d + looks_bound self.now.rule (initial_of (scalars_of self.now.objects.items)) self.now.tape.events thread cell order excluded) }
+    {
+        let floor = self.floor(thread, cell, order, steps);
+        let newest = self.newest(cell);
+        match excluded {
+            None => newest - n,
+            Some(scalar) => self.nth_differing(cell, floor, newest, scalar, n, steps),
+        }
+    }
+
+    /// The position as an option.
+    fn chosen<L: Ledger>(
+        &self,
+        cell: CellId,
+        success: bool,
+        position: u32,
+        steps: &mut Steps<L>,
+    ) -> Chosen
+        requires cell { HasCell (scalars_of self.now.objects.items) cell }
+        requires position { position ≤ newest self.now.tape.events cell }
+        ensures chosen { result ≡ chosen_at (initial_of (scalars_of self.now.objects.items)) self.now.tape.events cell success position }
+        ensures cost { steps.new ≤ steps.old + 1 }
+    {
+        Chosen {
+            position,
+            value: self.value(cell, position, steps),
+            success,
+        }
+    }
+
+    /// The n-th of the positions that may be read, as an option that changes nothing.
+    fn read_chosen<L: Ledger>(
+        &self,
+        thread: u32,
+        cell: CellId,
+        order: Order,
+        excluded: Option<Scalar>,
+        n: u32,
+        steps: &mut Steps<L>,
+    ) -> Chosen
+        requires cell { HasCell (scalars_of self.now.objects.items) cell }
+        requires count { length self.now.tape.events + 1 < 4294967295 }
+        requires n { n < length (reads self.now.rule (initial_of (scalars_of self.now.objects.items)) self.now.tape.events thread cell order excluded) }
+        ensures chosen { slice_get (map (chosen_at (initial_of (scalars_of self.now.objects.items)) self.now.tape.events cell false) (reads self.now.rule (initial_of (scalars_of self.now.objects.items)) self.now.tape.events thread cell order excluded)) n ≡ Some result }
+        ensures cost { (d : ℕ) → length self.now.tape.events < 2 ^ d → steps.new ≤ steps.old + (floor_bound self.now.tape.events d + looks_bound self.now.rule (initial_of (scalars_of self.now.objects.items)) self.now.tape.events thread cell order excluded + 1) }
+    {
+        let position = self.nth_read(thread, cell, order, excluded, n, steps);
+        self.chosen(cell, false, position, steps)
+    }
+
+    /// The newest position, as an option that updates the cell.
+    fn update_chosen<L: Ledger>(&self, cell: CellId, steps: &mut Steps<L>) -> Chosen
+        requires { HasCell (scalars_of self.now.objects.items) cell }
+        ensures chosen { result ≡ chosen_at (initial_of (scalars_of self.now.objects.items)) self.now.tape.events cell true (newest self.now.tape.events cell) }
+        ensures cost { steps.new ≤ steps.old + 1 }
+    {
+        let newest = self.newest(cell);
+        self.chosen(cell, true, newest, steps)
+    }
+
+    /// Whether a comparison may succeed: the newest position holds the expected scalar.
+    fn may_succeed<L: Ledger>(&self, cell: CellId, expected: Scalar, steps: &mut Steps<L>) -> bool
+        requires { HasCell (scalars_of self.now.objects.items) cell }
+        ensures may { result ≡ holds (initial_of (scalars_of self.now.objects.items)) self.now.tape.events cell expected (newest self.now.tape.events cell) }
+        ensures cost { steps.new ≤ steps.old + 1 }
+    {
+        let newest = self.newest(cell);
+        self.holds(cell, expected, newest, steps)
+    }
+}
+
+/// What a comparison may not read: the expected scalar, where it is strong.
+fn excluded(weak: bool, expected: Scalar) -> Option<Scalar>
+    ensures { result ≡ excluded_by weak expected }
+{
+    if weak { None } else { Some(expected) }
+}
+
+impl Memory for ViewMemory {
+    ghost log = { λ memory. memory.tape.events };
+
+    ghost objects = { λ memory. scalars_of memory.objects.items };
+
+    ghost rule = { λ memory. memory.rule };
+
+    ghost room = { λ memory. memory.room };
+
+    fn add_object(&mut self, initial: Value) -> Result<(), AllocError> {
+        self.objects.push(initial)?;
+        Ok(())
+    }
+
+    fn reserve(
+        &mut self,
+        thread: u32,
+        cell: Option<CellId>,
+        events: u32,
+    ) -> Result<(), AllocError> {
+        self.room = Room {
+            thread,
+            cell: None,
+            events: 0,
+        };
+        self.tape.reserve_many(events as usize)?;
+        self.rows.reserve(self.alloc, events)?;
+        reserve_threads(&mut self.made, events as usize)?;
+        kept_cells::reserve_step(
+            &mut self.places,
+            &mut self.kept,
+            self.alloc,
+            thread,
+            cell,
+            events,
+        )?;
+        self.room = Room {
+            thread,
+            cell,
+            events,
+        };
+        Ok(())
+    }
+
+    fn options<L: Ledger>(
+        &self,
+        thread: u32,
+        cell: CellId,
+        wanted: &Wanted,
+        steps: &mut Steps<L>,
+    ) -> u32
+        requires thread { is_thread self.now.tape.events thread ≡ true }
+        requires cell { HasCell (scalars_of self.now.objects.items) cell }
+        requires count { length self.now.tape.events + 1 < 4294967295 }
+        ensures count { result ≡ length (choices self.now.rule (initial_of (scalars_of self.now.objects.items)) self.now.tape.events thread cell wanted.now) }
+        ensures some { 1 ≤ result }
+        ensures cost { (d : ℕ) → length self.now.tape.events < 2 ^ d → steps.new ≤ steps.old + (search_bound self.now.tape.events d + values_bound self.now.rule (initial_of (scalars_of self.now.objects.items)) self.now.tape.events thread cell wanted.now) }
+    {
+        match *wanted {
+            Wanted::Load { order } => self.count_reads(thread, cell, order, None, steps),
+            Wanted::Swap => 1,
+            Wanted::Compare {
+                failure,
+                expected,
+                weak,
+                ..
+            } => {
+                let failures = self.count_reads(
+                    thread,
+                    cell,
+                    failure,
+                    excluded(weak, expected),
+                    steps,
+                );
+                if self.may_succeed(cell, expected, steps) {
+                    return failures + 1;
+                }
+                failures
+            }
+        }
+    }
+
+    fn choose<L: Ledger>(
+        &self,
+        thread: u32,
+        cell: CellId,
+        wanted: &Wanted,
+        n: u32,
+        steps: &mut Steps<L>,
+    ) -> Chosen
+        requires thread { is_thread self.now.tape.events thread ≡ true }
+        requires cell { HasCell (scalars_of self.now.objects.items) cell }
+        requires count { length self.now.tape.events + 1 < 4294967295 }
+        requires n { n < length (choices self.now.rule (initial_of (scalars_of self.now.objects.items)) self.now.tape.events thread cell wanted.now) }
+        ensures chosen { slice_get (choices self.now.rule (initial_of (scalars_of self.now.objects.items)) self.now.tape.events thread cell wanted.now) n ≡ Some result }
+        ensures cost { (d : ℕ) → length self.now.tape.events < 2 ^ d → steps.new ≤ steps.old + (search_bound self.now.tape.events d + values_bound self.now.rule (initial_of (scalars_of self.now.objects.items)) self.now.tape.events thread cell wanted.now) }
+    {
+        match *wanted {
+            Wanted::Load { order } => self.read_chosen(thread, cell, order, None, n, steps),
+            Wanted::Swap => self.update_chosen(cell, steps),
+            Wanted::Compare {
+                failure,
+                expected,
+                weak,
+                ..
+            } => {
+                if !self.may_succeed(cell, expected, steps) {
+                    return self.read_chosen(
+                        thread,
+                        cell,
+                        failure,
+                        excluded(weak, expected),
+                        n,
+                        steps,
+                    );
+                }
+                if n == 0 {
+                    return self.update_chosen(cell, steps);
+                }
+                self.read_chosen(
+                    thread,
+                    cell,
+                    failure,
+                    excluded(weak, expected),
+                    n - 1,
+                    steps,
+                )
+            }
+        }
+    }
+
+    fn commit<L: Ledger>(&mut self, event: Event, steps: &mut Steps<L>) -> Option<Race>
+        requires fits { EventFits self.old.rule (scalars_of self.old.objects.items) self.old.tape.events event }
+        requires room { HasRoom self.old.room event }
+        requires count { length self.old.tape.events + 1 < 4294967295 }
+        ensures race { MatchOption result (race self.old.rule self.old.tape.events event ≡ None) (λ found. race self.old.rule self.old.tape.events event ≡ Some found.earlier) }
+        ensures added { IsNone result → self.new.tape.events ≡ event ∷ self.old.tape.events }
+        ensures room { IsNone result → self.new.room ≡ one_less self.old.room }
+        ensures raced { IsSome result → self.new.tape.events ≡ self.old.tape.events }
+        ensures raced_room { IsSome result → self.new.room ≡ self.old.room }
+        ensures same_objects { scalars_of self.new.objects.items ≡ scalars_of self.old.objects.items }
+        ensures same_rule { self.new.rule ≡ self.old.rule }
+        ensures cost { (d : ℕ) → length self.old.tape.events < 2 ^ d → steps.new ≤ steps.old + search_bound self.old.tape.events d }
+    {
+        let taken = self.taken(&event);
+        let gained = self.gained(&event, &taken);
+        match self.race_of(&event, &gained, steps) {
+            Some(earlier) => Some(Race { earlier }),
+            None => {
+                self.add(event, &taken, &gained);
+                None
+            }
+        }
+    }
+
+    ghost sound = { λ memory. memory.log_holds.sound };
+}
