@@ -1,21 +1,18 @@
 -- The words of instructions that read and write memory.
-use Rattle.std.proofs.Common.{◌≡◌, ℕ, Bool, true, false, List, [], ◌∷◌, ◌++◌, Option, Some, None, refl, sym, ap, subst, ◌∙◌, inl, inr}
-use Rattle.std.specs.Prelude.{codes, option_map, ◌⊎◌, ◌||◌}
+use Rattle.std.proofs.Common.{◌≡◌, ℕ, false, List, [], ◌∷◌, ◌++◌, Option, Some, None, refl, sym, ap, subst, inl, inr}
+use Rattle.std.specs.Prelude.{codes, option_map}
 use Rattle.text_forms.specs.declared.symbol.Symbol.TheVariants as symbols
-use Rattle.text_forms.specs.Forms.{Form, nothing, on, made}
+use Rattle.text_forms.specs.Forms.{made}
 use Rattle.text_forms.specs.Derives.{Derives}
 use Rattle.ir_lex.specs.declared.token.TokenKind.TheVariants as kinds
-use Rattle.ir_lex.specs.declared.name.Name.{Name}
 use Rattle.ir_lex.specs.Printed.{Piece}
 use Rattle.ir_lex.specs.WordTable.{words}
 use Rattle.ir_lex.specs.TokenForms.{mark}
-use Rattle.ir_tree.specs.declared.operands.Operand.{Operand}
-use Rattle.ir_tree.specs.declared.operands.ExceptionClause.{ExceptionClause}
 use Rattle.ir_tree.specs.declared.operators.MemoryOrder.TheVariants as orders
 use Rattle.ir_tree.specs.declared.operators.Order.{Order}
 use Rattle.ir_tree.specs.declared.accessing.Access.{Access}
 use Rattle.ir_tree.specs.declared.accessing.Access.TheVariants as accesses
-use Rattle.ir_tree.specs.Words.{words_of, order_words as order_table, update_words, order}
+use Rattle.ir_tree.specs.Words.{order_words as order_table, update_words, order}
 use Rattle.ir_tree.specs.Accesses.{optional_order, order_at, load, store, weak, cmpxchg, atomicrmw, fence, access}
 use Rattle.ir_print.specs.Spellings.{spelling}
 use Rattle.ir_print.specs.Words.{spaced, word as word_piece, optional_words}
@@ -23,8 +20,8 @@ use Rattle.ir_print.specs.Operators.{update_text, order_text}
 use Rattle.ir_print.specs.Lists.{bracketed_words, value_words, exc_words}
 use Rattle.ir_print.specs.Accesses.{order_words, weak_words, stored_words, exchanged_words, access_words}
 use Rattle.ir_print.specs.Placeless.{bare_name, bare_value, bare_exc, bare_order, bare_access}
-use Rattle.ir_print.proofs.Apart.{Apart, after}
-use Rattle.ir_print.proofs.Prints.{Prints, IsWord, tok, toks, erase, erased_none, both_prints, made_as, made_prints, on_prints, nothing_prints, optional_prints}
+use Rattle.ir_print.proofs.Apart.{Apart}
+use Rattle.ir_print.proofs.Prints.{Prints, IsWord, tok, toks, erased_none, both_prints, made_as, made_prints, on_prints, nothing_prints, optional_prints}
 use Rattle.ir_print.proofs.TokenKinds.{word_is}
 use Rattle.ir_print.proofs.Tokens.{word_at, one_of_prints}
 use Rattle.ir_print.proofs.ListForms.{bracketed_prints, value_prints, exc_prints}

@@ -1,12 +1,11 @@
 -- The words of what bodies are made of, and of each line of a body.
 use Rattle.std.proofs.Common.{◌≡◌, ℕ, Bool, true, false, List, [], ◌∷◌, ◌++◌, map, Option, Some, None, refl, sym, ap, subst, ◌∙◌, append_assoc, inl, inr}
-use Rattle.std.specs.Prelude.{codes, option_map, ◌⊎◌, ◌||◌}
+use Rattle.std.specs.Prelude.{option_map, ◌⊎◌, ◌||◌}
 use Rattle.std.specs.List.{list_all}
 use Rattle.text_forms.specs.declared.symbol.Symbol.TheVariants as symbols
 use Rattle.text_forms.specs.Tokens.{Tok}
 use Rattle.text_forms.specs.Forms.{Form, nothing, both, on, made, within, up_to, up_to_from, ◌▸◌}
 use Rattle.text_forms.specs.Derives.{Derives}
-use Rattle.ir_lex.specs.declared.token.TokenKind.TheVariants as kinds
 use Rattle.ir_lex.specs.declared.token.Mark.TheVariants as marks
 use Rattle.ir_lex.specs.declared.name.Name.{Name}
 use Rattle.ir_lex.specs.Bytes.{is_blank}
@@ -14,10 +13,9 @@ use Rattle.ir_lex.specs.Printed.{Piece}
 use Rattle.ir_lex.specs.TokenForms.{mark}
 use Rattle.ir_tree.specs.declared.code.Inst.{Inst}
 use Rattle.ir_tree.specs.declared.code.Parameter.{Parameter}
-use Rattle.ir_tree.specs.declared.code.BlockHead.{BlockHead}
 use Rattle.ir_tree.specs.declared.code.Line.{Line}
 use Rattle.ir_tree.specs.declared.code.Line.TheVariants as body_lines
-use Rattle.ir_tree.specs.Lists.{optional, local}
+use Rattle.ir_tree.specs.Lists.{local}
 use Rattle.ir_tree.specs.Instructions.{labelled, with_results}
 use Rattle.ir_tree.specs.Blocks.{pair, params, handler, HeadRest, head_rest, head_of, head, result}
 use Rattle.ir_tree.specs.Bodies.{named_line, named, results, more_results, opened_line, opened, line}
@@ -34,7 +32,7 @@ use Rattle.ir_print.proofs.Tokens.{local_prints, mark_at, close_is}
 use Rattle.ir_print.proofs.ListForms.{open_prints, close_prints, bracketed_prints}
 use Rattle.ir_print.proofs.ControlForms.{bracket, closing, bracket_good, closing_good, append_good}
 use Rattle.ir_print.proofs.CommonForms.{square_open_prints, square_close_prints}
-use Rattle.ir_print.proofs.InstructionForms.{labelled_core, results_core, labelled_prints, equals_prints, result_prints, no_results}
+use Rattle.ir_print.proofs.InstructionForms.{labelled_core, results_core, labelled_prints, result_prints, no_results}
 
 -- ---- heads
 

@@ -1,12 +1,12 @@
 -- Choices of which one alternative alone is printed.
-use Rattle.std.proofs.Common.{◌≡◌, ℕ, Bool, true, false, List, [], ◌∷◌, ◌++◌, refl, sym, ap, subst, ◌∙◌, inl, inr}
-use Rattle.std.specs.Prelude.{◌||◌, ◌⊎◌}
+use Rattle.std.proofs.Common.{◌≡◌, ℕ, Bool, false, List, refl, sym, ap, subst, ◌∙◌, inl, inr}
+use Rattle.std.specs.Prelude.{◌⊎◌}
 use Rattle.text_forms.specs.declared.symbol.Symbol.{Symbol}
 use Rattle.text_forms.specs.Tokens.{Tok}
 use Rattle.text_forms.specs.Forms.{Form, nothing, both, on, made}
 use Rattle.text_forms.specs.Derives.{Derives}
 use Rattle.ir_lex.specs.Printed.{Piece}
-use Rattle.ir_print.proofs.Apart.{Apart, after}
+use Rattle.ir_print.proofs.Apart.{Apart}
 use Rattle.ir_print.proofs.Prints.{AllGood, toks, erase, erased_split, erased_none, Prints}
 
 -- some tokens of a text have this meaning

@@ -1,6 +1,6 @@
 -- The words of common instructions. Where the list of values is `()` it is no part of the form: it is a line of its own to the
 -- reader of a body.
-use Rattle.std.proofs.Common.{◌≡◌, ℕ, Bool, true, false, List, [], ◌∷◌, ◌++◌, refl, sym, ap, subst, ◌∙◌, append_assoc}
+use Rattle.std.proofs.Common.{◌≡◌, ℕ, Bool, true, false, List, [], ◌∷◌, ◌++◌, refl, sym, ap, append_assoc}
 use Rattle.std.specs.Prelude.{codes}
 use Rattle.std.proofs.lemmas.List.{append-nil}
 use Rattle.text_forms.specs.declared.symbol.Symbol.TheVariants as symbols

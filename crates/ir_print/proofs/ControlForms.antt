@@ -1,26 +1,23 @@
 -- The words of instructions that say where the function goes on, or that enter or leave one.
-use Rattle.std.proofs.Common.{◌≡◌, ℕ, Bool, true, false, List, [], ◌∷◌, ◌++◌, map, refl, sym, ap, subst, ◌∙◌, append_assoc}
+use Rattle.std.proofs.Common.{◌≡◌, ℕ, true, false, List, [], ◌∷◌, ◌++◌, refl, sym, ap, ◌∙◌, append_assoc}
 use Rattle.std.specs.Prelude.{codes}
-use Rattle.std.specs.List.{flat_map}
 use Rattle.std.proofs.lemmas.Bool.{leb-true}
 use Rattle.text_forms.specs.declared.symbol.Symbol.TheVariants as symbols
 use Rattle.text_forms.specs.Tokens.{Tok}
-use Rattle.text_forms.specs.Forms.{Form, on, made}
+use Rattle.text_forms.specs.Forms.{made}
 use Rattle.ir_lex.specs.declared.token.TokenKind.TheVariants as kinds
 use Rattle.ir_lex.specs.declared.token.Mark.TheVariants as marks
-use Rattle.ir_lex.specs.Lexemes.{IsToken}
 use Rattle.ir_lex.specs.Spellings.{mark as mark_spells}
 use Rattle.ir_lex.specs.Printed.{Piece}
 use Rattle.ir_lex.specs.WordTable.{words}
 use Rattle.ir_lex.specs.TokenForms.{mark}
 use Rattle.ir_tree.specs.declared.operands.Operand.{Operand}
 use Rattle.ir_tree.specs.declared.operands.Operand.TheVariants as operands
-use Rattle.ir_tree.specs.declared.operands.Arguments.{Arguments}
 use Rattle.ir_tree.specs.declared.flow.ControlFlow.{ControlFlow}
 use Rattle.ir_tree.specs.Lists.{value, values}
 use Rattle.ir_tree.specs.Control.{branch, branch2, switch_case, switch, call, tailcall, place_of, alone, ret, throw, control}
 use Rattle.ir_print.specs.Spellings.{spelling}
-use Rattle.ir_print.specs.Words.{tight, spaced, mark as mark_piece, word as word_piece}
+use Rattle.ir_print.specs.Words.{spaced, mark as mark_piece, word as word_piece}
 use Rattle.ir_print.specs.Lists.{bracketed_words, value_words, dest_words, exc_keep_words}
 use Rattle.ir_print.specs.Control.{switch_case_words, case_list_words, control_words}
 use Rattle.ir_print.specs.Placeless.{bare_value, bare_values, bare_case, bare_control}

@@ -1,10 +1,9 @@
 -- The words of instructions.
-use Rattle.std.proofs.Common.{◌≡◌, ℕ, Bool, true, false, List, [], ◌∷◌, ◌++◌, Option, Some, None, refl, sym, ap, subst, ◌∙◌, append_assoc, inl, inr}
+use Rattle.std.proofs.Common.{◌≡◌, ℕ, true, false, List, [], ◌∷◌, ◌++◌, Option, Some, None, refl, sym, ap, ◌∙◌, append_assoc, inl, inr}
 use Rattle.std.specs.Prelude.{codes}
 use Rattle.std.proofs.lemmas.List.{append-nil}
 use Rattle.text_forms.specs.declared.symbol.Symbol.TheVariants as symbols
 use Rattle.text_forms.specs.Tokens.{Tok}
-use Rattle.text_forms.specs.Forms.{Form, made}
 use Rattle.text_forms.specs.Derives.{Derives}
 use Rattle.ir_lex.specs.declared.token.Mark.TheVariants as marks
 use Rattle.ir_lex.specs.declared.name.Name.{Name}
@@ -26,7 +25,7 @@ use Rattle.ir_print.specs.Control.{control_words}
 use Rattle.ir_print.specs.Objects.{allocation_words, addressing_words}
 use Rattle.ir_print.specs.Accesses.{access_words}
 use Rattle.ir_print.specs.Stacks.{trapping_words, stack_switch_words}
-use Rattle.ir_print.specs.Instructions.{op_words, labelled_words, results_words, inst_words}
+use Rattle.ir_print.specs.Instructions.{op_words, labelled_words, results_words}
 use Rattle.ir_print.specs.Placeless.{bare_name, bare_common_inst, bare_op, bare_inst}
 use Rattle.ir_print.proofs.Prints.{Prints, both_prints, made_prints, on_prints, after_prints, before_prints, left_out_prints}
 use Rattle.ir_print.proofs.Tokens.{local_prints, mark_at, word_at}

@@ -1,16 +1,13 @@
 -- The words of items.
-use Rattle.std.proofs.Common.{◌≡◌, ℕ, Bool, true, false, List, [], ◌∷◌, ◌++◌, map, refl, sym, ap, ◌∙◌, append_assoc}
+use Rattle.std.proofs.Common.{true, false, List, [], ◌∷◌, refl, sym, ap, append_assoc}
 use Rattle.std.specs.Prelude.{codes}
 use Rattle.text_forms.specs.declared.symbol.Symbol.TheVariants as symbols
-use Rattle.text_forms.specs.Forms.{Form}
 use Rattle.ir_lex.specs.declared.token.Mark.TheVariants as marks
 use Rattle.ir_lex.specs.Printed.{Piece}
 use Rattle.ir_lex.specs.WordTable.{words, directives}
-use Rattle.ir_lex.specs.TokenForms.{mark}
-use Rattle.ir_tree.specs.declared.items.Item.TheVariants as items
 use Rattle.ir_tree.specs.Items.{typedef, funcsig, constant, global_cell, funcdecl, funcdef, item}
 use Rattle.ir_print.specs.Spellings.{spelling}
-use Rattle.ir_print.specs.Words.{tight, spaced, mark as mark_piece, directive as directive_piece, global as global_piece}
+use Rattle.ir_print.specs.Words.{spaced, mark as mark_piece, directive as directive_piece, global as global_piece}
 use Rattle.ir_print.specs.Lists.{bracketed_words, global_list_words}
 use Rattle.ir_print.specs.Types.{literal_words}
 use Rattle.ir_print.specs.Items.{typedef_words, funcsig_words, constant_words, global_cell_words, funcdecl_words, funcdef_words, item_words}

@@ -1,13 +1,11 @@
 -- The words of a body: its lines one after the other, each read in the state that the lines before it leave.
 use Rattle.std.proofs.Common.{◌≡◌, ℕ, suc, Bool, true, false, List, [], ◌∷◌, ◌++◌, map, refl, sym, ap, subst, ◌∙◌, append_assoc, inl, inr}
-use Rattle.std.specs.Prelude.{nat_le, ◌⊎◌, ◌||◌}
-use Rattle.std.specs.List.{list_all, flat_map}
+use Rattle.std.specs.Prelude.{nat_le, ◌||◌}
+use Rattle.std.specs.List.{flat_map}
 use Rattle.std.proofs.lemmas.Bool.{leb-true}
 use Rattle.text_forms.specs.declared.symbol.Symbol.TheVariants as symbols
 use Rattle.text_forms.specs.Tokens.{Tok}
-use Rattle.text_forms.specs.Forms.{Form}
 use Rattle.text_forms.specs.Derives.{Elements, Derives}
-use Rattle.ir_lex.specs.declared.token.TokenKind.TheVariants as kinds
 use Rattle.ir_lex.specs.declared.token.Mark.TheVariants as marks
 use Rattle.ir_lex.specs.Spellings.{mark as mark_spells}
 use Rattle.ir_lex.specs.Printed.{Piece, IsPiece}
@@ -23,14 +21,13 @@ use Rattle.ir_print.specs.Words.{tight, spaced, on_new_line, indented, mark as m
 use Rattle.ir_print.specs.CommonForms.{no_values}
 use Rattle.ir_print.specs.Instructions.{inst_words}
 use Rattle.ir_print.specs.Bodies.{head_words, block_words, body_words}
-use Rattle.ir_print.specs.Placeless.{bare_op, bare_inst, bare_head, bare_block}
-use Rattle.ir_print.proofs.Apart.{some, Apart, after, apart_append, after_append}
+use Rattle.ir_print.specs.Placeless.{bare_inst, bare_head, bare_block}
+use Rattle.ir_print.proofs.Apart.{Apart, after, apart_append, after_append}
 use Rattle.ir_print.proofs.Prints.{AllGood, good_split, tok, toks, toks_append, erase, erased_split, Prints, both_prints, made_as, after_prints, fixed_prints}
-use Rattle.ir_print.proofs.Choices.{Unplaces}
 use Rattle.ir_print.proofs.Tokens.{mark_at}
 use Rattle.ir_print.proofs.CommonForms.{tail_of}
 use Rattle.ir_print.proofs.InstructionForms.{results_core, results_parts, leaves_again}
-use Rattle.ir_print.proofs.BodyForms.{head_prints, line_core, bare_line, LineAgain, line_again, line_closed, empty_line, line_unplaces}
+use Rattle.ir_print.proofs.BodyForms.{head_prints, bare_line, line_again, line_closed, empty_line, line_unplaces}
 
 -- ---- lines
 

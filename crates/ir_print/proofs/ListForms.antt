@@ -1,21 +1,18 @@
 -- The words of names in brackets, of operands and of the lists that instructions and items are made of.
-use Rattle.std.proofs.Common.{◌≡◌, ℕ, Bool, true, false, List, [], ◌∷◌, ◌++◌, map, refl, sym, ap, subst, ◌∙◌, append_assoc, inl, inr}
+use Rattle.std.proofs.Common.{true, false, List, [], ◌∷◌, ◌++◌, map, refl, sym, ap, subst, ◌∙◌, append_assoc}
 use Rattle.std.specs.Prelude.{codes}
 use Rattle.text_forms.specs.declared.symbol.Symbol.TheVariants as symbols
 use Rattle.text_forms.specs.Derives.{Derives}
-use Rattle.text_forms.specs.Forms.{Form, both, on, made, up_to, ◌▸◌, ◌◂◌}
+use Rattle.text_forms.specs.Forms.{◌▸◌, ◌◂◌}
 use Rattle.ir_lex.specs.declared.token.Mark.TheVariants as marks
-use Rattle.ir_lex.specs.declared.name.Name.{Name}
 use Rattle.ir_lex.specs.Printed.{Piece}
 use Rattle.ir_lex.specs.WordTable.{words}
-use Rattle.ir_lex.specs.TokenForms.{mark, numeral}
+use Rattle.ir_lex.specs.TokenForms.{mark}
 use Rattle.ir_tree.specs.declared.operands.Operand.{Operand}
-use Rattle.ir_tree.specs.declared.operands.Operand.TheVariants as operands
-use Rattle.ir_tree.specs.declared.operands.NewStackClause.TheVariants as stacks
-use Rattle.ir_tree.specs.Lists.{global, local, bracketed, bracketed_pair, global_list, local_list, type_list, value, values, dest, exc, keep, pass_values, throw_exc, new_stack_clause}
+use Rattle.ir_tree.specs.Lists.{bracketed, bracketed_pair, global_list, local_list, type_list, value, values, dest, exc, keep, pass_values, throw_exc, new_stack_clause}
 use Rattle.ir_tree.specs.Computations.{bracketed_field}
 use Rattle.ir_print.specs.Spellings.{spelling}
-use Rattle.ir_print.specs.Words.{tight, spaced, mark as mark_piece, word as word_piece, number as number_piece, global_words, local_words, listed}
+use Rattle.ir_print.specs.Words.{tight, spaced, mark as mark_piece, word as word_piece, global_words, local_words}
 use Rattle.ir_print.specs.Lists.{bracketed_words, bracketed_pair_words, bracketed_field_words, global_list_words, local_list_words, type_list_words, value_words, values_words, dest_words, exc_words, keep_words, new_stack_clause_words}
 use Rattle.ir_print.specs.Placeless.{bare_name, bare_number, bare_value, bare_values, bare_dest, bare_exc, bare_new_stack_clause}
 use Rattle.ir_print.proofs.Prints.{good_split, Prints, both_prints, made_prints, on_prints, after_prints, before_prints, worded_prints}

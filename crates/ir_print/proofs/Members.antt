@@ -5,7 +5,7 @@ use Rattle.std.specs.List.{list_all, flat_map}
 use Rattle.std.proofs.lemmas.List.Concat.{flat_map-cons}
 use Rattle.text_forms.specs.declared.symbol.Symbol.{Symbol}
 use Rattle.text_forms.specs.Tokens.{Tok, has}
-use Rattle.text_forms.specs.Forms.{Form, token, past, within, up_to_from}
+use Rattle.text_forms.specs.Forms.{Form, token, within, up_to_from}
 use Rattle.text_forms.specs.Derives.{Elements, Derives}
 use Rattle.ir_lex.specs.Bytes.{is_blank}
 use Rattle.ir_lex.specs.Printed.{Piece, IsPiece}

@@ -1,6 +1,6 @@
 -- The text of a number spells it.
-use Rattle.std.proofs.Common.{◌≡◌, ℕ, zero, suc, ◌+◌, ◌/◌, ◌%◌, ◌<◌, ◌≤◌, ◌^◌, Bool, true, false, List, [], ◌∷◌, ◌++◌, length, get_or, refl, sym, ap, subst, ◌∙◌, arith, length-append}
-use Rattle.std.specs.Prelude.{◌==◌, ◌&&◌, ◌||◌, not, decimal, nat_lt}
+use Rattle.std.proofs.Common.{◌≡◌, ℕ, zero, suc, ◌+◌, ◌/◌, ◌%◌, ◌<◌, ◌≤◌, ◌^◌, Bool, true, false, List, [], ◌∷◌, ◌++◌, length, get_or, refl, sym, subst, arith, length-append}
+use Rattle.std.specs.Prelude.{◌==◌, not, decimal}
 use Rattle.std.specs.List.{list_all}
 use Rattle.std.specs.Char.{is_digit, digit_value, is_ascii_digit, is_ascii_alphanumeric}
 use Rattle.std.specs.Str.Parse.{AllDigits, digits_value}
@@ -13,8 +13,8 @@ use Rattle.std.proofs.lemmas.Str.Parse.{digit_from_value}
 use Rattle.ir_lex.specs.declared.token.TokenKind.TheVariants as kinds
 use Rattle.ir_lex.specs.declared.token.Number.{Number}
 use Rattle.ir_lex.specs.Spellings.{Spells, plain, signed}
-use Rattle.ir_lex.specs.Lexemes.{IsToken, longest_token}
-use Rattle.ir_lex.specs.Numerals.{are_digits, Denotes, nought, decimal as digits_denote, Means, plain as plain_means, plus, minus}
+use Rattle.ir_lex.specs.Lexemes.{IsToken}
+use Rattle.ir_lex.specs.Numerals.{Denotes, nought, decimal as digits_denote, Means, plain as plain_means, plus, minus}
 use Rattle.ir_print.specs.Words.{number_text}
 
 -- ---- digits

@@ -1,5 +1,5 @@
 -- The words of instructions that make objects and find places in them.
-use Rattle.std.proofs.Common.{◌≡◌, ℕ, Bool, true, false, List, [], ◌∷◌, ◌++◌, refl}
+use Rattle.std.proofs.Common.{ℕ, false, refl}
 use Rattle.std.specs.Prelude.{codes}
 use Rattle.text_forms.specs.declared.symbol.Symbol.TheVariants as symbols
 use Rattle.ir_lex.specs.WordTable.{words}

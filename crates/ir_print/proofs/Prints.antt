@@ -1,14 +1,12 @@
 -- What it means that words print a form, and how the words of a form are made of those of its parts.
-use Rattle.std.proofs.Common.{◌≡◌, ℕ, suc, Bool, true, false, List, [], ◌∷◌, ◌++◌, map, Option, Some, None, refl, sym, ap, subst, ◌∙◌, append_assoc, inl, inr}
+use Rattle.std.proofs.Common.{◌≡◌, ℕ, Bool, true, false, List, [], ◌∷◌, ◌++◌, Some, None, refl, sym, ap, subst, ◌∙◌, inl, inr}
 use Rattle.std.specs.Prelude.{◌||◌, ◌&&◌, ◌⊎◌, option_map}
-use Rattle.std.specs.List.{list_all, flat_map}
-use Rattle.std.proofs.lemmas.List.Concat.{flat_map-cons}
+use Rattle.std.specs.List.{list_all}
 use Rattle.text_forms.specs.declared.symbol.Symbol.{Symbol}
 use Rattle.text_forms.specs.Tokens.{Tok, has}
 use Rattle.text_forms.specs.Forms.{Form, nothing, never, both, on, made, left_out, ◌▸◌, ◌◂◌}
 use Rattle.text_forms.specs.Derives.{Derives}
 use Rattle.ir_lex.specs.declared.token.TokenKind.{TokenKind}
-use Rattle.ir_lex.specs.declared.token.TokenKind.TheVariants as kinds
 use Rattle.ir_lex.specs.declared.name.Name.{Name}
 use Rattle.ir_lex.specs.Bytes.{is_blank}
 use Rattle.ir_lex.specs.Spellings.{Spells}
@@ -17,7 +15,7 @@ use Rattle.ir_lex.specs.Printed.{Piece, IsPiece}
 use Rattle.ir_lex.specs.Seen.{symbol_of}
 use Rattle.ir_lex.specs.TokenForms.{mark, name}
 use Rattle.ir_tree.specs.Lists.{optional}
-use Rattle.ir_print.specs.Words.{tight, spaced, listed, optional_words}
+use Rattle.ir_print.specs.Words.{spaced, optional_words}
 use Rattle.ir_print.specs.Placeless.{bare_name}
 use Rattle.ir_print.proofs.Apart.{is_mark, stands_tight, some, Apart, after, apart_append, after_append}
 

@@ -1,8 +1,11 @@
 -- The canonical text reads back.
 use Rattle.std.proofs.Common.{◌≡◌, ℕ, suc, ◌+◌, length, Bool, true, false, List, [], ◌∷◌, ◌++◌, map, Option, None, refl, sym, ap, subst, ◌∙◌, append_assoc}
-use Rattle.std.specs.Prelude.{nat_le, ◌||◌}
+use Rattle.std.specs.Prelude.{nat_le, ◌||◌, ◌≤◌}
 use Rattle.std.specs.List.{list_all, flat_map}
-use Rattle.text_forms.specs.declared.symbol.Symbol.{Symbol}
+use Rattle.std.proofs.lemmas.Bool.{leb-true, cases_Bool}
+use Rattle.std.proofs.Common.{arith, inl, inr}
+use Rattle.text_forms.specs.Forms.{within}
+use Rattle.ir_print.proofs.Choices.{Said}
 use Rattle.text_forms.specs.declared.symbol.Symbol.TheVariants as symbols
 use Rattle.text_forms.specs.Tokens.{Tok}
 use Rattle.text_forms.specs.Derives.{Derives}
@@ -26,10 +29,10 @@ use Rattle.ir_tree.proofs.Grammatical.{is_grammar}
 use Rattle.ir_print.specs.Words.{word_text, on_new_line}
 use Rattle.ir_print.specs.Items.{typedef_words, funcsig_words, constant_words, global_cell_words, funcdecl_words, funcdef_words, item_words, item_text, bundle_text}
 use Rattle.ir_print.specs.Placeless.{bare_item, bare_bundle}
-use Rattle.ir_print.specs.Laws.{Reads, Alike, ReadsBack, ReadsBackOnly}
+use Rattle.ir_print.specs.Laws.{ReadsBack, ReadsBackOnly, IsRead, AllRead, ItemsReadBack}
 use Rattle.ir_print.proofs.Texts.{text_append}
 use Rattle.ir_print.proofs.Apart.{some, Apart, after, apart_append, stand_apart}
-use Rattle.ir_print.proofs.Prints.{IsGood, AllGood, tok, toks, toks_append, unplaced, erase}
+use Rattle.ir_print.proofs.Prints.{IsGood, AllGood, tok, toks, toks_append, erase}
 use Rattle.ir_print.proofs.Members.{Members, within_is, within_again, members_placed}
 use Rattle.ir_print.proofs.ItemForms.{item_prints}
 
@@ -214,3 +217,52 @@ pub reads_back_only : ReadsBackOnly
 reads_back_only text b c d e =
     let (a, da, same) = reads_back text b d in
     same ∙ ap bare_bundle (is_unambiguous bundle is_grammar (tokens_from (bundle_text b) 0) a c da e)
+
+-- ---- items that each some text has
+
+said_item : (front back : List Item) (x : Item) (t : Tok) (k : ℕ) (ts : List Tok) → AlmostGood ts → ItemsOf t k ts (front ++ x ∷ back) → Said item x
+said_item [] back x t k ts good (u, v, q, d, rest) =
+    let s = items_some back t (suc k) v rest in
+    let (gu, gs) = almost_split u s.first s.others (subst AlmostGood (q ∙ ap (λ (l : List Tok). u ++ l) s.parts) good) in
+    record { tokens = u; good = gu; derived = within_is item (nat_le 16384 k) u x d }
+said_item (y ∷ front) back x t k ts good (u, v, q, d, rest) =
+    let s = items_some (front ++ x ∷ back) t (suc k) v rest in
+    let (gu, gs) = almost_split u s.first s.others (subst AlmostGood (q ∙ ap (λ (l : List Tok). u ++ l) s.parts) good) in
+    said_item front back x t (suc k) v (subst AlmostGood (sym s.parts) gs) rest
+
+is_said : (x : Item) → IsRead x → Said item x
+unfolding bundle
+is_said x (text, front, back, (y, d, q)) = said_item front back x y.1 0 (tokens_from text 0) (text_good text) (subst (λ (l : List Item). ItemsOf y.1 0 (tokens_from text 0) l) (sym q) d)
+
+below : (n k m : ℕ) → k + suc m ≤ n → nat_le n k ≡ false
+below n k m fits = elim (cases_Bool (nat_le n k)) [
+  | inl e ↦ absurd (let least = leb-true n k e in omega arith)
+  | inr e ↦ e
+]
+
+all_again : (xs : List Item) → AllRead xs → (space : List ℕ) → list_all is_blank space ≡ true → (k : ℕ) → k + length xs ≤ 16384 → ItemsAgain space k xs
+all_again [] all space blank k fits = record { derived = (refl, refl); apart = λ o h. tt }
+all_again (x ∷ xs) (r, all) space blank k fits =
+    let s = is_said x r in
+    let later = all_again xs all on_new_line refl (suc k) (omega arith) in
+    let ws = item_words space x in
+    let more = pieces_from on_new_line xs in
+    record {
+      derived = (
+        toks ws,
+        toks more ++ end_tok ∷ [],
+        ap (λ (l : List Tok). l ++ end_tok ∷ []) (toks_append ws more) ∙ append_assoc (toks ws) (toks more) (end_tok ∷ []),
+        subst (λ (b : Bool). Derives (within item b) (toks ws) (bare_item x)) (sym (below 16384 k (length xs) (omega arith))) (item_prints.again space s.tokens x s.good s.derived),
+        later.derived,
+      );
+      apart = λ o h. apart_append o ws more (item_prints.apart space s.tokens x blank s.good s.derived o h) (later.apart (after o ws) (or_some (after o ws)));
+    }
+
+items_derived : (b : List Item) → ItemsAgain [] 0 b → Derives bundle (erase (tokens_from (bundle_text b) 0)) (bare_bundle b)
+unfolding bundle
+items_derived b r = subst (λ (l : List Tok). Derives bundle l (bare_bundle b)) (sym (printed_tokens b (r.apart true refl))) ((bare_bundle b, end_tok), r.derived, refl)
+
+pub items_read_back : ItemsReadBack
+items_read_back b all fits =
+    let (c, dc, same) = bundle_unplaces (tokens_from (bundle_text b) 0) (bare_bundle b) (items_derived b (all_again b all [] refl 0 (omega arith))) in
+    (c, dc, sym same)

@@ -1,19 +1,17 @@
 -- The words of instructions that ask the client, or that go from one stack to another.
-use Rattle.std.proofs.Common.{◌≡◌, ℕ, Bool, true, false, List, [], ◌∷◌, ◌++◌, map, refl, sym, ap, subst, ◌∙◌, append_assoc, inl, inr}
+use Rattle.std.proofs.Common.{◌≡◌, ℕ, true, false, List, [], ◌∷◌, ◌++◌, map, refl, ap, inl, inr}
 use Rattle.std.specs.Prelude.{codes, option_map, ◌⊎◌}
 use Rattle.text_forms.specs.declared.symbol.Symbol.TheVariants as symbols
-use Rattle.text_forms.specs.Forms.{Form, on, made}
-use Rattle.ir_lex.specs.declared.token.Mark.TheVariants as marks
+use Rattle.text_forms.specs.Forms.{on, made}
 use Rattle.ir_lex.specs.Printed.{Piece}
 use Rattle.ir_lex.specs.WordTable.{words}
-use Rattle.ir_lex.specs.TokenForms.{mark}
 use Rattle.ir_tree.specs.declared.operands.Operand.{Operand}
 use Rattle.ir_tree.specs.declared.operands.NewStackClause.{NewStackClause}
 use Rattle.ir_tree.specs.declared.trapping.Trapping.{Trapping}
 use Rattle.ir_tree.specs.declared.switching.StackSwitch.{StackSwitch}
 use Rattle.ir_tree.specs.Stacks.{trap, wpexc, watchpoint, wpbranch, trapping_form, Returning, returning, killing, swap_of, swapstack, threadlocal, newthread, stack_switch}
 use Rattle.ir_print.specs.Spellings.{spelling}
-use Rattle.ir_print.specs.Words.{tight, spaced, mark as mark_piece, word as word_piece, optional_words}
+use Rattle.ir_print.specs.Words.{tight, spaced, word as word_piece, optional_words}
 use Rattle.ir_print.specs.Lists.{type_list_words, value_words, new_stack_clause_words, exc_words, keep_words, exc_keep_words}
 use Rattle.ir_print.specs.Stacks.{wpexc_words, watched_words, trapping_words, threadlocal_words, ret_with_words, stack_switch_words}
 use Rattle.ir_print.specs.Placeless.{bare_name, bare_value, bare_dest, bare_exc, bare_new_stack_clause, bare_trapping, bare_stack_switch}

@@ -1,6 +1,6 @@
 -- A symbol tells what kind of token it is.
-use Rattle.std.proofs.Common.{◌≡◌, ℕ, Bool, true, false, List, [], ◌∷◌, length, refl, sym, ap, subst, ◌∙◌}
-use Rattle.std.specs.Prelude.{◌&&◌, not, nat_le, if◌then◌else◌}
+use Rattle.std.proofs.Common.{◌≡◌, ℕ, Bool, true, false, List, [], ◌∷◌, length, refl}
+use Rattle.std.specs.Prelude.{◌&&◌, not, nat_le}
 use Rattle.std.specs.List.{list_all}
 use Rattle.std.specs.Str.{bytes_eq}
 use Rattle.std.specs.Char.{is_ascii_alphabetic}
@@ -14,9 +14,9 @@ use Rattle.ir_lex.specs.declared.token.TokenKind.{TokenKind}
 use Rattle.ir_lex.specs.declared.token.TokenKind.TheVariants as kinds
 use Rattle.ir_lex.specs.declared.token.Mark.{Mark}
 use Rattle.ir_lex.specs.declared.token.Mark.TheVariants as marks
-use Rattle.ir_lex.specs.Bytes.{is_word_byte, is_directive_byte, is_name_byte}
-use Rattle.ir_lex.specs.Spellings.{mark_bytes, Spells, global, directive, word, mark}
-use Rattle.ir_lex.specs.Lexemes.{IsToken, longest_token}
+use Rattle.ir_lex.specs.Bytes.{is_word_byte}
+use Rattle.ir_lex.specs.Spellings.{word}
+use Rattle.ir_lex.specs.Lexemes.{longest_token}
 use Rattle.ir_lex.specs.WordTable.{Row, look_up, words, directives, common_names}
 use Rattle.ir_lex.specs.Seen.{mark_symbol, symbol_of}
 use Rattle.ir_tree.specs.Lists.{globals}

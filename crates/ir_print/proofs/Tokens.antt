@@ -1,36 +1,34 @@
 -- The words of forms of one token: marks, words and directives of the grammar, names and numbers.
 use Rattle.std.proofs.Common.{◌≡◌, ℕ, ◌<◌, ◌^◌, Bool, true, false, List, [], ◌∷◌, length, refl, sym, ap, subst, ◌∙◌}
-use Rattle.std.specs.Prelude.{◌&&◌, ◌||◌, nat_le, codes}
+use Rattle.std.specs.Prelude.{◌&&◌, ◌||◌, nat_le}
 use Rattle.std.specs.List.{list_all}
 use Rattle.std.proofs.lemmas.Bool.{leb-true}
 use Rattle.text_forms.specs.declared.symbol.Symbol.{Symbol}
 use Rattle.text_forms.specs.declared.symbol.Symbol.TheVariants as symbols
 use Rattle.text_forms.specs.Tokens.{Tok, has}
-use Rattle.text_forms.specs.Forms.{Form, never, on, made}
+use Rattle.text_forms.specs.Forms.{never}
 use Rattle.text_forms.proofs.Tests.{and_true}
 use Rattle.ir_lex.specs.declared.token.TokenKind.{TokenKind}
 use Rattle.ir_lex.specs.declared.token.TokenKind.TheVariants as kinds
 use Rattle.ir_lex.specs.declared.token.Mark.{Mark}
-use Rattle.ir_lex.specs.declared.token.Mark.TheVariants as marks
 use Rattle.ir_lex.specs.declared.token.Number.{Number}
 use Rattle.ir_lex.specs.declared.name.Numeral.{Numeral}
 use Rattle.ir_lex.specs.Bytes.{is_blank, is_directive_byte, is_name_byte}
-use Rattle.ir_lex.specs.Spellings.{mark_bytes, Spells, global, directive, mark as mark_spells}
+use Rattle.ir_lex.specs.Spellings.{mark_bytes, global, directive, mark as mark_spells}
 use Rattle.ir_lex.specs.Lexemes.{IsToken, longest_token}
 use Rattle.ir_lex.specs.Scanner.{number_of}
-use Rattle.ir_lex.specs.Numerals.{Means}
-use Rattle.ir_lex.specs.Printed.{Piece, IsPiece}
-use Rattle.ir_lex.specs.WordTable.{look_up, words, directives, common_names}
-use Rattle.ir_lex.specs.Seen.{mark_symbol, symbol_of}
-use Rattle.ir_lex.specs.TokenForms.{mark, name, numeral}
+use Rattle.ir_lex.specs.Printed.{Piece}
+use Rattle.ir_lex.specs.WordTable.{look_up, directives, common_names}
+use Rattle.ir_lex.specs.Seen.{mark_symbol}
+use Rattle.ir_lex.specs.TokenForms.{mark, numeral}
 use Rattle.ir_lex.proofs.Cursors.{numbers_are_meant}
 use Rattle.ir_tree.specs.Words.{one_of}
 use Rattle.ir_tree.specs.Lists.{globals, global as global_form, local as local_form}
-use Rattle.ir_print.specs.Words.{tight, spaced, mark as mark_piece, word as word_piece, directive as directive_piece, number as number_piece, number_text, global_words, local_words}
+use Rattle.ir_print.specs.Words.{mark as mark_piece, word as word_piece, directive as directive_piece, number as number_piece, number_text, global_words, local_words}
 use Rattle.ir_print.specs.Placeless.{bare_name, bare_number}
-use Rattle.ir_print.proofs.Apart.{is_mark, stands_tight, some}
+use Rattle.ir_print.proofs.Apart.{stands_tight, some}
 use Rattle.ir_print.proofs.Numbers.{IsSpelled, spelled}
-use Rattle.ir_print.proofs.Prints.{AllGood, IsWord, Prints, tok, erased_one, mark_prints, name_prints, made_prints, on_prints, never_prints}
+use Rattle.ir_print.proofs.Prints.{AllGood, IsWord, Prints, tok, erased_one, mark_prints, name_prints, made_prints, on_prints}
 use Rattle.ir_print.proofs.Members.{Closes}
 use Rattle.ir_print.proofs.TokenKinds.{told_global, told_local, told_number, word_test, word_is}
 

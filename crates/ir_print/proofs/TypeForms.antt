@@ -1,24 +1,22 @@
 -- The words of types and constants.
-use Rattle.std.proofs.Common.{◌≡◌, ℕ, Bool, true, false, List, [], ◌∷◌, ◌++◌, map, refl, sym, ap, subst, ◌∙◌}
+use Rattle.std.proofs.Common.{◌≡◌, ℕ, true, false, List, [], ◌∷◌, ◌++◌, map, refl, ap, ◌∙◌}
 use Rattle.std.specs.Prelude.{codes}
 use Rattle.text_forms.specs.declared.symbol.Symbol.TheVariants as symbols
-use Rattle.text_forms.specs.Forms.{Form, both, on, made, up_to_from}
+use Rattle.text_forms.specs.Forms.{made}
 use Rattle.ir_lex.specs.declared.token.Mark.TheVariants as marks
 use Rattle.ir_lex.specs.declared.name.Name.{Name}
 use Rattle.ir_lex.specs.Printed.{Piece}
 use Rattle.ir_lex.specs.WordTable.{words}
 use Rattle.ir_lex.specs.TokenForms.{mark}
-use Rattle.ir_tree.specs.declared.definitions.TypeForm.{TypeForm}
 use Rattle.ir_tree.specs.declared.definitions.TypeForm.TheVariants as types
-use Rattle.ir_tree.specs.declared.definitions.Literal.TheVariants as literals
 use Rattle.ir_tree.specs.Types.{int_type, some_types, struct_type, array_type, all_but_last, last_of, hybrid_type, type_form, literal}
 use Rattle.ir_print.specs.Spellings.{spelling}
 use Rattle.ir_print.specs.Words.{tight, spaced, mark as mark_piece, word as word_piece, global as global_piece, global_words, listed}
-use Rattle.ir_print.specs.Lists.{bracketed_words, type_list_words}
+use Rattle.ir_print.specs.Lists.{type_list_words}
 use Rattle.ir_print.specs.Types.{type_form_words, literal_words}
 use Rattle.ir_print.specs.Placeless.{bare_name, bare_type_form, bare_literal}
 use Rattle.ir_print.proofs.Prints.{Prints, both_prints, made_prints, on_prints, after_prints, before_prints, left_out_prints}
-use Rattle.ir_print.proofs.Members.{listed_from, listed_is, spaced_is, up_to_prints}
+use Rattle.ir_print.proofs.Members.{listed_from, spaced_is, up_to_prints}
 use Rattle.ir_print.proofs.Tokens.{global_prints, numeral_prints, mark_at, word_at, close_is}
 use Rattle.ir_print.proofs.ListForms.{less_prints, greater_prints, bracketed_prints}
 

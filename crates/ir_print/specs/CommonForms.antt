@@ -8,7 +8,7 @@ use Rattle.ir_tree.specs.declared.operands.Operand.{Operand}
 use Rattle.ir_tree.specs.declared.common.CommonInst.{CommonInst}
 use Rattle.ir_tree.specs.declared.common.CommonInst.TheVariants as commons
 use Rattle.ir_print.specs.Spellings.{spelling}
-use Rattle.ir_print.specs.Words.{tight, spaced, mark, word, global}
+use Rattle.ir_print.specs.Words.{tight, spaced, mark, global}
 use Rattle.ir_print.specs.Lists.{bracketed_words, value_words}
 
 -- a global name that is a word of the grammar

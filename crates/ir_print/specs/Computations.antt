@@ -1,5 +1,5 @@
 -- The words of instructions that compute a value from values.
-use Rattle.std.specs.Prelude.{ℕ, List, [], ◌∷◌, ◌++◌}
+use Rattle.std.specs.Prelude.{ℕ, List, ◌∷◌, ◌++◌}
 use Rattle.text_forms.specs.declared.symbol.Symbol.TheVariants as symbols
 use Rattle.ir_lex.specs.Printed.{Piece}
 use Rattle.ir_tree.specs.declared.computing.Computation.{Computation}

@@ -1,6 +1,6 @@
 -- A bundle without its places: the same tree, in which each place is 0. Two bundles are the same save for places where these are
 -- equal.
-use Rattle.std.specs.Prelude.{ℕ, List, map, Option, option_map}
+use Rattle.std.specs.Prelude.{List, map, option_map}
 use Rattle.ir_lex.specs.declared.name.Name.{Name}
 use Rattle.ir_lex.specs.declared.name.Numeral.{Numeral}
 use Rattle.ir_tree.specs.declared.operands.Operand.{Operand}

@@ -1,8 +1,6 @@
 -- What the worked examples are written with: the canonical text of what a text means.
 use Rattle.std.specs.Prelude.{ℕ, List, [], Result, Ok, Err}
 use Rattle.text_forms.specs.declared.fault.Fault.{Fault}
-use Rattle.text_forms.specs.Forms.{Form}
-use Rattle.ir_lex.specs.Printed.{Piece}
 use Rattle.ir_tree.specs.Instructions.{op}
 use Rattle.ir_tree.specs.Types.{type_form, literal}
 use Rattle.ir_tree.specs.Items.{bundle}

@@ -10,7 +10,7 @@ use Rattle.ir_tree.specs.declared.definitions.TypeForm.TheVariants as types
 use Rattle.ir_tree.specs.declared.definitions.Literal.{Literal}
 use Rattle.ir_tree.specs.declared.definitions.Literal.TheVariants as literals
 use Rattle.ir_print.specs.Spellings.{spelling}
-use Rattle.ir_print.specs.Words.{tight, spaced, mark, word, global, number, global_words, listed}
+use Rattle.ir_print.specs.Words.{tight, spaced, mark, word, global, number, global_words}
 use Rattle.ir_print.specs.Lists.{bracketed_words, type_list_words}
 
 -- what stands before the element of a hybrid with these fixed fields

@@ -18,4 +18,4 @@ mod types;
 mod words;
 
 pub use items::print_bundle;
-pub use laws::reads_back;
+pub use laws::{items_read_back, reads_back};
