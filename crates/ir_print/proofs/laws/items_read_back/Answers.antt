@@ -1,0 +1,5 @@
+use Rattle.ir_print.proofs.ReadBack as law
+use Rattle.ir_print.proofs.laws.items_read_back.Goals as goal
+
+pub returns : goal.returns
+returns c = law.items_read_back

@@ -1,0 +1,7 @@
+use Rattle.std.proofs.Common.{◌≡◌, ◌++◌, take}
+use Rattle.std.specs.List.{flat_map}
+use Rattle.ir_print.specs.Words.{text, spaced, global_words}
+use Rattle.ir_print.proofs.lists.each_name.Given as goal
+
+abbrev pub invariant-loop-one : goal.invariant-loop-one
+invariant-loop-one l = l.out.items ≡ l.initial.out.items ++ flat_map (λ x. text (global_words spaced x)) (take l.one-index l.names)
