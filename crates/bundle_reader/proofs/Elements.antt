@@ -3,8 +3,9 @@ use Rattle.std.proofs.Common.{List, refl}
 use Rattle.text_forms.specs.declared.symbol.Symbol.{Symbol}
 use Rattle.text_forms.proofs.Loops.{IsPlain}
 use Rattle.ir_lex.specs.TokenForms.{mark, name}
-use Rattle.ir_tree.specs.Lists.{global, local, value, values, dest}
+use Rattle.ir_tree.specs.Lists.{global, local, bracketed, value, values, dest}
 use Rattle.ir_tree.specs.Control.{switch_case}
+use Rattle.ir_tree.specs.Blocks.{pair}
 
 pub name_plain : (xs : List Symbol) → IsPlain (name xs)
 unfolding name
@@ -17,3 +18,7 @@ value_plain = record { element = record { some = refl; decided = refl }; own = r
 pub case_plain : IsPlain switch_case
 unfolding mark name global local value values dest switch_case
 case_plain = record { element = record { some = refl; decided = refl }; own = refl }
+
+pub pair_plain : IsPlain pair
+unfolding mark name global local bracketed pair
+pair_plain = record { element = record { some = refl; decided = refl }; own = refl }

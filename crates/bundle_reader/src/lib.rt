@@ -1,13 +1,28 @@
-//! Reading a bundle, one function for each form of the grammar. Words, lists and instructions are read; bodies and items are
-//! not yet.
+//! Bundles from their texts, one function for each form of the grammar.
 #![tactic(auto)]
 
 mod accesses;
+mod blocks;
+mod bodies;
 mod common;
 mod computing;
+mod definitions;
+mod fault;
 mod flow;
 mod instructions;
+mod items;
+mod laws;
+mod lines;
 mod lists;
 mod objects;
+mod reading;
 mod stacks;
+mod types;
 mod words;
+
+pub use fault::{TextFault, TextKind};
+pub use laws::answer_is_one;
+pub use reading::read_bundle;
+
+#[cfg(test)]
+mod tests;

@@ -1,5 +1,5 @@
 //! Names, operands and the lists that instructions and items are made of.
-ghost use Rattle.std.specs.Prelude.{◌≡◌, [], ◌∷◌, true, false, length};
+ghost use Rattle.std.specs.Prelude.{◌≡◌, ◌<◌, [], ◌∷◌, true, false, length, IfOk};
 ghost use Rattle.text_forms.specs.Tokens.{is_last, first, too_many_at};
 ghost use Rattle.text_forms.specs.Forms.{up_to, up_to_from};
 ghost use Rattle.text_forms.specs.Texts.{none_last};
@@ -7,11 +7,12 @@ ghost use Rattle.text_forms.specs.Reading.{read};
 ghost use Rattle.text_forms.specs.Answers.{Gives, with_front};
 ghost use Rattle.ir_lex.specs.TokenForms.{name};
 ghost use Rattle.ir_tree.specs.Lists.{optional, globals, global, local, bracketed, bracketed_pair, global_list, local_list, type_list, value, values, dest, exc, keep, pass_values, throw_exc, new_stack_clause};
+ghost use Rattle.bundle_reader.specs.NameLists.{at_least_one};
 ghost use Rattle.text_forms.specs.declared.symbol.Symbol.TheVariants as symbols;
 
 use ir_lex::{Cursor, Name};
 use ir_tree::{Arguments, Destination, ExceptionClause, NewStackClause, Operand};
-use std::alloc::Global;
+use std::alloc::{AllocError, Global};
 use text_forms::{Fault, FaultKind, Listing, ReadError, Symbol, passes_limit};
 
 /// The symbols of global names: the names of common instructions are names like any others.
@@ -44,7 +45,7 @@ const VALUES: [Symbol; 11] = [
 ];
 
 /// How many names or values one list may have.
-const LIST_LIMIT: usize = 256;
+pub const LIST_LIMIT: usize = 256;
 
 /// An element that begins here passes the limit of its list.
 pub fn too_many(cursor: &Cursor) -> Fault
@@ -120,7 +121,7 @@ pub fn names(
 }
 
 /// The names up to a mark.
-fn names_to(
+pub fn names_to(
     cursor: &mut Cursor,
     alloc: Global,
     symbols: &[Symbol],
@@ -131,6 +132,32 @@ fn names_to(
     ensures { Gives result cursor.new (read (up_to 256 (closing ∷ []) (name symbols.now)) cursor.old) }
 {
     names(cursor, alloc, Listing::new(alloc), symbols, closing)
+}
+
+/// One name as a list of one.
+pub fn alone(alloc: Global, name: Name) -> Result<Listing<Name>, AllocError>
+    ensures { IfOk result (λ names. names ≡ name ∷ []) }
+{
+    let mut names = Listing::new(alloc);
+    names.push(name)?;
+    Ok(names)
+}
+
+/// The names up to a mark, of which there is at least one.
+pub fn at_least_one(
+    cursor: &mut Cursor,
+    alloc: Global,
+    symbols: &[Symbol],
+    closing: Symbol,
+) -> Result<Listing<Name>, ReadError>
+    requires names { none_last symbols.now ≡ true }
+    requires closing { is_last closing ≡ false }
+    ensures read { Gives result cursor.new (read (at_least_one symbols.now closing) cursor.old) }
+    ensures some { IfOk result (λ names. 0 < length names) }
+{
+    let first = cursor.name(alloc, symbols)?;
+    let front = alone(alloc, first)?;
+    names(cursor, alloc, front, symbols, closing)
 }
 
 /// `( G* )`
