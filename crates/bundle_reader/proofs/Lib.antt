@@ -6,3 +6,7 @@ pub mod OneAnswer
 pub mod Insides
 pub mod BodyLoops
 pub mod Wholes
+pub mod WrittenInsts
+pub mod WrittenLines
+pub mod WrittenBodies
+pub mod WrittenBundles

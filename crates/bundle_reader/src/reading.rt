@@ -22,14 +22,14 @@ fn answer(alloc: Global, bytes: &[u8]) -> Result<Bundle, TextFault>
 
 /// The bundle that a text spells, each name, number and mark with its place. The text may hold any bytes.
 ///
-/// - `At` is the first fault. `Lex` stands at a byte where no token begins as it should, as soon as a token is looked for
-///   there; `Unexpected` at the first token, or at the text's end, with which no bundle's text goes on; `NotInProfile` at a word
-///   that belongs there and that the profile leaves out; `TooMany` at the first token of an item past 16,384, of a block or an
+/// - `At` is the first fault. `Lex` stands at a byte where no token begins as it should, once a token is looked for there;
+///   `Unexpected` at the first token, or at the text's end, with which no bundle's text goes on; `NotInProfile` at a word that
+///   belongs there and that the profile leaves out; `TooMany` at the first token of an item past 16,384, of a block or an
 ///   instruction past 4,096, of a case past 1,024, and of a member of one list past 256.
 /// - `Memory` says that no memory was found for a name or a list. What was read is dropped.
 ///
-/// Each token is looked at by no more than some two hundred comparisons with one symbol, so the time is in proportion to the
-/// text; the bundle takes memory in proportion to it, too.
+/// Each token is read once, and compared with the words of the grammar. So the time is in proportion to the text, and so is the
+/// memory that the bundle takes.
 pub fn read_bundle(alloc: Global, bytes: &[u8]) -> Result<Bundle, TextFault>
     // What is computed of the text,
     ensures answer { Answers result (text_answer bytes.now) }
