@@ -17,7 +17,7 @@ use Rattle.ir_tree.specs.declared.code.BlockHead.{BlockHead}
 use Rattle.ir_tree.specs.declared.code.Line.{Line}
 use Rattle.ir_tree.specs.declared.code.Line.TheVariants as body_lines
 use Rattle.ir_tree.specs.Instructions.{leaves_out}
-use Rattle.ir_tree.specs.Bodies.{Body, line, step, flags, parted, body_rest}
+use Rattle.ir_tree.specs.Bodies.{Body, line, step, flags, parted}
 use Rattle.bundle_reader.specs.declared.bodies.BodySoFar.{BodySoFar}
 use Rattle.bundle_reader.specs.BodiesSoFar.{followed, counted, blocks_with, blocks_so_far}
 use Rattle.bundle_reader.proofs.Insides.{line_element}

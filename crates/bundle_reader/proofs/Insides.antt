@@ -2,7 +2,6 @@
 use Rattle.std.proofs.Common.{◌≡◌, Bool, true, false, List, [], ◌∷◌, refl}
 use Rattle.text_forms.specs.declared.symbol.Symbol.{Symbol}
 use Rattle.text_forms.specs.declared.symbol.Symbol.TheVariants as symbols
-use Rattle.text_forms.specs.Forms.{Form}
 use Rattle.text_forms.specs.Begins.{begins, steady}
 use Rattle.text_forms.proofs.Lists.{IsElement}
 use Rattle.text_forms.proofs.Loops.{IsPlain}

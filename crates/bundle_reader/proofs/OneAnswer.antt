@@ -1,11 +1,9 @@
 -- What is computed of a text is the one answer that it has.
 use Rattle.std.proofs.Common.{◌≡◌, ℕ, List, Result, Ok, Err, refl, sym, ap, subst, ◌∙◌}
 use Rattle.text_forms.specs.declared.fault.Fault.{Fault}
-use Rattle.text_forms.specs.Tokens.{Tok, IsText}
+use Rattle.text_forms.specs.Tokens.{IsText}
 use Rattle.text_forms.specs.Reading.{whole}
 use Rattle.text_forms.proofs.Whole.{whole_ok, whole_only, whole_fault, fault_only}
-use Rattle.ir_lex.specs.declared.token.Token.{Token}
-use Rattle.ir_lex.specs.Texts.{Lexes}
 use Rattle.ir_lex.specs.Seen.{seen}
 use Rattle.ir_lex.specs.Walk.{tokens_from}
 use Rattle.ir_lex.proofs.Cursors.{tokens_are_seen, texts_end}
@@ -15,7 +13,7 @@ use Rattle.ir_tree.specs.Items.{bundle}
 use Rattle.ir_tree.proofs.Grammatical.{is_grammar}
 use Rattle.bundle_reader.specs.declared.fault.TextFault.TheVariants as faults
 use Rattle.bundle_reader.specs.declared.fault.TextFault.TheVariants.{At}
-use Rattle.bundle_reader.specs.TextAnswers.{Answer, refused, IsAnswer, bundle_read, fault_first, answer_of, text_answer, AnswerIsOne, Answers, IfAnswer}
+use Rattle.bundle_reader.specs.TextAnswers.{Answer, IsAnswer, bundle_read, fault_first, answer_of, text_answer, AnswerIsOne, Answers, IfAnswer}
 
 answered : (bytes : List ℕ) (r : Result (List Item) Fault) → whole bundle (tokens_from bytes 0) ≡ r → IsAnswer bytes (answer_of r)
 answered bytes (Ok b) e =

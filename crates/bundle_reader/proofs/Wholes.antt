@@ -1,5 +1,5 @@
 -- A fault of what is read is the fault of the whole text.
-use Rattle.std.proofs.Common.{◌≡◌, List, Result, Ok, Err, refl}
+use Rattle.std.proofs.Common.{List, Result, Ok, Err, refl}
 use Rattle.text_forms.specs.declared.fault.Fault.{Fault}
 use Rattle.text_forms.specs.declared.fault.ReadError.{ReadError}
 use Rattle.text_forms.specs.declared.fault.ReadError.TheVariants as errors

@@ -7,7 +7,6 @@ use Rattle.std.proofs.lemmas.List.{append-nil}
 use Rattle.std.proofs.lemmas.List.Elements.{All-nil, All-cons, All-head, All-tail}
 use Rattle.text_forms.specs.declared.symbol.Symbol.TheVariants as symbols
 use Rattle.text_forms.specs.Tokens.{Tok}
-use Rattle.text_forms.specs.Forms.{Form}
 use Rattle.text_forms.specs.Derives.{Each, Elements, Derives}
 use Rattle.ir_lex.specs.TokenForms.{mark}
 use Rattle.ir_tree.specs.declared.code.Inst.{Inst}
@@ -16,7 +15,7 @@ use Rattle.ir_tree.specs.declared.code.BlockHead.{BlockHead}
 use Rattle.ir_tree.specs.declared.code.Line.{Line}
 use Rattle.ir_tree.specs.declared.code.Line.TheVariants as body_lines
 use Rattle.ir_tree.specs.Instructions.{leaves_out}
-use Rattle.ir_tree.specs.Blocks.{HeadRest, head_of, head}
+use Rattle.ir_tree.specs.Blocks.{head}
 use Rattle.ir_tree.specs.Bodies.{Body, line, step, flags, begun, body_rest, parted, blocks_of, body}
 use Rattle.ir_tree.specs.Written.{written_inst, written_block, written_body}
 use Rattle.bundle_reader.specs.WrittenBodies.{FitsInst, FitsBlock, FitsBody, BodyIsWritten}

@@ -1,5 +1,5 @@
 -- Instructions as they are read and as they are written: behind a common instruction ( ) may stand.
-use Rattle.std.proofs.Common.{◌≡◌, ℕ, Bool, true, false, List, [], ◌∷◌, ◌++◌, Option, Some, None, refl, sym, ap, subst, ◌∙◌, append_assoc, inl, inr}
+use Rattle.std.proofs.Common.{◌≡◌, ℕ, true, false, List, [], ◌++◌, Option, Some, None, refl, sym, ap, subst, ◌∙◌, append_assoc, inl, inr}
 use Rattle.std.specs.Prelude.{◌⊎◌}
 use Rattle.std.proofs.lemmas.List.{append-nil}
 use Rattle.text_forms.specs.declared.symbol.Symbol.TheVariants as symbols
@@ -8,7 +8,6 @@ use Rattle.text_forms.specs.Forms.{Form, ◌▸◌, ◌◂◌}
 use Rattle.text_forms.specs.Derives.{Derives}
 use Rattle.ir_lex.specs.TokenForms.{mark}
 use Rattle.ir_tree.specs.declared.common.CommonInst.{CommonInst}
-use Rattle.ir_tree.specs.declared.common.CommonInst.TheVariants as commons
 use Rattle.ir_tree.specs.declared.code.Op.{Op}
 use Rattle.ir_tree.specs.declared.code.Op.TheVariants as ops
 use Rattle.ir_tree.specs.declared.code.Inst.{Inst}

@@ -4,7 +4,7 @@ use Rattle.std.specs.Prelude.{◌⊎◌}
 use Rattle.std.proofs.lemmas.List.{append-nil}
 use Rattle.text_forms.specs.declared.symbol.Symbol.TheVariants as symbols
 use Rattle.text_forms.specs.Tokens.{Tok}
-use Rattle.text_forms.specs.Forms.{Form, both, on, made, many, up_to, within, ◌▸◌, ◌◂◌}
+use Rattle.text_forms.specs.Forms.{Form, both, on, made, many, up_to, within, ◌◂◌}
 use Rattle.text_forms.specs.Derives.{Derives}
 use Rattle.text_forms.proofs.Usual.{until_is_each, up_to_is_short}
 use Rattle.ir_lex.specs.declared.name.Name.{Name}
@@ -14,7 +14,7 @@ use Rattle.ir_tree.specs.declared.code.Line.{Line}
 use Rattle.ir_tree.specs.declared.code.Line.TheVariants as body_lines
 use Rattle.ir_tree.specs.Lists.{local}
 use Rattle.ir_tree.specs.Instructions.{labelled, with_results}
-use Rattle.ir_tree.specs.Blocks.{HeadRest, head_rest, head_of, head, result}
+use Rattle.ir_tree.specs.Blocks.{HeadRest, head_rest, head, result}
 use Rattle.ir_tree.specs.Bodies.{named_line, named, results, more_results, opened_line, opened, line}
 use Rattle.ir_tree.specs.Written.{results_of, written_results}
 use Rattle.bundle_reader.proofs.WrittenInsts.{Brackets}

@@ -1,5 +1,4 @@
 //! The bundle that a text spells.
-ghost use Rattle.ir_lex.specs.Walk.{tokens_from};
 ghost use Rattle.bundle_reader.specs.TextAnswers.{text_answer, Answer, Answers, IfAnswer, IsAnswer};
 
 use crate::fault::{TextFault, refused};
