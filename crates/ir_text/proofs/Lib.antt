@@ -1,3 +1,12 @@
 pub mod Elements
+pub mod Fronts
+pub mod Hybrids
+pub mod Opened
 pub mod OneAnswer
-pub mod MeantAnswer
+pub mod Insides
+pub mod BodyLoops
+pub mod Wholes
+pub mod WrittenInsts
+pub mod WrittenLines
+pub mod WrittenBodies
+pub mod WrittenBundles

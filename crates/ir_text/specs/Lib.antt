@@ -1,5 +1,5 @@
-pub mod Grammar
-pub mod NotBuilt
-pub mod Meant
-pub mod Grammatical
-pub mod Examples
+pub mod NameLists
+pub mod BodiesSoFar
+pub mod TextAnswers
+pub mod WrittenBodies
+pub mod WrittenBundles

@@ -1,19 +1,28 @@
-//! Bundles from their texts.
+//! Bundles from their texts, one function for each form of the grammar.
 #![tactic(auto)]
 
+mod accesses;
+mod blocks;
+mod bodies;
+mod common;
+mod computing;
+mod definitions;
 mod fault;
+mod flow;
+mod instructions;
+mod items;
 mod laws;
-mod not_built;
-mod reader;
+mod lines;
+mod lists;
+mod objects;
 mod reading;
-mod tree;
+mod stacks;
+mod types;
+mod words;
 
 pub use fault::{TextFault, TextKind};
-pub use laws::{answer_is_one, computed_is_meant};
+pub use laws::{answer_is_one, body_is_as_written, bundle_is_as_written};
 pub use reading::read_bundle;
-pub use tree::{
-    Block, Bundle, Const, Funcdef, Funcsig, Inst, Item, Literal, Op, Operand, TypeForm, Typedef,
-};
 
 #[cfg(test)]
 mod tests;

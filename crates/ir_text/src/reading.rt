@@ -1,33 +1,41 @@
 //! The bundle that a text spells.
-ghost use Rattle.std.specs.Prelude.{length};
-ghost use Rattle.ir_lex.specs.Walk.{tokens_from};
-ghost use Rattle.ir_text.specs.NotBuilt.{text_answer, Answers, IfAnswer, IsAnswer};
+ghost use Rattle.ir_text.specs.TextAnswers.{text_answer, Answer, Answers, IfAnswer, IsAnswer};
 
-use crate::fault::TextFault;
-use crate::not_built::{earlier, first_unbuilt};
-use crate::reader::items;
-use crate::tree::Bundle;
+use crate::fault::{TextFault, refused};
+use crate::items::bundle;
 use ir_lex::Cursor;
+use ir_tree::Bundle;
 use std::alloc::Global;
+use text_forms::ReadError;
 
-/// What is read and the first number that is not built, put together.
+/// What is read, as the answer to the text.
 fn answer(alloc: Global, bytes: &[u8]) -> Result<Bundle, TextFault>
     ensures { Answers result (text_answer bytes.now) }
 {
-    let read = items(&mut Cursor::new(bytes), alloc);
-    match first_unbuilt(Cursor::new(bytes)) {
-        Ok(unbuilt) => earlier(bytes.len(), unbuilt, read),
-        Err(_) => Err(TextFault::Memory),
+    match bundle(&mut Cursor::new(bytes), alloc) {
+        Ok(items) => Ok(items),
+        Err(ReadError::Memory) => Err(TextFault::Memory),
+        Err(ReadError::Fault(fault)) => Err(refused(fault)),
     }
 }
 
-/// The bundle that a text spells, or its first fault: a lexical fault, `NotBuilt` at a token or a number that this version
-/// does not read there, `Unexpected` at the text's end. `Memory` says that none was found. It takes time in proportion to the text.
+/// The bundle that a text spells, each name, number and mark with its place. The text may hold any bytes.
+///
+/// - `At` is the first fault. `Lex` stands at a byte where no token begins as it should, once a token is looked for there;
+///   `Unexpected` at the first token, or at the text's end, with which no bundle's text goes on; `NotInProfile` at a word that
+///   belongs there and that the profile leaves out; `TooMany` at the first token of an item past 16,384, of a block or an
+///   instruction past 4,096, of a case past 1,024, and of a member of one list past 256.
+/// - `Memory` says that no memory was found for a name or a list. What was read is dropped.
+///
+/// Each token is read once, and compared with the words of the grammar. So the time is in proportion to the text, and so is the
+/// memory that the bundle takes.
 pub fn read_bundle(alloc: Global, bytes: &[u8]) -> Result<Bundle, TextFault>
     // What is computed of the text,
     ensures answer { Answers result (text_answer bytes.now) }
-    // and what it means in the words of the grammar.
-    ensures means { IfAnswer result (IsAnswer (length bytes.now) (tokens_from bytes.now 0)) }
+    // what it means in the words of the grammar and of the rules of tokens,
+    ensures means { IfAnswer result (IsAnswer bytes.now) }
+    // and that nothing else is an answer to the text.
+    ensures only { (other : Answer) → IsAnswer bytes.now other → Answers result other }
 {
     answer(alloc, bytes)
 }

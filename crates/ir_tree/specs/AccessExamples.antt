@@ -15,7 +15,7 @@ use Rattle.ir_tree.specs.Accesses.{optional_order, load, store, weak, cmpxchg, a
 use Rattle.ir_tree.specs.Instructions.{op}
 use Rattle.ir_tree.specs.Samples.{named, meaning, local_at, global_at, goes, exc_to}
 
-accesss_are_read :
+accesses_are_read :
     (meaning op (codes "LOAD <@t> @g") ≡ Ok (0, ops.Access (accesses.Load (record { place = 0; order = orders.NotAtomic }) (named 6 (codes "@t")) (global_at 10 (codes "@g")) None)))
     × (meaning op (codes "LOAD ACQUIRE <@t> @g EXC (%n() %x())") ≡ Ok (0, ops.Access (accesses.Load (record { place = 5; order = orders.Acquire }) (named 14 (codes "@t")) (global_at 18 (codes "@g")) (exc_to (goes 26 (codes "%n") 28 []) (goes 31 (codes "%x") 33 [])))))
     × (meaning op (codes "STORE <@t> @g %a") ≡ Ok (0, ops.Access (accesses.Store (record { place = 0; order = orders.NotAtomic }) (named 7 (codes "@t")) (global_at 11 (codes "@g")) (local_at 14 (codes "%a")) None)))
@@ -25,4 +25,4 @@ accesss_are_read :
     × (meaning op (codes "ATOMICRMW RELAXED UMAX <@t> %p %a") ≡ Ok (0, ops.Access (accesses.Atomicrmw (record { place = 10; order = orders.Relaxed }) updates.Umax (named 24 (codes "@t")) (local_at 28 (codes "%p")) (local_at 31 (codes "%a")) None)))
     × (meaning op (codes "FENCE SEQ_CST") ≡ Ok (0, ops.Access (accesses.Fence (record { place = 6; order = orders.SeqCst }))))
 unfolding tokens_from tokens_within next_of gap_len words directives common_names elements mark name order global local bracketed value values dest exc optional_order load store weak cmpxchg atomicrmw fence access op
-accesss_are_read = (refl, refl, refl, refl, refl, refl, refl, refl)
+accesses_are_read = (refl, refl, refl, refl, refl, refl, refl, refl)

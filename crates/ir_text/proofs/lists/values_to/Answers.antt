@@ -1,0 +1,39 @@
+use Rattle.std.proofs.Common.{◌≡◌, true, false, [], ◌∷◌, length, sym, ◌∙◌}
+use Rattle.std.specs.Prelude.{nat_le, ◌&&◌}
+use Rattle.std.proofs.lemmas.Result.{err_from_is_err_and}
+use Rattle.text_forms.specs.declared.symbol.Symbol.TheVariants as symbols
+use Rattle.text_forms.specs.Tokens.{at}
+use Rattle.text_forms.specs.Begins.{begins}
+use Rattle.text_forms.specs.Forms.{up_to}
+use Rattle.text_forms.specs.Reading.{read}
+use Rattle.text_forms.proofs.Lists.{shorter}
+use Rattle.text_forms.proofs.Loops.{goes_on_counted, is_done_up_to, fails_up_to, too_many}
+use Rattle.ir_lex.specs.TokenForms.{name}
+use Rattle.ir_tree.specs.Lists.{global, local, value}
+use Rattle.ir_text.proofs.Elements.{value_plain}
+use Rattle.ir_text.proofs.lists.values_to.Goals as goal
+
+pub returns-then-passes_limit : goal.returns-then-passes_limit
+unfolding name global local value
+returns-then-passes_limit c =
+    let past : nat_le 256 (length c.each.values) && at (begins value) c.each.cursor ≡ true = rw (← c.len.ensures, ← c.at_any.ensures) (sym c.passes_limit.ensures ∙ c.if-passes_limit.true) in
+    rw c.too_many.ensures (too_many 256 (symbols.Close ∷ []) value value_plain (length c.each.values) c.each.values c.each.cursor (read (up_to 256 (symbols.Close ∷ []) value) c.args.cursor.now) past (sym c.each-test.ensures) c.each.invariant)
+
+pub returns-in_err-value : goal.returns-in_err-value
+unfolding name global local value
+returns-in_err-value c =
+    let p = err_from_is_err_and c.from_residual.result c.from_residual.ensures.1 in
+    let fits : nat_le 256 (length c.each.values) && at (begins value) c.each.cursor ≡ false = rw (← c.len.ensures, ← c.at_any.ensures) (sym c.passes_limit.ensures ∙ c.if-passes_limit.false) in
+    rw (p.1, p.2) (fails_up_to 256 (symbols.Close ∷ []) value value_plain (length c.each.values) c.each.values c.each.cursor c.value.new.cursor (read (up_to 256 (symbols.Close ∷ []) value) c.args.cursor.now) c.in_err-value.field-0.0 fits (sym c.each-test.ensures) c.in_err-value.ensures c.each.invariant)
+
+pub each-smaller : goal.each-smaller
+each-smaller c = shorter value (value_plain).element 0 c.each.cursor c.in_ok-value.field-0 c.value.new.cursor c.in_ok-value.ensures
+
+pub each-preserved : goal.each-preserved
+unfolding name global local value
+each-preserved c =
+    let fits : nat_le 256 (length c.each.values) && at (begins value) c.each.cursor ≡ false = rw (← c.len.ensures, ← c.at_any.ensures) (sym c.passes_limit.ensures ∙ c.if-passes_limit.false) in
+    rw c.in_ok-push.ensures (goes_on_counted 256 (symbols.Close ∷ []) value value_plain c.each.values c.each.cursor c.in_ok-value.field-0 c.value.new.cursor (read (up_to 256 (symbols.Close ∷ []) value) c.args.cursor.now) fits (sym c.each-test.ensures) c.in_ok-value.ensures c.each.invariant)
+
+pub returns : goal.returns
+returns c = rw c.bump.ensures (is_done_up_to 256 (symbols.Close ∷ []) value value_plain (length c.each.values) c.each.values c.each.cursor (read (up_to 256 (symbols.Close ∷ []) value) c.args.cursor.now) (sym c.each-test.ensures) c.each.invariant)
