@@ -1,1 +1,1 @@
-.global
+.global @counter <@i64>

@@ -3,9 +3,9 @@ use Rattle.std.proofs.Common.{◌≡◌, ℕ, zero, suc, ◌+◌, ◌<◌, Bool,
 use Rattle.std.specs.Str.{bytes_eq}
 use Rattle.std.proofs.lemmas.Slice.Eq.{bytes_eq-Decides}
 use Rattle.std.proofs.lemmas.Option.{slice_get_within}
-use Rattle.ir_text.specs.declared.tree.Item.{Item}
-use Rattle.ir_text.specs.declared.tree.Item.TheVariants as items
-use Rattle.ir_text.specs.declared.tree.Funcdef.{Funcdef}
+use Rattle.built_forms.specs.declared.tree.Item.{Item}
+use Rattle.built_forms.specs.declared.tree.Item.TheVariants as items
+use Rattle.built_forms.specs.declared.tree.Funcdef.{Funcdef}
 use Rattle.bundle_check.specs.declared.meaning.Meaning.{Meaning}
 use Rattle.bundle_check.specs.declared.meaning.Meaning.TheVariants as meanings
 use Rattle.bundle_check.specs.Demands.{first_unmet}

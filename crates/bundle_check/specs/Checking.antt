@@ -1,17 +1,17 @@
--- What a bundle must meet, in text order. Each name is defined before it is used and once in its space: global names are one
+-- What a bundle in the forms that are run must meet, in text order. Each name is defined before it is used and once in its space: global names are one
 -- space, the results of a block are one. A type, a signature or a constant is asked where one must stand, and no number is below -2^63.
 use Rattle.std.specs.Prelude.{ℕ, ◌^◌, Bool, true, false, List, [], ◌∷◌, ◌++◌, Option, Some, None, is_some, not, ◌&&◌, nat_lt, length}
 use Rattle.ir_lex.specs.declared.name.Name.{Name}
-use Rattle.ir_text.specs.declared.tree.Literal.{Literal}
-use Rattle.ir_text.specs.declared.tree.Literal.TheVariants as literals
-use Rattle.ir_text.specs.declared.tree.Operand.{Operand}
-use Rattle.ir_text.specs.declared.tree.Operand.TheVariants as operands
-use Rattle.ir_text.specs.declared.tree.Op.{Op}
-use Rattle.ir_text.specs.declared.tree.Op.TheVariants as ops
-use Rattle.ir_text.specs.declared.tree.Inst.{Inst}
-use Rattle.ir_text.specs.declared.tree.Block.{Block}
-use Rattle.ir_text.specs.declared.tree.Item.{Item}
-use Rattle.ir_text.specs.declared.tree.Item.TheVariants as items
+use Rattle.built_forms.specs.declared.tree.Literal.{Literal}
+use Rattle.built_forms.specs.declared.tree.Literal.TheVariants as literals
+use Rattle.built_forms.specs.declared.tree.Operand.{Operand}
+use Rattle.built_forms.specs.declared.tree.Operand.TheVariants as operands
+use Rattle.built_forms.specs.declared.tree.Op.{Op}
+use Rattle.built_forms.specs.declared.tree.Op.TheVariants as ops
+use Rattle.built_forms.specs.declared.tree.Inst.{Inst}
+use Rattle.built_forms.specs.declared.tree.Block.{Block}
+use Rattle.built_forms.specs.declared.tree.Item.{Item}
+use Rattle.built_forms.specs.declared.tree.Item.TheVariants as items
 use Rattle.bundle_check.specs.declared.fault.CheckKind.TheVariants.{NotBuilt}
 use Rattle.bundle_check.specs.declared.meaning.Meaning.{Meaning}
 use Rattle.bundle_check.specs.declared.meaning.Meaning.TheVariants as meanings
@@ -92,6 +92,6 @@ abbrev pub items_demands : Names → ℕ → List Item → Demands
 items_demands names functions [] = none
 items_demands names functions (i ∷ is) = item_demands names i ⨾ items_demands (names ++ named functions i ∷ []) (counted functions i) is
 
--- the demands on a bundle
+-- the demands on such a bundle
 abbrev pub check_demands : List Item → Demands
 check_demands bundle = items_demands [] 0 bundle

@@ -1,9 +1,9 @@
 -- Worked examples.
 use Rattle.std.specs.Prelude.{◌≡◌, ◌-◌, ◌^◌, true, [], ◌∷◌, Some, None, codes, refl}
-use Rattle.ir_text.specs.declared.tree.TypeForm.TheVariants as forms
-use Rattle.ir_text.specs.declared.tree.Literal.TheVariants as literals
-use Rattle.ir_text.specs.declared.tree.Item.TheVariants as items
-use Rattle.ir_text.specs.Examples.{named, plain, adds}
+use Rattle.built_forms.specs.declared.tree.TypeForm.TheVariants as forms
+use Rattle.built_forms.specs.declared.tree.Literal.TheVariants as literals
+use Rattle.built_forms.specs.declared.tree.Item.TheVariants as items
+use Rattle.bundle_check.specs.Samples.{named, plain, adds}
 use Rattle.bundle_check.specs.declared.fault.CheckKind.TheVariants.{NotBuilt}
 use Rattle.bundle_check.specs.declared.fault.CheckFault.TheVariants.{At}
 use Rattle.bundle_check.specs.Constants.{value_of_number}

@@ -1,8 +1,8 @@
 -- The functions of a bundle, counted from 0 in text order.
 use Rattle.std.specs.Prelude.{ℕ, List, [], ◌∷◌, Option, Some, None, slice_get}
-use Rattle.ir_text.specs.declared.tree.Item.{Item}
-use Rattle.ir_text.specs.declared.tree.Item.TheVariants as items
-use Rattle.ir_text.specs.declared.tree.Funcdef.{Funcdef}
+use Rattle.built_forms.specs.declared.tree.Item.{Item}
+use Rattle.built_forms.specs.declared.tree.Item.TheVariants as items
+use Rattle.built_forms.specs.declared.tree.Funcdef.{Funcdef}
 use Rattle.bundle_check.specs.declared.meaning.Meaning.{Meaning}
 use Rattle.bundle_check.specs.declared.meaning.Meaning.TheVariants as meanings
 use Rattle.bundle_check.specs.Names.{found, names_of}

@@ -1,7 +1,7 @@
 -- Laws of checked bundles and their functions.
 use Rattle.std.specs.Prelude.{◌≡◌, ℕ, List, Some, None, IsSomeAnd}
-use Rattle.ir_text.specs.declared.tree.Item.{Item}
-use Rattle.ir_text.specs.declared.tree.Funcdef.{Funcdef}
+use Rattle.built_forms.specs.declared.tree.Item.{Item}
+use Rattle.built_forms.specs.declared.tree.Funcdef.{Funcdef}
 use Rattle.bundle_check.specs.Demands.{Demands, first_unmet, first_of, listed}
 use Rattle.bundle_check.specs.Checking.{check_demands}
 use Rattle.bundle_check.specs.Functions.{function_numbered, function_number}

@@ -2,8 +2,8 @@
 use Rattle.std.specs.Prelude.{ℕ, ◌+◌, List, [], ◌∷◌, Option, Some, None, if◌then◌else◌}
 use Rattle.std.specs.Str.{bytes_eq}
 use Rattle.ir_lex.specs.declared.name.Name.{Name}
-use Rattle.ir_text.specs.declared.tree.Item.{Item}
-use Rattle.ir_text.specs.declared.tree.Item.TheVariants as items
+use Rattle.built_forms.specs.declared.tree.Item.{Item}
+use Rattle.built_forms.specs.declared.tree.Item.TheVariants as items
 use Rattle.bundle_check.specs.declared.meaning.Meaning.{Meaning}
 use Rattle.bundle_check.specs.declared.meaning.Meaning.TheVariants as meanings
 use Rattle.bundle_check.specs.Constants.{value_of_literal}

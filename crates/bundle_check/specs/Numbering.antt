@@ -1,14 +1,14 @@
 -- The code of a bundle's functions, with numbers in place of names. It is made of any bundle, and means something where the
 -- demands on the bundle are met: a name that is missing counts as 0.
 use Rattle.std.specs.Prelude.{ℕ, List, [], ◌∷◌, ◌++◌, unwrap_or}
-use Rattle.ir_text.specs.declared.tree.Operand.{Operand}
-use Rattle.ir_text.specs.declared.tree.Operand.TheVariants as operands
-use Rattle.ir_text.specs.declared.tree.Op.{Op}
-use Rattle.ir_text.specs.declared.tree.Op.TheVariants as ops
-use Rattle.ir_text.specs.declared.tree.Inst.{Inst}
-use Rattle.ir_text.specs.declared.tree.Block.{Block}
-use Rattle.ir_text.specs.declared.tree.Item.{Item}
-use Rattle.ir_text.specs.declared.tree.Item.TheVariants as items
+use Rattle.built_forms.specs.declared.tree.Operand.{Operand}
+use Rattle.built_forms.specs.declared.tree.Operand.TheVariants as operands
+use Rattle.built_forms.specs.declared.tree.Op.{Op}
+use Rattle.built_forms.specs.declared.tree.Op.TheVariants as ops
+use Rattle.built_forms.specs.declared.tree.Inst.{Inst}
+use Rattle.built_forms.specs.declared.tree.Block.{Block}
+use Rattle.built_forms.specs.declared.tree.Item.{Item}
+use Rattle.built_forms.specs.declared.tree.Item.TheVariants as items
 use Rattle.bundle_check.specs.declared.code.Source.{Source}
 use Rattle.bundle_check.specs.declared.code.Source.TheVariants as sources
 use Rattle.bundle_check.specs.declared.code.Code.{Code}

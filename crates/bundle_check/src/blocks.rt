@@ -11,7 +11,7 @@ use crate::meaning::Meaning;
 use crate::operands::{fresh, operand, written};
 use crate::scope::Scope;
 use ir_lex::Name;
-use ir_text::{Block, Inst, Op, Operand};
+use built_forms::{Block, Inst, Op, Operand};
 use std::alloc::Global;
 use text_forms::Listing;
 

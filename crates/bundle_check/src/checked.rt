@@ -6,7 +6,7 @@ use crate::code::Function;
 use crate::fault::EntryFault;
 use crate::meaning::Meaning;
 use crate::scope::Scope;
-use ir_text::Bundle;
+use built_forms::Bundle;
 use std::marker::Model;
 use text_forms::Listing;
 
@@ -20,7 +20,7 @@ pub struct Checked {
 
 impl Model for Checked {
     ghost use Rattle.std.specs.Prelude.{List, ◌≡◌, None};
-    ghost use Rattle.ir_text.specs.declared.tree.Item.{Item};
+    ghost use Rattle.built_forms.specs.declared.tree.Item.{Item};
     ghost use Rattle.bundle_check.specs.Demands.{first_unmet};
     ghost use Rattle.bundle_check.specs.Checking.{check_demands};
     ghost use Rattle.bundle_check.specs.Names.{names_of};

@@ -3,17 +3,20 @@ ghost use Rattle.std.specs.Prelude.{◌≡◌, [], ◌∷◌, ◌++◌, length, 
 ghost use Rattle.bundle_check.specs.Demands.{Judges, Meets};
 ghost use Rattle.bundle_check.specs.Names.{named, counted, names_of};
 ghost use Rattle.bundle_check.specs.Checking.{item_demands, check_demands};
+ghost use Rattle.bundle_check.specs.Bundles.{bundle_demands};
 ghost use Rattle.bundle_check.specs.Numbering.{functions_in, numbered};
-ghost use Rattle.ir_text.specs.declared.tree.Item.TheVariants as items;
+ghost use Rattle.built_forms.specs.Built.{built_items};
+ghost use Rattle.built_forms.specs.declared.tree.Item.TheVariants as items;
 
 use crate::blocks::block;
+use crate::building::built;
 use crate::checked::Checked;
 use crate::code::Function;
 use crate::fault::CheckFault;
 use crate::meaning::Meaning;
 use crate::operands::{fresh, literal, signature, written};
 use crate::scope::Scope;
-use ir_text::{Bundle, Const, Funcdef, Funcsig, Item, Typedef};
+use built_forms::{Bundle, Const, Funcdef, Funcsig, Item, Typedef};
 use std::alloc::Global;
 use text_forms::Listing;
 
@@ -86,8 +89,8 @@ fn item(
     }
 }
 
-/// Judges a bundle: Ok where all demands on it are met, else the first that is not. It takes time in proportion to the bundle.
-pub fn check(alloc: Global, bundle: Bundle) -> Result<Checked, CheckFault>
+/// Judges a bundle in the forms that are run.
+fn judged(alloc: Global, bundle: Bundle) -> Result<Checked, CheckFault>
     ensures { Judges (check_demands bundle) bundle result }
 {
     let mut names = Scope::new(alloc);
@@ -98,4 +101,12 @@ pub fn check(alloc: Global, bundle: Bundle) -> Result<Checked, CheckFault>
         left = more;
     }
     Ok(Checked::new(bundle, names, functions))
+}
+
+/// Judges a bundle: Ok where all demands on it are met, else the first that is not. It takes time in proportion to the bundle.
+pub fn check(alloc: Global, bundle: ir_tree::Bundle) -> Result<Checked, CheckFault>
+    ensures { Judges (bundle_demands bundle) (built_items bundle) result }
+{
+    let built = built(alloc, bundle.as_slice())?;
+    judged(alloc, built)
 }

@@ -2,6 +2,7 @@
 #![tactic(auto)]
 
 mod blocks;
+mod building;
 mod checked;
 mod code;
 mod fault;

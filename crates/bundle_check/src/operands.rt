@@ -13,7 +13,7 @@ use crate::fault::{CheckFault, CheckKind};
 use crate::meaning::Meaning;
 use crate::scope::Scope;
 use ir_lex::{Name, Number};
-use ir_text::{Literal, Operand};
+use built_forms::{Literal, Operand};
 
 /// The fault at a place.
 fn not_built(place: usize) -> CheckFault

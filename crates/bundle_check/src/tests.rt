@@ -20,7 +20,19 @@ fn finds_the_entry(rt: HostRuntime) -> Result<(), Fail> {
 
 #[test]
 fn refuses_at_the_first_demand(rt: HostRuntime) -> Result<(), Fail> {
-    let rows: [(&[u8], usize); 7] = [
+    let rows: [(&[u8], usize); 13] = [
+        (b".global @g <@t>", 0),
+        (b".typedef @t = int<32>", 0),
+        (b".const @c <@t> = 18446744073709551616", 0),
+        (b".typedef @t = int<64> .funcsig @s = (@t) -> (@t)", 22),
+        (
+            b".typedef @a = int<64> .typedef @a = int<64> .funcdecl @f <@s>",
+            44,
+        ),
+        (
+            b".typedef @t = int<64> .funcsig @s = () -> (@t) .funcdef @f VERSION %v <@s> { %e(<@t> %a): RET (%a) }",
+            47,
+        ),
         (b".typedef @a = int<64> .typedef @a = int<64>", 31),
         (b".funcsig @s = () -> (@t)", 21),
         (

@@ -6,12 +6,11 @@ use Rattle.mu_base.specs.declared.status.Status.{Status}
 use Rattle.mu_base.specs.Files.{Files, file}
 use Rattle.mu_base.specs.Outcome.{Outcome, got, failed, too_long, Allows}
 use Rattle.mu_command.specs.declared.job.Job.{Job}
-use Rattle.mu_command.specs.Answer.{Outcomes, found, run_part, answer_of}
-use Rattle.mu_command.specs.declared.job.Job.TheVariants.{Run}
+use Rattle.mu_command.specs.Answer.{Outcomes, found, ready_part, answer_of}
 use Rattle.mu_command.specs.declared.what.What.{What}
 use Rattle.mu_command.specs.declared.what.What.TheVariants.{Bundle}
 use Rattle.mu_command.specs.Allowed.{Seen, AllowsJob, AllowsFile}
-use Rattle.mu_command.specs.Job.{job_of, slot_of}
+use Rattle.mu_command.specs.Job.{job_of, bundle_word, slot_of}
 use Rattle.mu_command.specs.Written.{Writes}
 use Rattle.mu_command.specs.Central.{Answered, IsQuiet, outcome_of, outcome_named, outcomes_of, OneAnswer}
 
@@ -40,8 +39,8 @@ named_is_told seen files words what (Some n) o told quiet h = allowed_is_told fi
 outcomes_are_told : (seen : Seen) (files : Files) (words : List (List ℕ)) (job : Option Job) (o : Outcomes) → seen.told ≡ Some files → ((s : ℕ) → IsQuiet seen s) →
     AllowsJob seen words job o → answer_of words job o ≡ answer_of words job (outcomes_of files words job)
 outcomes_are_told seen files words None o told quiet h = refl
-outcomes_are_told seen files words (Some (Run file entry)) o told quiet h =
-    ap (λ (x : Outcome). run_part (found words entry x)) (named_is_told seen files words Bundle (Some file) (o Bundle) told (quiet 0) (h Bundle))
+outcomes_are_told seen files words (Some job) o told quiet h =
+    ap (λ (x : Outcome). ready_part (found words job x)) (named_is_told seen files words Bundle (Some (bundle_word job)) (o Bundle) told (quiet 0) (h Bundle))
 
 pub complete : (seen : Seen) (files : Files) (words : List (List ℕ)) (w0 w1 e0 e1 : Option (List ℕ)) (status : Status) → Answered seen words w0 w1 e0 e1 status →
     seen.told ≡ Some files → ((s : ℕ) → IsQuiet seen s) → Writes (answer_of words (job_of words) (outcomes_of files words (job_of words))) w0 w1 e0 e1 status

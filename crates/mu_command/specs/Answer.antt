@@ -1,22 +1,27 @@
 -- What the program answers to its words, and to what the fetches of its files come to.
 use Rattle.std.specs.Prelude.{ℕ, List, [], ◌∷◌, ◌++◌, map, Option, None, Some, Result, Ok, Err, codes, decimal}
 use Rattle.mu_base.specs.declared.status.Status.{Status}
-use Rattle.mu_base.specs.declared.status.Status.TheVariants.{Usage, ReadFault, Refused, TooLong, Memory}
+use Rattle.mu_base.specs.declared.status.Status.TheVariants.{Done as Finished, Usage, ReadFault, Refused, TooLong, Memory}
 use Rattle.mu_base.specs.Outcome.{Outcome, got, failed, too_long}
-use Rattle.ir_text.specs.declared.tree.Item.{Item}
+use Rattle.built_forms.specs.declared.tree.Item.{Item}
 use Rattle.ir_text.specs.declared.fault.TextFault.{TextFault}
 use Rattle.ir_text.specs.declared.fault.TextFault.TheVariants as text_faults
-use Rattle.ir_text.specs.NotBuilt.{text_answer}
+use Rattle.ir_text.specs.TextAnswers.{text_answer}
+use Rattle.ir_tree.specs.declared.items.Item.{Item as WrittenItem}
+use Rattle.ir_print.specs.Items.{bundle_text}
+use Rattle.built_forms.specs.Built.{built_items}
 use Rattle.bundle_check.specs.declared.fault.CheckFault.{CheckFault}
 use Rattle.bundle_check.specs.declared.fault.CheckFault.TheVariants as check_faults
-use Rattle.bundle_check.specs.Checking.{check_demands}
+use Rattle.bundle_check.specs.Bundles.{bundle_demands}
 use Rattle.bundle_check.specs.Demands.{first_unmet}
 use Rattle.bundle_check.specs.Functions.{function_number}
 use Rattle.mu_step.specs.Run.{Run as RunOfMachine, run}
 use Rattle.mu_command.specs.declared.job.Job.{Job}
-use Rattle.mu_command.specs.declared.job.Job.TheVariants.{Run}
+use Rattle.mu_command.specs.declared.job.Job.TheVariants.{Check, Print, Run}
 use Rattle.mu_command.specs.declared.what.What.{What}
 use Rattle.mu_command.specs.declared.what.What.TheVariants.{Bundle}
+use Rattle.mu_command.specs.declared.ready.Ready.{Ready}
+use Rattle.mu_command.specs.declared.ready.Ready.TheVariants as ready
 use Rattle.mu_command.specs.Job.{name_of, word}
 use Rattle.mu_command.specs.Lines.{line_text, ending_text, ending_status}
 use Rattle.mu_command.specs.Refusals.{text_fault_name, check_fault_name}
@@ -54,20 +59,24 @@ abbrev pub refused : What → ℕ → List ℕ → Answer
 refused what place fault = line (codes "refused " ++ name_of what ++ codes " " ++ decimal place ++ codes " " ++ fault) Refused
 
 -- a text is a bundle, or has a first fault
-abbrev pub read_part : Result (List Item) TextFault → Part (List Item)
+abbrev pub read_part : Result (List WrittenItem) TextFault → Part (List WrittenItem)
 read_part (Ok bundle) = Ok bundle
 read_part (Err (text_faults.At kind place)) = Err (refused Bundle place (text_fault_name kind))
 read_part (Err text_faults.Memory) = Err no_answer
 
--- a bundle meets its demands, or there is a first one that it does not
+-- a bundle meets its demands, and then this is what is run of it, or there is a first one that it does not
 abbrev pub check_part : List Item → Option CheckFault → Part (List Item)
 check_part bundle None = Ok bundle
 check_part bundle (Some (check_faults.At kind place)) = Err (refused Bundle place (check_fault_name kind))
 check_part bundle (Some check_faults.Memory) = Err no_answer
 
--- the bundle that a text is, where it meets its demands
+-- the bundle that a text is
+abbrev pub as_written : List ℕ → Part (List WrittenItem)
+as_written bytes = read_part (text_answer bytes)
+
+-- the bundle that a text is, where it meets its demands, in the forms that are run
 abbrev pub accepted : List ℕ → Part (List Item)
-accepted bytes = read_part (text_answer bytes) >>= λ bundle. check_part bundle (first_unmet (check_demands bundle))
+accepted bytes = as_written bytes >>= λ bundle. check_part (built_items bundle) (first_unmet (bundle_demands bundle))
 
 -- the function that the run begins with
 abbrev pub entry_part : Option ℕ → Part ℕ
@@ -82,14 +91,26 @@ abbrev pub run_answer : Option RunOfMachine → Answer
 run_answer (Some r) = record { pieces = map line_text r.lines ++ ending_text r.ending ∷ []; status = ending_status r.ending }
 run_answer None = no_answer
 
--- what is found on the way to a run: a bundle, and a function of it
-abbrev pub found : List (List ℕ) → ℕ → Outcome → Part (List Item × ℕ)
-found words entry bundle =
-    fetched Bundle bundle >>= λ bytes. accepted bytes >>= λ code. entered code (word words entry) >>= λ n. Ok (code, n)
+-- what a job asks of the bundle's text: that it is accepted; the bundle as it is written; or a bundle that is accepted, and a
+-- function of it
+abbrev pub asked : List (List ℕ) → Job → List ℕ → Part Ready
+asked words (Check file) bytes = accepted bytes >>= λ code. Ok ready.Accepted
+asked words (Print file) bytes = as_written bytes >>= λ bundle. Ok (ready.Canonical bundle)
+asked words (Run file entry) bytes = accepted bytes >>= λ code. entered code (word words entry) >>= λ n. Ok (ready.Entered code n)
 
-abbrev pub run_part : Part (List Item × ℕ) → Answer
-run_part (Ok (code, n)) = run_answer (run code n)
-run_part (Err answer) = answer
+-- what is written then: `ok`, the canonical text in one piece, or the run
+abbrev pub ready_answer : Ready → Answer
+ready_answer ready.Accepted = line (codes "ok") Finished
+ready_answer (ready.Canonical bundle) = record { pieces = bundle_text bundle ∷ []; status = Finished }
+ready_answer (ready.Entered code n) = run_answer (run code n)
+
+abbrev pub ready_part : Part Ready → Answer
+ready_part (Ok r) = ready_answer r
+ready_part (Err answer) = answer
+
+-- what is found on the way: the bundle's file, and what the job asks of it
+abbrev pub found : List (List ℕ) → Job → Outcome → Part Ready
+found words job bundle = fetched Bundle bundle >>= λ bytes. asked words job bytes
 
 -- What the fetches come to, file by file.
 abbrev pub Outcomes : Type 0
@@ -98,4 +119,4 @@ Outcomes = What → Outcome
 -- The answer to the words and the outcomes: no job; the first fetch that gives no file; the first refusal; else the run.
 abbrev pub answer_of : List (List ℕ) → Option Job → Outcomes → Answer
 answer_of words None outcomes = line (codes "usage") Usage
-answer_of words (Some (Run file entry)) outcomes = run_part (found words entry (outcomes Bundle))
+answer_of words (Some job) outcomes = ready_part (found words job (outcomes Bundle))

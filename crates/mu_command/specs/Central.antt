@@ -4,13 +4,12 @@ use Rattle.mu_base.specs.declared.status.Status.{Status}
 use Rattle.mu_base.specs.Faults.{Rose}
 use Rattle.mu_base.specs.Files.{Files, file, IsMissing}
 use Rattle.mu_base.specs.Outcome.{Outcome, got, failed, too_long, IsLonger}
-use Rattle.ir_text.specs.declared.tree.Item.{Item}
 use Rattle.mu_command.specs.declared.job.Job.{Job}
-use Rattle.mu_command.specs.declared.job.Job.TheVariants.{Run}
+use Rattle.mu_command.specs.declared.ready.Ready.{Ready}
 use Rattle.mu_command.specs.declared.what.What.{What}
 use Rattle.mu_command.specs.declared.what.What.TheVariants.{Bundle}
-use Rattle.mu_command.specs.Job.{job_of, file_of, slot_of, word}
-use Rattle.mu_command.specs.Answer.{Answer, Outcomes, ◌>>=◌, accepted, entered, answer_of}
+use Rattle.mu_command.specs.Job.{job_of, file_of, bundle_word, slot_of, word}
+use Rattle.mu_command.specs.Answer.{Answer, Outcomes, asked, answer_of}
 use Rattle.mu_command.specs.Allowed.{Seen, AllowsWord, AllowsJob, file_limit}
 use Rattle.mu_command.specs.Written.{Writes}
 
@@ -35,24 +34,23 @@ MayFail seen words what n = Rose (seen.before (slot_of what)) (seen.now (slot_of
 abbrev pub IsPast : Seen → List (List ℕ) → What → ℕ → Type 0
 IsPast seen words what n = IsLonger seen.told (word words n) file_limit × (seen.now (slot_of what) ≡ seen.before (slot_of what))
 
--- the bytes of a bundle's file, a function's name, and what they come to: accepted, or refused
-pub record IsAccepted (seen : Seen) (words : List (List ℕ)) (file entry : ℕ) : Type 0 where
+-- the bytes of a bundle's file, and what the job asks of them: it is there, or it is refused
+pub record IsAccepted (seen : Seen) (words : List (List ℕ)) (job : Job) : Type 0 where
   pub bytes : List ℕ
-  pub held : AllowsWord seen words Bundle file (got bytes)
-  pub code : List Item
-  pub number : ℕ
-  pub is_code : accepted bytes ≡ Ok code
-  pub is_entry : entered code (word words entry) ≡ Ok number
+  pub held : AllowsWord seen words Bundle (bundle_word job) (got bytes)
+  pub ready : Ready
+  pub is : asked words job bytes ≡ Ok ready
 
-pub record IsRefused (seen : Seen) (words : List (List ℕ)) (file entry : ℕ) : Type 0 where
+pub record IsRefused (seen : Seen) (words : List (List ℕ)) (job : Job) : Type 0 where
   pub bytes : List ℕ
-  pub held : AllowsWord seen words Bundle file (got bytes)
+  pub held : AllowsWord seen words Bundle (bundle_word job) (got bytes)
   pub refusal : Answer
-  pub is : (accepted bytes >>= λ code. entered code (word words entry)) ≡ Err refusal
+  pub is : asked words job bytes ≡ Err refusal
 
-abbrev pub Running : (ℕ → ℕ → Type 0) → Option Job → Type 0
-Running P None = ⊥
-Running P (Some (Run file entry)) = P file entry
+-- of the job, where there is one
+abbrev pub OfJob : (Job → Type 0) → Option Job → Type 0
+OfJob P None = ⊥
+OfJob P (Some job) = P job
 
 -- ---- completeness
 

@@ -1,14 +1,15 @@
 -- What the functions that find an answer tell their callers.
-use Rattle.std.specs.Prelude.{◌≡◌, ℕ, List, Vec, Result, Ok, Err, ⊤}
+use Rattle.std.specs.Prelude.{◌≡◌, ◌<◌, ℕ, List, Vec, length, Result, Ok, Err, ⊤}
 use Rattle.std.specs.declared.alloc.Global.{Global}
 use Rattle.mu_base.specs.Outcome.{Outcome, got}
-use Rattle.mu_step.specs.Run.{run}
 use Rattle.mu_command.specs.declared.what.What.{What}
 use Rattle.mu_command.specs.declared.stop.Stop.{Stop}
 use Rattle.mu_command.specs.declared.stop.Stop.TheVariants.{Line, Memory}
-use Rattle.mu_command.specs.declared.finding.Ready.{Ready}
+use Rattle.mu_command.specs.declared.ready.Ready.{Ready}
+use Rattle.mu_command.specs.declared.ready.Ready.TheVariants as ready
+use Rattle.bundle_check.specs.Functions.{functions_of}
 use Rattle.mu_command.specs.Job.{job_of}
-use Rattle.mu_command.specs.Answer.{Answer, Outcomes, Part, line, fetched, run_answer, answer_of}
+use Rattle.mu_command.specs.Answer.{Answer, Outcomes, Part, line, fetched, ready_answer, answer_of}
 use Rattle.mu_command.specs.Allowed.{Seen, AllowsWord, AllowsJob}
 
 -- a result is what the part comes to; an early end is its answer, and want of memory says nothing
@@ -29,8 +30,14 @@ pub record IsAnswer (seen : Seen) (words : List (List ℕ)) (answer : Answer) : 
   pub allowed : AllowsJob seen words (job_of words) outcomes
   pub is : answer ≡ answer_of words (job_of words) outcomes
 
--- what was found is to be run, or a line that is the answer
+-- what was found is to be written, or a line that is the answer
 abbrev pub IsFound : Seen → List (List ℕ) → Result Ready Stop → Type 0
-IsFound seen words (Ok ready) = IsAnswer seen words (run_answer (run ready.code ready.entry))
+IsFound seen words (Ok ready) = IsAnswer seen words (ready_answer ready)
 IsFound seen words (Err (Line text status)) = IsAnswer seen words (line text.items status)
 IsFound seen words (Err Memory) = ⊤
+
+-- a function that is to be run is there
+abbrev pub CanRun : Ready → Type 0
+CanRun ready.Accepted = ⊤
+CanRun (ready.Canonical bundle) = ⊤
+CanRun (ready.Entered code n) = n < length (functions_of code)

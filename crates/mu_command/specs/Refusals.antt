@@ -16,7 +16,8 @@ lex_fault_name TooLong = codes "TooLong"
 abbrev pub text_fault_name : TextKind → List ℕ
 text_fault_name (text_kinds.Lex kind) = lex_fault_name kind
 text_fault_name text_kinds.Unexpected = codes "Unexpected"
-text_fault_name text_kinds.NotBuilt = codes "NotBuilt"
+text_fault_name text_kinds.NotInProfile = codes "NotInProfile"
+text_fault_name text_kinds.TooMany = codes "TooMany"
 
 abbrev pub check_fault_name : CheckKind → List ℕ
 check_fault_name check_kinds.NotBuilt = codes "NotBuilt"

@@ -1,33 +1,26 @@
-// The first half of the program: what is to be written.
+// The first half of the program: finds what is to be written.
 ghost use Rattle.std.specs.Prelude.{◌≡◌, ◌<◌, ◌≤◌, ℕ, Some, length, IfOk};
 ghost use Rattle.bundle_check.specs.Functions.{functions_of};
-ghost use Rattle.mu_command.specs.Answer.{accepted, entered, read_part};
-ghost use Rattle.ir_text.specs.NotBuilt.{text_answer};
-ghost use Rattle.mu_command.specs.Job.{job_of};
-ghost use Rattle.mu_command.specs.Parts.{Comes, IsFound};
+ghost use Rattle.mu_command.specs.Answer.{as_written, accepted, entered, asked};
+ghost use Rattle.mu_command.specs.Job.{job_of, AreThere};
+ghost use Rattle.mu_command.specs.Parts.{Comes, IsFound, CanRun};
 
 use crate::job::Job;
 use crate::loading::load;
+use crate::ready::Ready;
 use crate::refusals::{check_fault_name, refusal, text_fault_name};
 use crate::stop::Stop;
 use crate::what::What;
 use crate::words::read_words;
 use bundle_check::{CheckFault, Checked, EntryFault, check};
-use ir_text::{Bundle, TextFault, read_bundle};
+use ir_text::{TextFault, read_bundle};
+use ir_tree::Bundle;
 use mu_base::{Inputs, Status, Words};
 use std::alloc::Global;
 
-/// What is to be run: a checked bundle, and the number of one of its functions.
-#[derive(Drop)]
-pub struct Ready {
-    pub code: Checked,
-    pub entry: u32,
-}
-
 // Reads a bundle.
 fn read(alloc: Global, bytes: &[u8]) -> Result<Bundle, Stop>
-    requires { length bytes.now < 4294967295 }
-    ensures { Comes (read_part (text_answer bytes.now)) result }
+    ensures { Comes (as_written bytes.now) result }
 {
     match read_bundle(alloc, bytes) {
         Ok(bundle) => Ok(bundle),
@@ -41,7 +34,6 @@ fn read(alloc: Global, bytes: &[u8]) -> Result<Bundle, Stop>
 
 // Reads a bundle and checks it.
 fn accept(alloc: Global, bytes: &[u8]) -> Result<Checked, Stop>
-    requires { length bytes.now < 4294967295 }
     ensures { Comes (accepted bytes.now) result }
 {
     let bundle = read(alloc, bytes)?;
@@ -69,30 +61,47 @@ fn enter(alloc: Global, code: &Checked, name: &str) -> Result<u32, Stop>
     }
 }
 
-// Fetches the bundle, judges it, and looks its entry up.
+// Judges a bundle's text as the job asks.
+fn judge(alloc: Global, words: &Words, job: Job, bytes: &[u8]) -> Result<Ready, Stop>
+    requires { AreThere words.now job }
+    ensures asked { Comes (asked words.now job bytes.now) result }
+    ensures there { IfOk result CanRun }
+{
+    match job {
+        Job::Check { .. } => {
+            accept(alloc, bytes)?;
+            Ok(Ready::Accepted)
+        }
+        Job::Print { .. } => {
+            let bundle = read(alloc, bytes)?;
+            Ok(Ready::Canonical(bundle))
+        }
+        Job::Run { entry, .. } => {
+            let code = accept(alloc, bytes)?;
+            let entry = enter(alloc, &code, words.word(entry))?;
+            Ok(Ready::Entered { code, entry })
+        }
+    }
+}
+
+// Fetches the bundle and judges it.
 #[tactic(auto, using(crate::proofs::Together::together_rules))]
-fn find_run<I: Inputs>(
+fn find_job<I: Inputs>(
     alloc: Global,
     words: &Words,
-    file: usize,
-    entry: usize,
+    job: Job,
     inputs: &mut I,
 ) -> Result<Ready, Stop>
-    requires file { file < length words.now }
-    requires entry { entry < length words.now }
-    requires job { job_of words.now ≡ Some (Job.Run file entry) }
+    requires there { AreThere words.now job }
+    requires job { job_of words.now ≡ Some job }
     ensures same { I.holds inputs.new ≡ I.holds inputs.old }
     ensures never_falls { (s : ℕ) → I.faults inputs.old s ≤ I.faults inputs.new s }
     ensures found { IsFound (record { told = I.holds inputs.old; before = I.faults inputs.old; now = I.faults inputs.new }) words.now result }
-    ensures there { IfOk result (λ ready. ready.entry < length (functions_of ready.code)) }
+    ensures there { IfOk result CanRun }
 {
-    let bytes = load(alloc, words, What::Bundle, file, inputs)?;
-    let code = accept(alloc, &bytes)?;
-    let number = enter(alloc, &code, words.word(entry))?;
-    Ok(Ready {
-        code,
-        entry: number,
-    })
+    let bytes = load(alloc, words, What::Bundle, job.bundle(), inputs)?;
+    let ready = judge(alloc, words, job, &bytes)?;
+    Ok(ready)
 }
 
 /// Reads the words, fetches the files and judges them.
@@ -101,10 +110,10 @@ pub fn find<I: Inputs>(alloc: Global, words: &Words, inputs: &mut I) -> Result<R
     ensures same { I.holds inputs.new ≡ I.holds inputs.old }
     ensures never_falls { (s : ℕ) → I.faults inputs.old s ≤ I.faults inputs.new s }
     ensures found { IsFound (record { told = I.holds inputs.old; before = I.faults inputs.old; now = I.faults inputs.new }) words.now result }
-    ensures there { IfOk result (λ ready. ready.entry < length (functions_of ready.code)) }
+    ensures there { IfOk result CanRun }
 {
     match read_words(words) {
-        Some(Job::Run { file, entry }) => find_run(alloc, words, file, entry, inputs),
+        Some(job) => find_job(alloc, words, job, inputs),
         None => Err(Stop::Line(Vec::from_slice(alloc, b"usage")?, Status::Usage)),
     }
 }

@@ -6,6 +6,7 @@ mod job;
 mod lines;
 mod loading;
 mod program;
+mod ready;
 mod refusals;
 mod running;
 mod stop;

@@ -3,12 +3,12 @@ ghost use Rattle.std.specs.Prelude.{◌≡◌, ℕ, None, Some};
 ghost use Rattle.mu_base.specs.Faults.{Rose};
 ghost use Rattle.mu_base.specs.Files.{Files};
 ghost use Rattle.mu_command.specs.Answer.{answer_of};
-ghost use Rattle.mu_command.specs.Central.{Answered, MayFail, IsPast, SomeFile, Running, IsAccepted, IsRefused, IsQuiet, outcomes_of, OneAnswer};
+ghost use Rattle.mu_command.specs.Central.{Answered, MayFail, IsPast, SomeFile, OfJob, IsAccepted, IsRefused, IsQuiet, outcomes_of, OneAnswer};
 ghost use Rattle.mu_command.specs.Job.{job_of};
 ghost use Rattle.mu_command.specs.Written.{IsWhole, Writes};
 
 use crate::finding::find;
-use crate::running::write_run;
+use crate::running::write;
 use crate::stop::Stop;
 use crate::writing::put_line;
 use mu_base::{Inputs, Sink, Status, Words};
@@ -22,7 +22,7 @@ fn answer<I: Inputs, S: Sink>(alloc: Global, words: &Words, inputs: &mut I, out:
     ensures sink_fault { result ≡ Status.SinkFault → Rose (S.faults out.old) (S.faults out.new) }
 {
     match find(alloc, words, inputs) {
-        Ok(ready) => write_run(alloc, &ready, out),
+        Ok(ready) => write(alloc, &ready, out),
         Err(Stop::Line(text, status)) => put_line(out, text, status),
         Err(Stop::Memory) => Status::Memory,
     }
@@ -30,9 +30,14 @@ fn answer<I: Inputs, S: Sink>(alloc: Global, words: &Words, inputs: &mut I, out:
 
 /// Does what the words ask for, and writes what it comes to. It has no condition.
 ///
-/// The words are `run FILE --entry NAME`: the bundle in the file is read, checked, and run from the function with that
-/// name. What is written is the text of the run, or one line that names the first fault of what was given. After every
-/// status a prefix of that text was written; after each but `SinkFault` and `Memory` it is the whole text.
+/// The words are one of these:
+///
+/// - `check FILE`: the bundle in the file is read and checked; `ok` is written.
+/// - `print FILE`: it is read, and written as its canonical text.
+/// - `run FILE --entry NAME`: it is read, checked, and run from the function with that name; the text of the run is written.
+///
+/// Else one line is written that names the first fault of what was given. After every status a prefix of the text was written;
+/// after each but `SinkFault` and `Memory` it is the whole text.
 pub fn mu<I: Inputs, S: Sink>(alloc: Global, words: &Words, inputs: &mut I, out: &mut S) -> Status
     // There are outcomes of the fetches that the inputs allow, and the answer to them is what is written.
     ensures answered { Answered (record { told = I.holds inputs.old; before = I.faults inputs.old; now = I.faults inputs.new }) words.now
@@ -45,9 +50,9 @@ pub fn mu<I: Inputs, S: Sink>(alloc: Global, words: &Words, inputs: &mut I, out:
         (MayFail (record { told = I.holds inputs.old; before = I.faults inputs.old; now = I.faults inputs.new }) words.now) (job_of words.now) }
     ensures too_long { result ≡ Status.TooLong → SomeFile
         (IsPast (record { told = I.holds inputs.old; before = I.faults inputs.old; now = I.faults inputs.new }) words.now) (job_of words.now) }
-    ensures refused { result ≡ Status.Refused → Running
+    ensures refused { result ≡ Status.Refused → OfJob
         (IsRefused (record { told = I.holds inputs.old; before = I.faults inputs.old; now = I.faults inputs.new }) words.now) (job_of words.now) }
-    ensures done { result ≡ Status.Done → Running
+    ensures done { result ≡ Status.Done → OfJob
         (IsAccepted (record { told = I.holds inputs.old; before = I.faults inputs.old; now = I.faults inputs.new }) words.now) (job_of words.now) }
     ensures sink_fault { result ≡ Status.SinkFault → Rose (S.faults out.old) (S.faults out.new) }
 

@@ -29,7 +29,8 @@ pub fn text_fault_name(kind: TextKind) -> &'static str
     match kind {
         TextKind::Lex(kind) => lex_fault_name(kind),
         TextKind::Unexpected => "Unexpected",
-        TextKind::NotBuilt => "NotBuilt",
+        TextKind::NotInProfile => "NotInProfile",
+        TextKind::TooMany => "TooMany",
     }
 }
 

@@ -1,15 +1,21 @@
-// The second half of the program: runs what was found, and writes the run.
+// The second half of the program: writes what was found.
 ghost use Rattle.std.specs.Prelude.{◌≡◌, ◌<◌, ◌≤◌, ◌++◌, ◌∷◌, [], length, map, OnOk, OnErr, IfErr};
 ghost use Rattle.bundle_check.specs.Functions.{functions_of};
 ghost use Rattle.mu_base.specs.Faults.{Rose};
 ghost use Rattle.mu_step.specs.Run.{run};
-ghost use Rattle.mu_command.specs.Answer.{run_answer};
+ghost use Rattle.mu_command.specs.Answer.{run_answer, ready_answer};
+ghost use Rattle.mu_command.specs.Parts.{CanRun};
+ghost use Rattle.mu_command.specs.declared.ready.Ready.TheVariants as ready;
 ghost use Rattle.mu_command.specs.Lines.{line_text, ending_text, ending_status};
 ghost use Rattle.mu_base.specs.Sink.{PutsWhole, PutsPart};
 ghost use Rattle.mu_command.specs.Written.{Writes, IsWhole};
 
-use crate::finding::Ready;
 use crate::lines::{ending_status, ending_text, line_text};
+use crate::ready::Ready;
+use crate::writing::{put_line, put_text};
+use bundle_check::Checked;
+use ir_print::print_bundle;
+use ir_tree::Bundle;
 use mu_base::{PutFault, Sink, Status};
 use mu_step::{Ending, Line, run_block};
 use std::alloc::Global;
@@ -65,15 +71,45 @@ fn put_run<S: Sink>(alloc: Global, out: &mut S, lines: &[Line], ending: Ending) 
     }
 }
 
-/// Runs what was found, and writes its lines and its ending.
-pub fn write_run<S: Sink>(alloc: Global, ready: &Ready, out: &mut S) -> Status
-    requires { ready.now.entry < length (functions_of ready.now.code) }
-    ensures writes { Writes (run_answer (run ready.now.code ready.now.entry)) (S.written out.old) (S.written out.new) (S.ends out.old) (S.ends out.new) result }
+// Runs a function, and writes the lines of the run and its ending.
+fn write_run<S: Sink>(alloc: Global, code: &Checked, entry: u32, out: &mut S) -> Status
+    requires { entry < length (functions_of code.now) }
+    ensures writes { Writes (run_answer (run code.now entry)) (S.written out.old) (S.written out.new) (S.ends out.old) (S.ends out.new) result }
     ensures never_falls { S.faults out.old ≤ S.faults out.new }
     ensures fault { result ≡ Status.SinkFault → Rose (S.faults out.old) (S.faults out.new) }
 {
-    match run_block(alloc, &ready.code, ready.entry) {
+    match run_block(alloc, code, entry) {
         Ok(lines) => put_run(alloc, out, lines.as_slice(), Ending::Done),
         Err(_) => Status::Memory,
+    }
+}
+
+// Writes a bundle's canonical text, in one piece.
+fn write_canonical<S: Sink>(alloc: Global, bundle: &Bundle, out: &mut S) -> Status
+    ensures writes { Writes (ready_answer (ready.Canonical bundle.now)) (S.written out.old) (S.written out.new) (S.ends out.old) (S.ends out.new) result }
+    ensures never_falls { S.faults out.old ≤ S.faults out.new }
+    ensures fault { result ≡ Status.SinkFault → Rose (S.faults out.old) (S.faults out.new) }
+{
+    let mut text = Vec::new(alloc);
+    match print_bundle(bundle, &mut text) {
+        Ok(()) => put_text(out, text, Status::Done),
+        Err(_) => Status::Memory,
+    }
+}
+
+/// Writes what was found.
+pub fn write<S: Sink>(alloc: Global, ready: &Ready, out: &mut S) -> Status
+    requires { CanRun ready.now }
+    ensures writes { Writes (ready_answer ready.now) (S.written out.old) (S.written out.new) (S.ends out.old) (S.ends out.new) result }
+    ensures never_falls { S.faults out.old ≤ S.faults out.new }
+    ensures fault { result ≡ Status.SinkFault → Rose (S.faults out.old) (S.faults out.new) }
+{
+    match ready {
+        Ready::Accepted => match Vec::from_slice(alloc, b"ok") {
+            Ok(text) => put_line(out, text, Status::Done),
+            Err(_) => Status::Memory,
+        },
+        Ready::Canonical(bundle) => write_canonical(alloc, bundle, out),
+        Ready::Entered { code, entry } => write_run(alloc, code, *entry, out),
     }
 }

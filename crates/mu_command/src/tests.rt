@@ -33,6 +33,21 @@ fn run(bundle: &'static str, text: &'static str, status: Status) -> Row {
     }
 }
 
+// A check, and a print, of a bundle where nothing fails.
+fn check(bundle: &'static str, text: &'static str, status: Status) -> Row {
+    Row {
+        words: &["check", "b"],
+        ..run(bundle, text, status)
+    }
+}
+
+fn print(bundle: &'static str, text: &'static str, status: Status) -> Row {
+    Row {
+        words: &["print", "b"],
+        ..run(bundle, text, status)
+    }
+}
+
 fn words_of(alloc: Global, all: &[&str]) -> Result<Words, AllocError> {
     let mut words = Words::new(alloc);
     for word in all {
@@ -69,7 +84,11 @@ fn runs(rt: HostRuntime) -> Result<(), Fail> {
             "refused bundle 39 Unexpected\n",
             Status::Refused,
         ),
-        run(".global", "refused bundle 0 NotBuilt\n", Status::Refused),
+        run(
+            ".global @g <@t>",
+            "refused bundle 0 NotBuilt\n",
+            Status::Refused,
+        ),
         run("@", "refused bundle 0 BadName\n", Status::Refused),
         run(
             ".typedef @i64 = int<09>",
@@ -78,12 +97,83 @@ fn runs(rt: HostRuntime) -> Result<(), Fail> {
         ),
         run(
             ".typedef @i32 = int<32> .foo",
-            "refused bundle 20 NotBuilt\n",
+            "refused bundle 24 Unexpected\n",
+            Status::Refused,
+        ),
+        run(
+            ".typedef @i32 = int<32>",
+            "refused bundle 0 NotBuilt\n",
             Status::Refused,
         ),
         run(
             ".typedef @a = int<64> .typedef @a = int<64>",
             "refused bundle 31 NotBuilt\n",
+            Status::Refused,
+        ),
+    ];
+    for row in &rows {
+        comes_to(&rt, rt.alloc(), row)?;
+    }
+    Ok(())
+}
+
+#[test]
+fn checks(rt: HostRuntime) -> Result<(), Fail> {
+    let rows = [
+        check(ADDS_40_AND_2, "ok\n", Status::Done),
+        check("", "ok\n", Status::Done),
+        check(
+            ".funcdef @f VERSION %v <@s> { %e(): RET",
+            "refused bundle 39 Unexpected\n",
+            Status::Refused,
+        ),
+        check(
+            ".expose",
+            "refused bundle 0 NotInProfile\n",
+            Status::Refused,
+        ),
+        check(
+            ".typedef @d = double",
+            "refused bundle 14 NotInProfile\n",
+            Status::Refused,
+        ),
+        // The first item that has no form that is run comes before a name that is defined twice.
+        check(
+            ".typedef @a = int<64> .typedef @a = int<64> .global @g <@a>",
+            "refused bundle 44 NotBuilt\n",
+            Status::Refused,
+        ),
+    ];
+    for row in &rows {
+        comes_to(&rt, rt.alloc(), row)?;
+    }
+    Ok(())
+}
+
+#[test]
+fn prints(rt: HostRuntime) -> Result<(), Fail> {
+    let rows = [
+        print(
+            ADDS_40_AND_2,
+            ".typedef @i64 = int<64>\n.funcsig @mi = () -> (@i64)\n.const @a <@i64> = 40\n.const @b <@i64> = 2\n\
+            .funcdef @main VERSION %v <@mi> {\n%e():\n  %c = ADD <@i64> @a @b\n  RET (%c)\n}\n",
+            Status::Done,
+        ),
+        print(
+            ".typedef @a=int<0x40>//x",
+            ".typedef @a = int<64>\n",
+            Status::Done,
+        ),
+        print("", "", Status::Done),
+        // Only the grammar is asked: names and types do not matter.
+        print(
+            ".global @g <@t> .global @g <@t>",
+            ".global @g <@t>\n.global @g <@t>\n",
+            Status::Done,
+        ),
+        print(
+            ".typedef @a =",
+            "refused bundle 13 Unexpected\n",
             Status::Refused,
         ),
     ];
@@ -101,6 +191,32 @@ fn other_words_and_faults(rt: HostRuntime) -> Result<(), Fail> {
             words: &["run", "b"],
             text: "usage\n",
             status: Status::Usage,
+            ..adds
+        },
+        Row {
+            words: &["check"],
+            text: "usage\n",
+            status: Status::Usage,
+            ..adds
+        },
+        Row {
+            words: &["print", "c"],
+            text: "read fault bundle\n",
+            status: Status::ReadFault,
+            ..adds
+        },
+        Row {
+            words: &["check", "b"],
+            failing_puts: &[0],
+            text: "",
+            status: Status::SinkFault,
+            ..adds
+        },
+        Row {
+            words: &["print", "b"],
+            failing_puts: &[0],
+            text: "",
+            status: Status::SinkFault,
             ..adds
         },
         Row {
@@ -156,11 +272,12 @@ fn other_words_and_faults(rt: HostRuntime) -> Result<(), Fail> {
 fn blanks(
     rt: &impl Abort,
     alloc: Global,
+    all: &[&str],
     count: usize,
     text: &str,
     status: Status,
 ) -> Result<(), AllocError> {
-    let words = words_of(alloc, RUN)?;
+    let words = words_of(alloc, all)?;
     let bytes = vec![in alloc; b' '; count]?;
     let files = vec![in alloc;
         File {
@@ -181,6 +298,7 @@ fn files_at_the_limit(rt: HostRuntime) -> Result<(), Fail> {
     blanks(
         &rt,
         rt.alloc(),
+        RUN,
         1_048_576,
         "refused entry Unknown\n",
         Status::Refused,
@@ -188,6 +306,15 @@ fn files_at_the_limit(rt: HostRuntime) -> Result<(), Fail> {
     blanks(
         &rt,
         rt.alloc(),
+        &["check", "b"],
+        1_048_576,
+        "ok\n",
+        Status::Done,
+    )?;
+    blanks(
+        &rt,
+        rt.alloc(),
+        &["check", "b"],
         1_048_577,
         "too long bundle\n",
         Status::TooLong,

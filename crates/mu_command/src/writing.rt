@@ -1,5 +1,5 @@
 // Puts pieces to the sink.
-ghost use Rattle.std.specs.Prelude.{◌≡◌, ◌≤◌};
+ghost use Rattle.std.specs.Prelude.{◌≡◌, ◌≤◌, [], ◌∷◌};
 ghost use Rattle.mu_base.specs.Faults.{Rose};
 ghost use Rattle.mu_command.specs.Answer.{line};
 ghost use Rattle.mu_command.specs.Written.{Writes, IsWhole, stopped};
@@ -16,6 +16,19 @@ pub fn stopped(fault: PutFault) -> Status
     }
 }
 
+/// Writes a text, in one piece.
+pub fn put_text<S: Sink>(out: &mut S, text: Vec<u8>, status: Status) -> Status
+    requires { IsWhole status }
+    ensures writes { Writes (record { pieces = text.items ∷ []; status = status }) (S.written out.old) (S.written out.new) (S.ends out.old) (S.ends out.new) result }
+    ensures never_falls { S.faults out.old ≤ S.faults out.new }
+    ensures fault { result ≡ Status.SinkFault → Rose (S.faults out.old) (S.faults out.new) }
+{
+    match out.put(&text) {
+        Ok(()) => status,
+        Err(fault) => stopped(fault),
+    }
+}
+
 /// Writes one line.
 pub fn put_line<S: Sink>(out: &mut S, text: Vec<u8>, status: Status) -> Status
     requires { IsWhole status }
@@ -27,8 +40,5 @@ pub fn put_line<S: Sink>(out: &mut S, text: Vec<u8>, status: Status) -> Status
     if text.push(b'\n').is_err() {
         return Status::Memory;
     }
-    match out.put(&text) {
-        Ok(()) => status,
-        Err(fault) => stopped(fault),
-    }
+    put_text(out, text, status)
 }

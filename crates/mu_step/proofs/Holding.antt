@@ -5,11 +5,11 @@ use Rattle.std.proofs.lemmas.Slice.Eq.{bytes_eq-Decides}
 use Rattle.std.proofs.lemmas.List.{get_or_append_left}
 use Rattle.std.proofs.Math.Seq.{get_or-append_seam}
 use Rattle.ir_lex.specs.declared.name.Name.{Name}
-use Rattle.ir_text.specs.declared.tree.Operand.{Operand}
-use Rattle.ir_text.specs.declared.tree.Operand.TheVariants as operands
-use Rattle.ir_text.specs.declared.tree.Op.{Op}
-use Rattle.ir_text.specs.declared.tree.Op.TheVariants as ops
-use Rattle.ir_text.specs.declared.tree.Item.{Item}
+use Rattle.built_forms.specs.declared.tree.Operand.{Operand}
+use Rattle.built_forms.specs.declared.tree.Operand.TheVariants as operands
+use Rattle.built_forms.specs.declared.tree.Op.{Op}
+use Rattle.built_forms.specs.declared.tree.Op.TheVariants as ops
+use Rattle.built_forms.specs.declared.tree.Item.{Item}
 use Rattle.bundle_check.specs.declared.meaning.Meaning.{Meaning}
 use Rattle.bundle_check.specs.declared.meaning.Meaning.TheVariants as meanings
 use Rattle.bundle_check.specs.Demands.{first_unmet}

@@ -2,12 +2,12 @@
 use Rattle.std.proofs.Common.{◌≡◌, ℕ, ◌+◌, ◌<◌, zero, suc, List, [], ◌∷◌, ◌++◌, length, Option, Some, None, Result, Ok, Err, IfOk, IsSome, slice_get, refl, sym, ap, subst, ◌∙◌, arith, append_assoc}
 use Rattle.std.specs.declared.alloc.AllocError.{AllocError}
 use Rattle.std.proofs.lemmas.List.{length-append, append-nil}
-use Rattle.ir_text.specs.declared.tree.Operand.{Operand}
-use Rattle.ir_text.specs.declared.tree.Inst.{Inst}
-use Rattle.ir_text.specs.declared.tree.Block.{Block}
-use Rattle.ir_text.specs.declared.tree.Funcdef.{Funcdef}
-use Rattle.ir_text.specs.declared.tree.Item.{Item}
-use Rattle.ir_text.specs.declared.tree.Item.TheVariants as items
+use Rattle.built_forms.specs.declared.tree.Operand.{Operand}
+use Rattle.built_forms.specs.declared.tree.Inst.{Inst}
+use Rattle.built_forms.specs.declared.tree.Block.{Block}
+use Rattle.built_forms.specs.declared.tree.Funcdef.{Funcdef}
+use Rattle.built_forms.specs.declared.tree.Item.{Item}
+use Rattle.built_forms.specs.declared.tree.Item.TheVariants as items
 use Rattle.bundle_check.specs.declared.code.Function.{Function}
 use Rattle.bundle_check.specs.Demands.{first_unmet}
 use Rattle.bundle_check.specs.Names.{Names, found, named, counted, names_from}

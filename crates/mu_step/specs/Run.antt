@@ -1,7 +1,7 @@
 -- The run of a function of a bundle: steps up to an ending.
 use Rattle.std.specs.Prelude.{◌≡◌, ℕ, zero, suc, ◌<◌, List, ◌++◌, Option, Some, None, IsSome, length}
-use Rattle.ir_text.specs.declared.tree.Block.{Block}
-use Rattle.ir_text.specs.declared.tree.Item.{Item}
+use Rattle.built_forms.specs.declared.tree.Block.{Block}
+use Rattle.built_forms.specs.declared.tree.Item.{Item}
 use Rattle.bundle_check.specs.Demands.{first_unmet}
 use Rattle.bundle_check.specs.Checking.{check_demands}
 use Rattle.bundle_check.specs.Functions.{functions_of, function_numbered}

@@ -1,9 +1,9 @@
 -- The abstract machine that runs a block. Thread 0 alone runs, on stack 0, whose only frame is the block's function.
 use Rattle.std.specs.Prelude.{ℕ, ◌+◌, List, [], ◌∷◌, Option, Some, None, slice_get}
 use Rattle.ir_lex.specs.declared.name.Name.{Name}
-use Rattle.ir_text.specs.declared.tree.Inst.{Inst}
-use Rattle.ir_text.specs.declared.tree.Block.{Block}
-use Rattle.ir_text.specs.declared.tree.Item.{Item}
+use Rattle.built_forms.specs.declared.tree.Inst.{Inst}
+use Rattle.built_forms.specs.declared.tree.Block.{Block}
+use Rattle.built_forms.specs.declared.tree.Item.{Item}
 use Rattle.mu_step.specs.declared.line.Note.TheVariants.{Returned}
 use Rattle.mu_step.specs.declared.line.Line.{Line}
 use Rattle.mu_step.specs.declared.line.Line.TheVariants as lines

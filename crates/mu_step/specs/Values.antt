@@ -1,11 +1,11 @@
 -- What the names of a block have as values while it runs. A value is a number below 2^64.
 use Rattle.std.specs.Prelude.{ℕ, ◌+◌, ◌%◌, ◌^◌, List, ◌∷◌, Option, Some, None}
 use Rattle.ir_lex.specs.declared.name.Name.{Name}
-use Rattle.ir_text.specs.declared.tree.Operand.{Operand}
-use Rattle.ir_text.specs.declared.tree.Operand.TheVariants as operands
-use Rattle.ir_text.specs.declared.tree.Op.{Op}
-use Rattle.ir_text.specs.declared.tree.Op.TheVariants as ops
-use Rattle.ir_text.specs.declared.tree.Item.{Item}
+use Rattle.built_forms.specs.declared.tree.Operand.{Operand}
+use Rattle.built_forms.specs.declared.tree.Operand.TheVariants as operands
+use Rattle.built_forms.specs.declared.tree.Op.{Op}
+use Rattle.built_forms.specs.declared.tree.Op.TheVariants as ops
+use Rattle.built_forms.specs.declared.tree.Item.{Item}
 use Rattle.bundle_check.specs.Names.{found}
 use Rattle.bundle_check.specs.Functions.{constant_value}
 

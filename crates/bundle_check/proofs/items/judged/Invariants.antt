@@ -3,7 +3,7 @@ use Rattle.bundle_check.specs.Demands.{first_unmet}
 use Rattle.bundle_check.specs.Names.{names_from, names_of}
 use Rattle.bundle_check.specs.Checking.{items_demands, check_demands}
 use Rattle.bundle_check.specs.Numbering.{numbered_from, numbered}
-use Rattle.bundle_check.proofs.items.check.Given as goal
+use Rattle.bundle_check.proofs.items.judged.Given as goal
 
 abbrev pub invariant-each : goal.invariant-each
 invariant-each l = record {

@@ -1,0 +1,1 @@
+.typedef @a=int<0x40>//x
