@@ -69,13 +69,15 @@ fn op(alloc: Global, op: &ir_tree::Op) -> Result<Op, Unbuilt>
     ensures { Builds (built_op op.now) result }
 {
     match op {
-        ir_tree::Op::Computation(ir_tree::Computation::Binary {
-            op: ir_tree::BinaryOp::Add,
-            of_type,
-            left,
-            right,
-            exception: None,
-        }) => Ok(add(alloc, of_type, left, right)?),
+        ir_tree::Op::Computation(
+            ir_tree::Computation::Binary {
+                op: ir_tree::BinaryOp::Add,
+                of_type,
+                left,
+                right,
+                exception: None,
+            },
+        ) => Ok(add(alloc, of_type, left, right)?),
         _ => Err(Unbuilt::OtherForm),
     }
 }
@@ -180,8 +182,7 @@ fn type_form(form: &ir_tree::TypeForm) -> Result<TypeForm, Unbuilt>
 {
     match form {
         ir_tree::TypeForm::Int { width }
-            if !width.number.negative && width.number.magnitude == 64 =>
-        {
+            if !width.number.negative && width.number.magnitude == 64 => {
             Ok(TypeForm::Int { width: *width })
         }
         _ => Err(Unbuilt::OtherForm),

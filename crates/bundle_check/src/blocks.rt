@@ -10,8 +10,8 @@ use crate::fault::CheckFault;
 use crate::meaning::Meaning;
 use crate::operands::{fresh, operand, written};
 use crate::scope::Scope;
-use ir_lex::Name;
 use built_forms::{Block, Inst, Op, Operand};
+use ir_lex::Name;
 use std::alloc::Global;
 use text_forms::Listing;
 

@@ -12,8 +12,8 @@ use crate::code::Source;
 use crate::fault::{CheckFault, CheckKind};
 use crate::meaning::Meaning;
 use crate::scope::Scope;
-use ir_lex::{Name, Number};
 use built_forms::{Literal, Operand};
+use ir_lex::{Name, Number};
 
 /// The fault at a place.
 fn not_built(place: usize) -> CheckFault

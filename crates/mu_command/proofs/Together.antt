@@ -47,15 +47,6 @@ module _ (seen : Seen) (words : List (List ℕ)) (job : Job) (is : job_of words 
   pub asked_found : (bytes : Vec ℕ Global) (r : Ready) → IsLoaded seen words Bundle (bundle_word job) (Ok bytes) → asked words job bytes.items ≡ Ok r → IsAnswer seen words (ready_answer r)
   asked_found bytes r loaded a = together seen words job (got bytes.items) _ is loaded (rw a refl)
 
-  -- the same by what the calls were given
-  pub found_through : (bytes : Vec ℕ Global) (n : ℕ) (held : List ℕ) (r : Ready) → n ≡ bundle_word job → held ≡ bytes.items →
-      IsLoaded seen words Bundle n (Ok bytes) → asked words job held ≡ Ok r → IsAnswer seen words (ready_answer r)
-  found_through bytes n held r m h loaded a = asked_found bytes r (rw m at loaded) (rw h at a)
-
-  pub stopped_through : (bytes : Vec ℕ Global) (n : ℕ) (held : List ℕ) (stop : Stop) → n ≡ bundle_word job → held ≡ bytes.items →
-      IsLoaded seen words Bundle n (Ok bytes) → Comes (asked words job held) (Err stop) → IsFound seen words (Err stop)
-  stopped_through bytes n held stop m h loaded a = asked_stops bytes stop (rw m at loaded) (rw h at a)
-
 -- the words ask for nothing
 pub no_job : (seen : Seen) (words : List (List ℕ)) (text : List ℕ) → text ≡ codes "usage" → job_of words ≡ None → IsAnswer seen words (line text Usage)
 no_job seen words text e is = record { outcomes = one_outcome (got []); allowed = rw is tt; is = rw (is, e) refl }
