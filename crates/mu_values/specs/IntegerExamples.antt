@@ -1,5 +1,5 @@
 -- Worked examples. What is computed with integers, at each width and edge.
-use Rattle.std.specs.Prelude.{◌≡◌, refl, Some, None, true, false}
+use Rattle.std.specs.Prelude.{◌≡◌, refl, Some, None}
 use Rattle.mu_values.specs.declared.operators.BinOp.TheVariants as binaries
 use Rattle.mu_values.specs.declared.operators.ConvOp.TheVariants as conversions
 use Rattle.mu_values.specs.Integers.{binary_value, converted}

@@ -1,3 +1,8 @@
+ghost use Rattle.std.specs.Prelude.{◌≡◌, Some, slice_get, IfOk, IsTrue};
+ghost use Rattle.type_laws.specs.declared.definition.TypeDef.TheVariants as types;
+ghost use Rattle.mu_values.specs.declared.literals.LiteralKind.TheVariants as literals;
+ghost use Rattle.mu_values.specs.Integers.{IsInteger};
+
 use crate::{
     BinOp, CmpOp, ConstFault, ConstKind, ConvOp, Literal, LiteralKind, Made, Passed, Scalar, Slots,
     Value, binary, compare, convert, judge_const, make_const,
@@ -6,6 +11,12 @@ use mu_base::{Ids, Types};
 use mu_types::{Classes, TypeDef, TypeFault, TypeGraph, classes};
 use std::alloc::{AllocError, Global};
 use std::test::Fail;
+
+fn is_integer(width: u32, n: u128) -> bool
+    ensures { IsTrue result → IsInteger width n }
+{
+    1 <= width && width <= 64 && n < 1 << width
+}
 
 #[test]
 fn computes_with_integers(rt: HostRuntime) -> Result<(), Fail> {
@@ -250,7 +261,11 @@ fn computes_with_integers(rt: HostRuntime) -> Result<(), Fail> {
         (BinOp::Shl, 1, 1, 0, Some(1)),
     ];
     for (op, width, a, b, expected) in rows {
-        assert_eq!(rt; binary(op, width, a, b), expected);
+        if is_integer(width, a) && is_integer(width, b) {
+            assert_eq!(rt; binary(op, width, a, b), expected);
+        } else {
+            assert!(rt; false, "no integers of {width} bits");
+        }
     }
     Ok(())
 }
@@ -308,13 +323,17 @@ fn keeps_values_in_a_row(rt: HostRuntime) -> Result<(), Fail> {
 }
 
 /// The types of a bundle that has `int<8>` alone
-fn one_type(alloc: Global) -> Result<Classes, TypeFault> {
+fn one_type(alloc: Global) -> Result<Classes, TypeFault>
+    ensures { IfOk result (λ c. slice_get c.definitions 0 ≡ Some (types.Int 8)) }
+{
     let mut graph = TypeGraph::new(alloc);
     graph.add(TypeDef::Int { width: 8 }, Ids::new(alloc))?;
     classes(alloc, graph)
 }
 
-fn number(negative: bool, magnitude: u128) -> Literal {
+fn number(negative: bool, magnitude: u128) -> Literal
+    ensures { result.kind ≡ literals.Number negative magnitude }
+{
     Literal {
         place: 40,
         kind: LiteralKind::Number {

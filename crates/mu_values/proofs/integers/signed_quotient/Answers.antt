@@ -1,4 +1,4 @@
-use Rattle.std.proofs.Common.{◌≡◌, ◌∙◌, ◌/◌, ◌^◌, ◌-◌, sym, ap, true, not}
+use Rattle.std.proofs.Common.{◌≡◌, ◌^◌, ◌-◌, sym, true, not}
 use Rattle.std.specs.Prelude.{nat_lt}
 use mathlib.Core.Bool.{beq}
 use Rattle.mu_values.proofs.Signed.{quotient_alike}
