@@ -268,17 +268,16 @@ fn other_words_and_faults(rt: HostRuntime) -> Result<(), Fail> {
     Ok(())
 }
 
-// A file of that many spaces.
-fn blanks(
+// What the program writes of a bundle's bytes, and its status.
+fn answers(
     rt: &impl Abort,
     alloc: Global,
     all: &[&str],
-    count: usize,
+    bytes: Vec<u8>,
     text: &str,
     status: Status,
 ) -> Result<(), AllocError> {
     let words = words_of(alloc, all)?;
-    let bytes = vec![in alloc; b' '; count]?;
     let files = vec![in alloc;
         File {
             name: Text::from_vec(Vec::from_slice(alloc, b"b")?),
@@ -291,6 +290,18 @@ fn blanks(
     assert_eq!(rt; out.bytes(), text.as_bytes());
     assert!(rt; answer == status);
     Ok(())
+}
+
+// A file of that many spaces.
+fn blanks(
+    rt: &impl Abort,
+    alloc: Global,
+    all: &[&str],
+    count: usize,
+    text: &str,
+    status: Status,
+) -> Result<(), AllocError> {
+    answers(rt, alloc, all, vec![in alloc; b' '; count]?, text, status)
 }
 
 #[test]
@@ -319,5 +330,192 @@ fn files_at_the_limit(rt: HostRuntime) -> Result<(), Fail> {
         "too long bundle\n",
         Status::TooLong,
     )?;
+    Ok(())
+}
+
+#[test]
+fn refuses_hostile_bundles(rt: HostRuntime) -> Result<(), Fail> {
+    let rows: [(&[u8], &str); 5] = [
+        (b"@", "refused bundle 0 BadName\n"),
+        (b"\x80", "refused bundle 0 BadByte\n"),
+        (
+            b".typedef @a = int<340282366920938463463374607431768211456>",
+            "refused bundle 18 NumberTooLarge\n",
+        ),
+        (b".typedef @a = int<09>", "refused bundle 18 BadByte\n"),
+        // A number in octal, of a width that is not run.
+        (b".typedef @a = int<012>", "refused bundle 0 NotBuilt\n"),
+    ];
+    for (bundle, text) in rows {
+        let bytes = Vec::from_slice(rt.alloc(), bundle)?;
+        answers(
+            &rt,
+            rt.alloc(),
+            &["check", "b"],
+            bytes,
+            text,
+            Status::Refused,
+        )?;
+    }
+    let long = repeated(rt.alloc(), ".typedef @", "a", 65_536, "")?;
+    answers(
+        &rt,
+        rt.alloc(),
+        &["check", "b"],
+        long,
+        "refused bundle 9 TooLong\n",
+        Status::Refused,
+    )?;
+    Ok(())
+}
+
+// `front`, that many times `piece`, and `back`.
+fn repeated(
+    alloc: Global,
+    front: &str,
+    piece: &str,
+    count: usize,
+    back: &str,
+) -> Result<Vec<u8>, AllocError> {
+    let mut text = Vec::from_slice(alloc, front.as_bytes())?;
+    for _ in 0..count {
+        text.extend_from_slice(piece.as_bytes())?;
+    }
+    text.extend_from_slice(back.as_bytes())?;
+    Ok(text)
+}
+
+// Where the pieces of a limited list begin, a piece, how many may stand, what is behind them, and what is answered to one more.
+type Limit = (
+    &'static str,
+    &'static str,
+    usize,
+    &'static str,
+    &'static str,
+);
+
+const LIMITS: [Limit; 14] = [
+    (
+        "",
+        ".global @g <@t> ",
+        16_384,
+        "",
+        "refused bundle 262144 TooMany\n",
+    ),
+    (
+        ".funcdef @f VERSION %v <@s> { ",
+        "%b: ",
+        4096,
+        "}",
+        "refused bundle 16414 TooMany\n",
+    ),
+    (
+        ".funcdef @f VERSION %v <@s> { %b: ",
+        "RET () ",
+        4096,
+        "}",
+        "refused bundle 28706 TooMany\n",
+    ),
+    (
+        ".funcdef @f VERSION %v <@s> { %b: SWITCH <@t> %x %d() { ",
+        "@c %d() ",
+        1024,
+        "} }",
+        "refused bundle 8248 TooMany\n",
+    ),
+    (
+        ".funcsig @s = (",
+        "@t ",
+        256,
+        ") -> ()",
+        "refused bundle 783 TooMany\n",
+    ),
+    (
+        ".funcsig @s = () -> (",
+        "@t ",
+        256,
+        ")",
+        "refused bundle 789 TooMany\n",
+    ),
+    (
+        ".typedef @t = struct<",
+        "@t ",
+        256,
+        ">",
+        "refused bundle 789 TooMany\n",
+    ),
+    (
+        ".typedef @t = hybrid<",
+        "@t ",
+        256,
+        ">",
+        "refused bundle 789 TooMany\n",
+    ),
+    (
+        ".const @c <@t> = {",
+        "@c ",
+        256,
+        "}",
+        "refused bundle 786 TooMany\n",
+    ),
+    (
+        ".funcdef @f VERSION %v <@s> { %b(",
+        "<@t> %x ",
+        256,
+        "): }",
+        "refused bundle 2081 TooMany\n",
+    ),
+    (
+        ".funcdef @f VERSION %v <@s> { %b: (",
+        "%x ",
+        256,
+        ") = RET () }",
+        "refused bundle 803 TooMany\n",
+    ),
+    (
+        ".funcdef @f VERSION %v <@s> { %b: RET (",
+        "%x ",
+        256,
+        ") }",
+        "refused bundle 807 TooMany\n",
+    ),
+    (
+        ".funcdef @f VERSION %v <@s> { %b: TRAP <",
+        "@t ",
+        256,
+        "> }",
+        "refused bundle 808 TooMany\n",
+    ),
+    (
+        ".funcdef @f VERSION %v <@s> { %b: TRAP <> KEEPALIVE (",
+        "%x ",
+        256,
+        ") }",
+        "refused bundle 821 TooMany\n",
+    ),
+];
+
+#[test]
+fn refuses_one_past_each_limit(rt: HostRuntime) -> Result<(), Fail> {
+    for (front, piece, limit, back, refusal) in LIMITS {
+        let most = repeated(rt.alloc(), front, piece, limit, back)?;
+        answers(
+            &rt,
+            rt.alloc(),
+            &["check", "b"],
+            most,
+            "refused bundle 0 NotBuilt\n",
+            Status::Refused,
+        )?;
+        let past = repeated(rt.alloc(), front, piece, limit + 1, back)?;
+        answers(
+            &rt,
+            rt.alloc(),
+            &["print", "b"],
+            past,
+            refusal,
+            Status::Refused,
+        )?;
+    }
     Ok(())
 }
