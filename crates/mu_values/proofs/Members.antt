@@ -6,7 +6,7 @@ use Rattle.demands.specs.Demands.{or_else, first_unmet}
 use Rattle.type_laws.specs.declared.definition.TypeDef.{TypeDef}
 use Rattle.type_laws.specs.declared.definition.TypeDef.TheVariants.{Int, Struct, Array, Hybrid, Void, Ref, Iref, FuncRef, StackRef, ThreadRef, Sig}
 use Rattle.type_laws.specs.Same.{same, IsGraph}
-use Rattle.type_laws.specs.Depth.{args_within}
+use Rattle.type_laws.proofs.Depth.{args_within}
 use Rattle.mu_values.specs.declared.literals.ConstKind.TheVariants.{WrongShape}
 use Rattle.mu_values.specs.Constants.{member_count, member_type, member_demands}
 
