@@ -507,7 +507,8 @@ fn refuses_one_past_each_limit(rt: HostRuntime) -> Result<(), Fail> {
             "refused bundle 0 NotBuilt\n",
             Status::Refused,
         )?;
-        let past = repeated(rt.alloc(), front, piece, limit + 1, back)?;
+        let mut past = repeated(rt.alloc(), front, piece, limit, piece)?;
+        past.extend_from_slice(back.as_bytes())?;
         answers(
             &rt,
             rt.alloc(),
