@@ -1,0 +1,2 @@
+//! What the items of a bundle say, and the demands on those that are no functions.
+#![tactic(auto)]

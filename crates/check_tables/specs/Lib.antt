@@ -1,0 +1,5 @@
+pub mod Bare
+pub mod Types
+pub mod Held
+pub mod Lookups
+pub mod TypeTests

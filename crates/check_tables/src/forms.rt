@@ -1,0 +1,187 @@
+// What the forms of instructions ask of the types that they name.
+ghost use Rattle.std.specs.Prelude.{◌≡◌, Some, is_some};
+ghost use Rattle.check_tables.specs.Lookups.{definition_named, leaves_named};
+ghost use Rattle.check_tables.specs.TypeTests.{is_int, is_scalar, is_sized, is_no_hybrid, is_value_type, is_castable, are_cast, is_hybrid, is_struct, fields_of, fixed_fields_of, field_at, element_of, repeated_of, width_of, is_not_wider, is_not_narrower};
+
+use crate::tables::Tables;
+use ir_lex::{Name, Number};
+use mu_types::TypeDef;
+
+/// The most leaves of a variable's type.
+const MOST_LEAVES_OF_A_VARIABLE: usize = 256;
+
+/// The member with that number, as it is written.
+fn member(fields: &[u32], n: Number) -> Option<u32>
+    ensures { result ≡ field_at (Some fields.now) n }
+{
+    if n.negative {
+        return None;
+    }
+    match usize::try_from(n.magnitude) {
+        Ok(n) => fields.get(n).copied(),
+        Err(_) => None,
+    }
+}
+
+impl Tables {
+    /// Whether the name is that of an int.
+    pub fn is_int(&self, name: &Name) -> bool
+        ensures { result ≡ is_int (definition_named self.now name.now) }
+    {
+        matches!(self.definition_named(name), Some(TypeDef::Int { .. }))
+    }
+
+    /// Whether the name is that of an int or of a reference.
+    pub fn is_scalar(&self, name: &Name) -> bool
+        ensures { result ≡ is_scalar (definition_named self.now name.now) }
+    {
+        matches!(
+            self.definition_named(name),
+            Some(
+                TypeDef::Int { .. }
+                    | TypeDef::Ref(_)
+                    | TypeDef::Iref(_)
+                    | TypeDef::FuncRef(_)
+                    | TypeDef::StackRef
+                    | TypeDef::ThreadRef
+            )
+        )
+    }
+
+    /// Whether the name is that of a type that is neither void nor a hybrid.
+    pub fn is_sized(&self, name: &Name) -> bool
+        ensures { result ≡ is_sized (definition_named self.now name.now) }
+    {
+        !matches!(
+            self.definition_named(name),
+            None | Some(TypeDef::Hybrid { .. } | TypeDef::Void | TypeDef::Sig { .. })
+        )
+    }
+
+    /// Whether the name is that of a type that is no hybrid.
+    pub fn is_no_hybrid(&self, name: &Name) -> bool
+        ensures { result ≡ is_no_hybrid (definition_named self.now name.now) }
+    {
+        !matches!(
+            self.definition_named(name),
+            None | Some(TypeDef::Hybrid { .. } | TypeDef::Sig { .. })
+        )
+    }
+
+    /// Whether the name is that of a type that variables may have.
+    pub fn is_value_type(&self, name: &Name) -> bool
+        ensures { result ≡ is_value_type (definition_named self.now name.now) (leaves_named self.now name.now) }
+    {
+        self.is_sized(name) && self.leaf_count(name) <= MOST_LEAVES_OF_A_VARIABLE
+    }
+
+    /// Whether the name is that of a reference to objects, places or functions.
+    pub fn is_castable(&self, name: &Name) -> bool
+        ensures { result ≡ is_castable (definition_named self.now name.now) }
+    {
+        matches!(
+            self.definition_named(name),
+            Some(TypeDef::Ref(_) | TypeDef::Iref(_) | TypeDef::FuncRef(_))
+        )
+    }
+
+    /// Whether both names are those of references to objects, both of references to places, or both of references to functions.
+    pub fn are_cast(&self, from: &Name, to: &Name) -> bool
+        ensures { result ≡ are_cast (definition_named self.now from.now) (definition_named self.now to.now) }
+    {
+        match (self.definition_named(from), self.definition_named(to)) {
+            (Some(TypeDef::Ref(_)), Some(TypeDef::Ref(_))) => true,
+            (Some(TypeDef::Iref(_)), Some(TypeDef::Iref(_))) => true,
+            (Some(TypeDef::FuncRef(_)), Some(TypeDef::FuncRef(_))) => true,
+            _ => false,
+        }
+    }
+
+    /// Whether the name is that of a hybrid.
+    pub fn is_hybrid(&self, name: &Name) -> bool
+        ensures { result ≡ is_hybrid (definition_named self.now name.now) }
+    {
+        matches!(self.definition_named(name), Some(TypeDef::Hybrid { .. }))
+    }
+
+    /// Whether the name is that of a struct.
+    pub fn is_struct(&self, name: &Name) -> bool
+        ensures { result ≡ is_struct (definition_named self.now name.now) }
+    {
+        matches!(self.definition_named(name), Some(TypeDef::Struct { .. }))
+    }
+
+    /// The type of a field of the struct that a name stands for.
+    pub fn field(&self, name: &Name, n: Number) -> Option<u32>
+        ensures { result ≡ field_at (fields_of (definition_named self.now name.now)) n }
+    {
+        match self.definition_named(name) {
+            Some(TypeDef::Struct { fields }) => member(fields.as_slice(), n),
+            _ => None,
+        }
+    }
+
+    /// Whether the name is that of a struct or a hybrid.
+    pub fn has_fields(&self, name: &Name) -> bool
+        ensures { result ≡ is_some (fixed_fields_of (definition_named self.now name.now)) }
+    {
+        matches!(
+            self.definition_named(name),
+            Some(TypeDef::Struct { .. } | TypeDef::Hybrid { .. })
+        )
+    }
+
+    /// The type of a field of the struct, or of a fixed field of the hybrid, that a name stands for.
+    pub fn fixed_field(&self, name: &Name, n: Number) -> Option<u32>
+        ensures { result ≡ field_at (fixed_fields_of (definition_named self.now name.now)) n }
+    {
+        match self.definition_named(name) {
+            Some(TypeDef::Struct { fields }) => member(fields.as_slice(), n),
+            Some(TypeDef::Hybrid { fixed, .. }) => member(fixed.as_slice(), n),
+            _ => None,
+        }
+    }
+
+    /// The type of the elements of the array that a name stands for.
+    pub fn element(&self, name: &Name) -> Option<u32>
+        ensures { result ≡ element_of (definition_named self.now name.now) }
+    {
+        match self.definition_named(name) {
+            Some(TypeDef::Array { element, .. }) => Some(*element),
+            _ => None,
+        }
+    }
+
+    /// The type of the elements that the hybrid has any number of that a name stands for.
+    pub fn repeated(&self, name: &Name) -> Option<u32>
+        ensures { result ≡ repeated_of (definition_named self.now name.now) }
+    {
+        match self.definition_named(name) {
+            Some(TypeDef::Hybrid { element, .. }) => Some(*element),
+            _ => None,
+        }
+    }
+
+    fn width(&self, name: &Name) -> u128
+        ensures { result ≡ width_of (definition_named self.now name.now) }
+    {
+        match self.definition_named(name) {
+            Some(TypeDef::Int { width }) => *width,
+            _ => 0,
+        }
+    }
+
+    /// Whether the second name is that of an int that is not wider than the first.
+    pub fn is_not_wider(&self, from: &Name, to: &Name) -> bool
+        ensures { result ≡ is_not_wider (definition_named self.now from.now) (definition_named self.now to.now) }
+    {
+        self.is_int(to) && self.width(to) <= self.width(from)
+    }
+
+    /// Whether the second name is that of an int that is not narrower than the first.
+    pub fn is_not_narrower(&self, from: &Name, to: &Name) -> bool
+        ensures { result ≡ is_not_narrower (definition_named self.now from.now) (definition_named self.now to.now) }
+    {
+        self.is_int(to) && self.width(from) <= self.width(to)
+    }
+}

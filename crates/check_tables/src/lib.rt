@@ -1,0 +1,12 @@
+//! What the demands on code are judged by: types by their classes, and what the global names of a bundle stand for.
+#![tactic(auto)]
+
+mod fault;
+mod forms;
+mod lookups;
+mod tables;
+mod types;
+
+pub use fault::{CheckFault, CheckKind, fault_at};
+pub use tables::{Signature, Tables};
+pub use types::TypeTable;

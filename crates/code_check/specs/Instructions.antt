@@ -1,0 +1,285 @@
+-- To believe: an instruction in its block: its demands in their order, what it gives, its code, and the variables behind it.
+use Rattle.std.specs.Prelude.{ℕ, Bool, true, false, List, [], ◌∷◌, ◌++◌, Option, Some, None, is_some, not, nat_eq, length}
+use Rattle.demands.specs.Demands.{Demands, none, demand, ◌⨾◌}
+use Rattle.demands.specs.Names.{added}
+use Rattle.ir_lex.specs.declared.name.Name.{Name}
+use Rattle.ir_tree.specs.declared.operands.Destination.{Destination}
+use Rattle.ir_tree.specs.declared.operands.ExceptionClause.{ExceptionClause}
+use Rattle.ir_tree.specs.declared.computing.Computation.{Computation}
+use Rattle.ir_tree.specs.declared.computing.Computation.TheVariants as computations
+use Rattle.ir_tree.specs.declared.flow.ControlFlow.{ControlFlow}
+use Rattle.ir_tree.specs.declared.flow.ControlFlow.TheVariants as flows
+use Rattle.ir_tree.specs.declared.allocating.Allocation.{Allocation}
+use Rattle.ir_tree.specs.declared.allocating.Allocation.TheVariants as allocations
+use Rattle.ir_tree.specs.declared.accessing.Access.{Access}
+use Rattle.ir_tree.specs.declared.accessing.Access.TheVariants as accesses
+use Rattle.ir_tree.specs.declared.trapping.Trapping.{Trapping}
+use Rattle.ir_tree.specs.declared.trapping.Trapping.TheVariants as trappings
+use Rattle.ir_tree.specs.declared.switching.StackSwitch.{StackSwitch}
+use Rattle.ir_tree.specs.declared.switching.StackSwitch.TheVariants as switches
+use Rattle.ir_tree.specs.declared.common.CommonInst.{CommonInst}
+use Rattle.ir_tree.specs.declared.common.CommonInst.TheVariants as commons
+use Rattle.ir_tree.specs.declared.code.Op.{Op}
+use Rattle.ir_tree.specs.declared.code.Op.TheVariants as ops
+use Rattle.ir_tree.specs.declared.code.Inst.{Inst}
+use Rattle.check_tables.specs.declared.fault.CheckKind.{CheckKind}
+use Rattle.check_tables.specs.declared.fault.CheckKind.TheVariants.{AfterEnding, ResultCount}
+use Rattle.check_tables.specs.declared.tables.Tables.{Tables}
+use Rattle.code_check.specs.declared.code.Form.{Form}
+use Rattle.code_check.specs.declared.code.Form.TheVariants as forms
+use Rattle.code_check.specs.declared.code.Code.{Code}
+use Rattle.code_check.specs.declared.scopes.Locals.{Locals}
+use Rattle.code_check.specs.declared.scopes.Body.{Body}
+use Rattle.code_check.specs.Destinations.{optional_normal_demands, optional_exceptional_demands, optional_target, keepalive_demands, keepalive_numbers}
+use Rattle.code_check.specs.Computations.{computation_demands, computation_gives, computation_code}
+use Rattle.code_check.specs.Control.{control_demands, control_gives, control_code}
+use Rattle.code_check.specs.Objects.{allocation_demands, allocation_gives, allocation_code, addressing_demands, addressing_gives, addressing_code}
+use Rattle.code_check.specs.Accesses.{access_demands, access_gives, access_code}
+use Rattle.code_check.specs.Stacks.{trapping_demands, trapping_gives, trapping_code, switch_demands, switch_gives, switch_code}
+use Rattle.code_check.specs.Commons.{common_demands, common_gives, common_code}
+
+-- ---- by kind
+
+-- what stands before EXC, WPEXC, KEEPALIVE and the second destination of a WATCHPOINT
+abbrev pub op_demands : Tables → Body → Locals → Op → Demands CheckKind
+op_demands p f ls (ops.Computation c) = computation_demands p ls c
+op_demands p f ls (ops.ControlFlow c) = control_demands p f ls c
+op_demands p f ls (ops.Allocation a) = allocation_demands p ls a
+op_demands p f ls (ops.Addressing a) = addressing_demands p ls a
+op_demands p f ls (ops.Access a) = access_demands p ls a
+op_demands p f ls (ops.Trapping t) = trapping_demands p f ls t
+op_demands p f ls (ops.StackSwitch s) = switch_demands p ls s
+op_demands p f ls (ops.Common c) = common_demands p ls c
+
+-- the classes of the results
+abbrev pub gives : Tables → Op → List ℕ
+gives p (ops.Computation c) = computation_gives p c
+gives p (ops.ControlFlow c) = control_gives p c
+gives p (ops.Allocation a) = allocation_gives p a
+gives p (ops.Addressing a) = addressing_gives p a
+gives p (ops.Access a) = access_gives p a
+gives p (ops.Trapping t) = trapping_gives p t
+gives p (ops.StackSwitch s) = switch_gives p s
+gives p (ops.Common c) = common_gives p c
+
+abbrev pub form_of : Tables → Body → Locals → Op → Form
+form_of p f ls (ops.Computation c) = forms.Computation (computation_code p ls c)
+form_of p f ls (ops.ControlFlow c) = forms.Control (control_code p f ls c)
+form_of p f ls (ops.Allocation a) = forms.Allocation (allocation_code p ls a)
+form_of p f ls (ops.Addressing a) = forms.Addressing (addressing_code p ls a)
+form_of p f ls (ops.Access a) = forms.Access (access_code p ls a)
+form_of p f ls (ops.Trapping t) = forms.Trapping (trapping_code p f ls t)
+form_of p f ls (ops.StackSwitch s) = forms.Switch (switch_code p ls s)
+form_of p f ls (ops.Common c) = forms.Common (common_code p ls c)
+
+-- ---- what stands behind it
+
+-- EXC ( dest dest )
+abbrev pub computation_exc : Computation → Option ExceptionClause
+computation_exc (computations.Binary op t a b e) = e
+computation_exc (computations.Compare op t a b) = None
+computation_exc (computations.Convert op s t a) = None
+computation_exc (computations.Refcast s t a) = None
+computation_exc (computations.Select s t c a b) = None
+computation_exc (computations.Extractvalue t n a) = None
+computation_exc (computations.Insertvalue t n a b) = None
+
+abbrev pub control_exc : ControlFlow → Option ExceptionClause
+control_exc (flows.Branch d) = None
+control_exc (flows.Branch2 c d e) = None
+control_exc (flows.Switch t a d cs) = None
+control_exc (flows.Call s c a e k) = e
+control_exc (flows.Tailcall s c a) = None
+control_exc (flows.Ret a) = None
+control_exc (flows.Throw e) = None
+
+abbrev pub allocation_exc : Allocation → Option ExceptionClause
+allocation_exc (allocations.New t e) = e
+allocation_exc (allocations.Newhybrid h i n e) = e
+allocation_exc (allocations.Alloca t e) = e
+
+abbrev pub access_exc : Access → Option ExceptionClause
+access_exc (accesses.Load o t l e) = e
+access_exc (accesses.Store o t l a e) = e
+access_exc (accesses.Cmpxchg w s o t l a b e) = e
+access_exc (accesses.Atomicrmw o op t l a e) = e
+access_exc (accesses.Fence o) = None
+
+abbrev pub switch_exc : StackSwitch → Option ExceptionClause
+switch_exc (switches.SwapReturning s ts n e k) = e
+switch_exc (switches.SwapKilling s n) = None
+switch_exc (switches.Newthread s tl n e) = e
+
+abbrev pub normal_of_exc : Option ExceptionClause → Option Destination
+normal_of_exc None = None
+normal_of_exc (Some e) = Some e.normal
+
+abbrev pub exceptional_of_exc : Option ExceptionClause → Option Destination
+exceptional_of_exc None = None
+exceptional_of_exc (Some e) = Some e.exceptional
+
+-- the destination that may use the instruction's own results: the first of EXC, the second of a WATCHPOINT
+abbrev pub trapping_normal : Trapping → Option Destination
+trapping_normal (trappings.Trap ts e k) = normal_of_exc e
+trapping_normal (trappings.Watchpoint n ts d e x k) = Some e
+trapping_normal (trappings.Wpbranch n d e) = None
+
+abbrev pub normal_of : Op → Option Destination
+normal_of (ops.Computation c) = normal_of_exc (computation_exc c)
+normal_of (ops.ControlFlow c) = normal_of_exc (control_exc c)
+normal_of (ops.Allocation a) = normal_of_exc (allocation_exc a)
+normal_of (ops.Addressing a) = None
+normal_of (ops.Access a) = normal_of_exc (access_exc a)
+normal_of (ops.Trapping t) = trapping_normal t
+normal_of (ops.StackSwitch s) = normal_of_exc (switch_exc s)
+normal_of (ops.Common c) = None
+
+-- the destination of an exception: the second of EXC, that of WPEXC
+abbrev pub trapping_exceptional : Trapping → Option Destination
+trapping_exceptional (trappings.Trap ts e k) = exceptional_of_exc e
+trapping_exceptional (trappings.Watchpoint n ts d e x k) = x
+trapping_exceptional (trappings.Wpbranch n d e) = None
+
+abbrev pub exceptional_of : Op → Option Destination
+exceptional_of (ops.Computation c) = exceptional_of_exc (computation_exc c)
+exceptional_of (ops.ControlFlow c) = exceptional_of_exc (control_exc c)
+exceptional_of (ops.Allocation a) = exceptional_of_exc (allocation_exc a)
+exceptional_of (ops.Addressing a) = None
+exceptional_of (ops.Access a) = exceptional_of_exc (access_exc a)
+exceptional_of (ops.Trapping t) = trapping_exceptional t
+exceptional_of (ops.StackSwitch s) = exceptional_of_exc (switch_exc s)
+exceptional_of (ops.Common c) = None
+
+-- KEEPALIVE ( L* )
+abbrev pub control_keepalive : ControlFlow → Option (List Name)
+control_keepalive (flows.Branch d) = None
+control_keepalive (flows.Branch2 c d e) = None
+control_keepalive (flows.Switch t a d cs) = None
+control_keepalive (flows.Call s c a e k) = k
+control_keepalive (flows.Tailcall s c a) = None
+control_keepalive (flows.Ret a) = None
+control_keepalive (flows.Throw e) = None
+
+abbrev pub trapping_keepalive : Trapping → Option (List Name)
+trapping_keepalive (trappings.Trap ts e k) = k
+trapping_keepalive (trappings.Watchpoint n ts d e x k) = k
+trapping_keepalive (trappings.Wpbranch n d e) = None
+
+abbrev pub switch_keepalive : StackSwitch → Option (List Name)
+switch_keepalive (switches.SwapReturning s ts n e k) = k
+switch_keepalive (switches.SwapKilling s n) = None
+switch_keepalive (switches.Newthread s tl n e) = None
+
+abbrev pub keepalive_of : Op → Option (List Name)
+keepalive_of (ops.Computation c) = None
+keepalive_of (ops.ControlFlow c) = control_keepalive c
+keepalive_of (ops.Allocation a) = None
+keepalive_of (ops.Addressing a) = None
+keepalive_of (ops.Access a) = None
+keepalive_of (ops.Trapping t) = trapping_keepalive t
+keepalive_of (ops.StackSwitch s) = switch_keepalive s
+keepalive_of (ops.Common c) = None
+
+-- ---- endings
+
+-- BRANCH, BRANCH2, SWITCH, TAILCALL, RET and THROW end their block
+abbrev pub control_ends : ControlFlow → Bool
+control_ends (flows.Branch d) = true
+control_ends (flows.Branch2 c d e) = true
+control_ends (flows.Switch t a d cs) = true
+control_ends (flows.Call s c a e k) = is_some e
+control_ends (flows.Tailcall s c a) = true
+control_ends (flows.Ret a) = true
+control_ends (flows.Throw e) = true
+
+-- so do WATCHPOINT and WPBRANCH
+abbrev pub trapping_ends : Trapping → Bool
+trapping_ends (trappings.Trap ts e k) = is_some e
+trapping_ends (trappings.Watchpoint n ts d e x k) = true
+trapping_ends (trappings.Wpbranch n d e) = true
+
+-- SWAPSTACK with KILL_OLD
+abbrev pub switch_ends : StackSwitch → Bool
+switch_ends (switches.SwapReturning s ts n e k) = is_some e
+switch_ends (switches.SwapKilling s n) = true
+switch_ends (switches.Newthread s tl n e) = is_some e
+
+-- @uvm.thread_exit
+abbrev pub common_ends : CommonInst → Bool
+common_ends (commons.NewStack s f) = false
+common_ends (commons.KillStack s) = false
+common_ends commons.ThreadExit = true
+common_ends commons.CurrentStack = false
+common_ends (commons.SetThreadlocal r) = false
+common_ends commons.GetThreadlocal = false
+common_ends (commons.FutexWait t l v) = false
+common_ends (commons.FutexWake t l n) = false
+
+-- and every instruction with EXC
+abbrev pub is_ending : Op → Bool
+is_ending (ops.Computation c) = is_some (computation_exc c)
+is_ending (ops.ControlFlow c) = control_ends c
+is_ending (ops.Allocation a) = is_some (allocation_exc a)
+is_ending (ops.Addressing a) = false
+is_ending (ops.Access a) = is_some (access_exc a)
+is_ending (ops.Trapping t) = trapping_ends t
+is_ending (ops.StackSwitch s) = switch_ends s
+is_ending (ops.Common c) = common_ends c
+
+-- ---- variables
+
+abbrev pub no_locals : Locals
+no_locals = record { names = []; classes = [] }
+
+-- with one more variable: its number is how many there were
+abbrev pub bound : Locals → Name → ℕ → Locals
+bound ls n c = record { names = added ls.names n.text (record { number = length ls.classes; class = c }); classes = ls.classes ++ c ∷ [] }
+
+abbrev pub bound_results : Locals → List Name → List ℕ → Locals
+bound_results ls [] cs = ls
+bound_results ls (n ∷ ns) [] = ls
+bound_results ls (n ∷ ns) (c ∷ cs) = bound_results (bound ls n c) ns cs
+
+-- the variables behind an instruction
+abbrev pub after : Tables → Locals → Inst → Locals
+after p ls i = bound_results ls i.results (gives p i.op)
+
+-- ---- an instruction
+
+-- it stands behind no ending one; it has as many results as it gives; then its tokens from left to right
+unfoldable pub inst_demands : Tables → Body → Locals → Bool → Inst → Demands CheckKind
+inst_demands p f ls ended i =
+    demand i.place AfterEnding (not ended)
+    ⨾ demand i.place ResultCount (nat_eq (length i.results) (length (gives p i.op)))
+    ⨾ op_demands p f ls i.op
+    ⨾ optional_normal_demands p f (after p ls i) (normal_of i.op)
+    ⨾ optional_exceptional_demands p f ls (exceptional_of i.op)
+    ⨾ keepalive_demands ls (keepalive_of i.op)
+
+abbrev pub inst_code : Tables → Body → Locals → Inst → Code
+inst_code p f ls i =
+    record {
+      form = form_of p f ls i.op;
+      normal = optional_target p f (after p ls i) (normal_of i.op);
+      exceptional = optional_target p f ls (exceptional_of i.op);
+      keepalive = keepalive_numbers ls (keepalive_of i.op);
+    }
+
+-- instructions behind an ending one or not
+abbrev pub insts_demands : Tables → Body → Locals → Bool → List Inst → Demands CheckKind
+insts_demands p f ls ended [] = none
+insts_demands p f ls ended (i ∷ is) = inst_demands p f ls ended i ⨾ insts_demands p f (after p ls i) (is_ending i.op) is
+
+abbrev pub insts_code : Tables → Body → Locals → List Inst → List Code
+insts_code p f ls [] = []
+insts_code p f ls (i ∷ is) = inst_code p f ls i ∷ insts_code p f (after p ls i) is
+
+-- the variables behind all of them
+abbrev pub after_all : Tables → Locals → List Inst → Locals
+after_all p ls [] = ls
+after_all p ls (i ∷ is) = after_all p (after p ls i) is
+
+-- whether the last of them ends the block
+abbrev pub ends : Bool → List Inst → Bool
+ends ended [] = ended
+ends ended (i ∷ is) = ends (is_ending i.op) is

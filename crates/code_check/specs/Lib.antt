@@ -1,0 +1,9 @@
+pub mod Operands
+pub mod Destinations
+pub mod Computations
+pub mod Control
+pub mod Objects
+pub mod Accesses
+pub mod Stacks
+pub mod Commons
+pub mod Instructions
