@@ -1,41 +1,115 @@
--- The functions of a bundle, counted from 0 in text order.
-use Rattle.std.specs.Prelude.{ℕ, List, [], ◌∷◌, Option, Some, None, slice_get}
-use Rattle.built_forms.specs.declared.tree.Item.{Item}
-use Rattle.built_forms.specs.declared.tree.Item.TheVariants as items
-use Rattle.built_forms.specs.declared.tree.Funcdef.{Funcdef}
-use Rattle.bundle_check.specs.declared.meaning.Meaning.{Meaning}
-use Rattle.bundle_check.specs.declared.meaning.Meaning.TheVariants as meanings
-use Rattle.bundle_check.specs.Names.{found, names_of}
+-- To believe: the functions of a bundle: their demands, in text order, and what they are when names are numbers. Blocks are counted from
+-- 0 over the whole bundle, in text order.
+use Rattle.std.specs.Prelude.{ℕ, suc, ◌+◌, Bool, true, List, [], ◌∷◌, ◌++◌, Option, Some, None, is_some, not, ◌&&◌, length, slice_get, if◌then◌else◌}
+use Rattle.demands.specs.Demands.{Demands, none, demand, ◌⨾◌}
+use Rattle.demands.specs.Names.{Names, found, added}
+use Rattle.ir_lex.specs.declared.name.Name.{Name}
+use Rattle.ir_tree.specs.declared.code.Block.{Block}
+use Rattle.ir_tree.specs.declared.items.Funcdef.{Funcdef}
+use Rattle.ir_tree.specs.declared.items.Item.{Item}
+use Rattle.ir_tree.specs.declared.items.Item.TheVariants as items
+use Rattle.check_tables.specs.declared.fault.CheckKind.{CheckKind}
+use Rattle.check_tables.specs.declared.fault.CheckKind.TheVariants.{BadSignature, EntryParameters}
+use Rattle.check_tables.specs.declared.tables.Signature.{Signature}
+use Rattle.check_tables.specs.declared.tables.Tables.{Tables}
+use Rattle.check_tables.specs.Lookups.{signature_in, signature_named, takes_of, gives_of, noted_classes}
+use Rattle.code_check.specs.declared.scopes.BlockEntry.{BlockEntry}
+use Rattle.code_check.specs.declared.scopes.Body.{Body}
+use Rattle.code_check.specs.Operands.{is_class}
+use Rattle.code_check.specs.Control.{gives_these}
+use Rattle.bundle_tables.specs.Entries.{is_function}
+use Rattle.bundle_check.specs.declared.code.Function.{Function}
+use Rattle.bundle_check.specs.declared.code.BlockCode.{BlockCode}
+use Rattle.bundle_check.specs.Blocks.{parameter_classes, blocks_demands, blocks_code}
 
-abbrev pub functions_of : List Item → List Funcdef
-functions_of [] = []
-functions_of (items.Typedef d ∷ is) = functions_of is
-functions_of (items.Funcsig d ∷ is) = functions_of is
-functions_of (items.Const d ∷ is) = functions_of is
-functions_of (items.Funcdef d ∷ is) = d ∷ functions_of is
+-- ---- what the instructions of a function may use
 
--- the function with that number
-abbrev pub function_numbered : List Item → ℕ → Option Funcdef
-function_numbered bundle n = slice_get (functions_of bundle) n
+abbrev pub entry_of : Tables → ℕ → Block → BlockEntry
+entry_of p k b = record { number = k; takes = parameter_classes p b.head.parameters; has_handler = is_some b.head.handler }
 
-abbrev pub as_function : Option Meaning → Option ℕ
-as_function (Some (meanings.Function n)) = Some n
-as_function (Some meanings.Written) = None
-as_function (Some meanings.Signature) = None
-as_function (Some (meanings.Constant v)) = None
-as_function None = None
+-- the blocks of a function, of which the first has this number
+abbrev pub entries_from : Tables → Names BlockEntry → ℕ → List Block → Names BlockEntry
+entries_from p es k [] = es
+entries_from p es k (b ∷ bs) = entries_from p (added es b.head.name.text (entry_of p k b)) (suc k) bs
 
--- the number of the function with that name, its `@` included
-abbrev pub function_number : List Item → List ℕ → Option ℕ
-function_number bundle name = as_function (found (names_of bundle) name)
+unfoldable pub body_of : Tables → ℕ → Funcdef → Body
+body_of p first d = record { blocks = entries_from p [] first d.blocks; gives = noted_classes (gives_of (signature_named p d.signature)) }
 
-abbrev pub as_constant : Option Meaning → Option ℕ
-as_constant (Some (meanings.Constant v)) = Some v
-as_constant (Some meanings.Written) = None
-as_constant (Some meanings.Signature) = None
-as_constant (Some (meanings.Function n)) = None
-as_constant None = None
+-- ---- demands
 
--- the value of the constant with that name, modulo 2^64
-abbrev pub constant_value : List Item → List ℕ → Option ℕ
-constant_value bundle name = as_constant (found (names_of bundle) name)
+abbrev pub class_of_signature : Option Signature → Option ℕ
+class_of_signature None = None
+class_of_signature (Some s) = Some s.class
+
+-- a declaration of the function, where there is one, has the same signature
+abbrev pub is_as_declared : Tables → Option ℕ → Name → Bool
+is_as_declared p None n = true
+is_as_declared p (Some k) n = is_class (class_of_signature (signature_in p (slice_get p.declarations k))) (class_of_signature (signature_named p n))
+
+-- the first block has no handler, and the signature's parameters
+abbrev pub first_block_demands : Tables → Name → List Block → Demands CheckKind
+first_block_demands p s [] = none
+first_block_demands p s (b ∷ bs) =
+    demand b.head.name.place EntryParameters (not (is_some b.head.handler) && gives_these (takes_of (signature_named p s)) (parameter_classes p b.head.parameters))
+
+abbrev pub function_demands : Tables → ℕ → Funcdef → Demands CheckKind
+function_demands p first d =
+    demand d.signature.place BadSignature (is_as_declared p (found p.globals.declared d.name.text) d.signature)
+    ⨾ first_block_demands p d.signature d.blocks
+    ⨾ blocks_demands p (body_of p first d) d.blocks
+
+-- of the functions behind so many blocks
+abbrev pub functions_demands : Tables → ℕ → List Item → Demands CheckKind
+functions_demands p first [] = none
+functions_demands p first (items.Typedef d ∷ is) = functions_demands p first is
+functions_demands p first (items.Funcsig d ∷ is) = functions_demands p first is
+functions_demands p first (items.Const d ∷ is) = functions_demands p first is
+functions_demands p first (items.GlobalCell d ∷ is) = functions_demands p first is
+functions_demands p first (items.Funcdecl d ∷ is) = functions_demands p first is
+functions_demands p first (items.Funcdef d ∷ is) = function_demands p first d ⨾ functions_demands p (first + length d.blocks) is
+
+-- ---- code
+
+abbrev pub all_blocks : Tables → ℕ → List Item → List BlockCode
+all_blocks p first [] = []
+all_blocks p first (items.Typedef d ∷ is) = all_blocks p first is
+all_blocks p first (items.Funcsig d ∷ is) = all_blocks p first is
+all_blocks p first (items.Const d ∷ is) = all_blocks p first is
+all_blocks p first (items.GlobalCell d ∷ is) = all_blocks p first is
+all_blocks p first (items.Funcdecl d ∷ is) = all_blocks p first is
+all_blocks p first (items.Funcdef d ∷ is) = blocks_code p (body_of p first d) d.blocks ++ all_blocks p (first + length d.blocks) is
+
+-- the first block of each definition
+abbrev pub first_blocks : ℕ → List Item → List ℕ
+first_blocks first [] = []
+first_blocks first (items.Typedef d ∷ is) = first_blocks first is
+first_blocks first (items.Funcsig d ∷ is) = first_blocks first is
+first_blocks first (items.Const d ∷ is) = first_blocks first is
+first_blocks first (items.GlobalCell d ∷ is) = first_blocks first is
+first_blocks first (items.Funcdecl d ∷ is) = first_blocks first is
+first_blocks first (items.Funcdef d ∷ is) = first ∷ first_blocks (first + length d.blocks) is
+
+abbrev pub first_of : List ℕ → Option ℕ → Option ℕ
+first_of firsts None = None
+first_of firsts (Some n) = slice_get firsts n
+
+abbrev pub signature_class : Option Signature → ℕ
+signature_class None = 0
+signature_class (Some s) = s.class
+
+-- function k: its signature, and its first block, where it is defined
+abbrev pub function_named : Tables → List ℕ → ℕ → Name → Function
+function_named p firsts k n =
+    record { signature = signature_class (signature_in p (slice_get p.functions k)); first = first_of firsts (found p.globals.defined n.text) }
+
+-- the functions behind so many, each where its name comes first
+abbrev pub functions_from : Tables → List ℕ → ℕ → List Item → List Function
+functions_from p firsts k [] = []
+functions_from p firsts k (items.Typedef d ∷ is) = functions_from p firsts k is
+functions_from p firsts k (items.Funcsig d ∷ is) = functions_from p firsts k is
+functions_from p firsts k (items.Const d ∷ is) = functions_from p firsts k is
+functions_from p firsts k (items.GlobalCell d ∷ is) = functions_from p firsts k is
+functions_from p firsts k (items.Funcdecl d ∷ is) =
+    if is_function (found p.globals.names d.name.text) k then function_named p firsts k d.name ∷ functions_from p firsts (suc k) is else functions_from p firsts k is
+functions_from p firsts k (items.Funcdef d ∷ is) =
+    if is_function (found p.globals.names d.name.text) k then function_named p firsts k d.name ∷ functions_from p firsts (suc k) is else functions_from p firsts k is

@@ -1,10 +1,3 @@
-pub mod Demands
-pub mod Constants
-pub mod Names
-pub mod Checking
-pub mod Bundles
+pub mod Blocks
 pub mod Functions
-pub mod Numbering
-pub mod Samples
-pub mod Laws
-pub mod Examples
+pub mod Checking

@@ -1,25 +1,24 @@
-//! The code of a function, with numbers in place of names.
-
+// Code that was checked, by number.
+use code_check::Code;
 use text_forms::Listing;
 
-/// Where the value of an operand comes from.
+/// A function.
 #[derive(Clone, Copy, Debug, PartialEq, Eq)]
-pub enum Source {
-    /// A constant's value, modulo 2^64.
-    Constant(u64),
-    /// The result with this number: the results of a block are counted from 0 in text order.
-    Result(u32),
-}
-
-/// An instruction. Each gives the block's next result.
-#[derive(Clone, Copy, Debug, PartialEq, Eq)]
-pub enum Code {
-    Add { left: Source, right: Source },
-}
-
-/// A function's instructions, and what it returns behind them.
-#[derive(Drop)]
 pub struct Function {
+    /// The class of its signature.
+    pub signature: u32,
+    /// Its first block; none where it is only declared.
+    pub first: Option<u32>,
+}
+
+/// A block.
+#[derive(Drop)]
+pub struct BlockCode {
+    /// How many parameters it has: the first variables.
+    pub parameters: usize,
+    /// The variable that is its handler.
+    pub handler: Option<usize>,
+    /// The class of each variable: the parameters, the handler and the results, in text order.
+    pub classes: Listing<u32>,
     pub code: Listing<Code>,
-    pub returns: Source,
 }

@@ -10,11 +10,11 @@ use Rattle.ir_text.specs.TextAnswers.{text_answer}
 use Rattle.ir_tree.specs.declared.items.Item.{Item as WrittenItem}
 use Rattle.ir_print.specs.Items.{bundle_text}
 use Rattle.built_forms.specs.Built.{built_items}
-use Rattle.bundle_check.specs.declared.fault.CheckFault.{CheckFault}
-use Rattle.bundle_check.specs.declared.fault.CheckFault.TheVariants as check_faults
-use Rattle.bundle_check.specs.Bundles.{bundle_demands}
-use Rattle.bundle_check.specs.Demands.{first_unmet}
-use Rattle.bundle_check.specs.Functions.{function_number}
+use Rattle.built_check.specs.declared.fault.CheckFault.{CheckFault}
+use Rattle.built_check.specs.declared.fault.CheckFault.TheVariants as check_faults
+use Rattle.built_check.specs.Bundles.{bundle_demands}
+use Rattle.built_check.specs.Demands.{first_unmet}
+use Rattle.built_check.specs.Functions.{function_number}
 use Rattle.mu_step.specs.Run.{Run as RunOfMachine, run}
 use Rattle.mu_command.specs.declared.job.Job.{Job}
 use Rattle.mu_command.specs.declared.job.Job.TheVariants.{Check, Print, Run}

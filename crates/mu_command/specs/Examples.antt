@@ -3,7 +3,7 @@ use Rattle.std.specs.Prelude.{◌≡◌, ℕ, List, [], ◌∷◌, Some, None, c
 use Rattle.std.specs.Fmt.{digits}
 use Rattle.mu_base.specs.declared.status.Status.TheVariants.{Done, Usage, ReadFault, Refused, TooLong}
 use Rattle.mu_base.specs.Outcome.{got, failed, too_long}
-use Rattle.bundle_check.specs.Samples.{adds}
+use Rattle.built_check.specs.Samples.{adds}
 use Rattle.mu_step.specs.Run.{run}
 use Rattle.mu_command.specs.declared.job.Job.TheVariants.{Run}
 use Rattle.mu_command.specs.declared.what.What.TheVariants.{Bundle}

@@ -7,7 +7,7 @@ use Rattle.mu_command.specs.declared.stop.Stop.{Stop}
 use Rattle.mu_command.specs.declared.stop.Stop.TheVariants.{Line, Memory}
 use Rattle.mu_command.specs.declared.ready.Ready.{Ready}
 use Rattle.mu_command.specs.declared.ready.Ready.TheVariants as ready
-use Rattle.bundle_check.specs.Functions.{functions_of}
+use Rattle.built_check.specs.Functions.{functions_of}
 use Rattle.mu_command.specs.Job.{job_of}
 use Rattle.mu_command.specs.Answer.{Answer, Outcomes, Part, line, fetched, ready_answer, answer_of}
 use Rattle.mu_command.specs.Allowed.{Seen, AllowsWord, AllowsJob}

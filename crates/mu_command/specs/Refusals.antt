@@ -4,8 +4,8 @@ use Rattle.ir_lex.specs.declared.token.LexKind.{LexKind}
 use Rattle.ir_lex.specs.declared.token.LexKind.TheVariants.{BadByte, BadName, NumberTooLarge, TooLong}
 use Rattle.ir_text.specs.declared.fault.TextKind.{TextKind}
 use Rattle.ir_text.specs.declared.fault.TextKind.TheVariants as text_kinds
-use Rattle.bundle_check.specs.declared.fault.CheckKind.{CheckKind}
-use Rattle.bundle_check.specs.declared.fault.CheckKind.TheVariants as check_kinds
+use Rattle.built_check.specs.declared.fault.CheckKind.{CheckKind}
+use Rattle.built_check.specs.declared.fault.CheckKind.TheVariants as check_kinds
 
 abbrev pub lex_fault_name : LexKind → List ℕ
 lex_fault_name BadByte = codes "BadByte"

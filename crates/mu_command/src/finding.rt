@@ -1,6 +1,6 @@
 // The first half of the program: finds what is to be written.
 ghost use Rattle.std.specs.Prelude.{◌≡◌, ◌<◌, ◌≤◌, ℕ, Some, length, IfOk};
-ghost use Rattle.bundle_check.specs.Functions.{functions_of};
+ghost use Rattle.built_check.specs.Functions.{functions_of};
 ghost use Rattle.mu_command.specs.Answer.{as_written, accepted, entered, asked};
 ghost use Rattle.mu_command.specs.Job.{job_of, AreThere};
 ghost use Rattle.mu_command.specs.Parts.{Comes, IsFound, CanRun};
@@ -12,7 +12,7 @@ use crate::refusals::{check_fault_name, refusal, text_fault_name};
 use crate::stop::Stop;
 use crate::what::What;
 use crate::words::read_words;
-use bundle_check::{CheckFault, Checked, EntryFault, check};
+use built_check::{CheckFault, Checked, EntryFault, check};
 use ir_text::{TextFault, read_bundle};
 use ir_tree::Bundle;
 use mu_base::{Inputs, Status, Words};

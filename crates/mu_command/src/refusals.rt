@@ -4,7 +4,7 @@ ghost use Rattle.mu_command.specs.Job.{name_of};
 ghost use Rattle.mu_command.specs.Refusals.{lex_fault_name, text_fault_name, check_fault_name};
 
 use crate::what::What;
-use bundle_check::CheckKind;
+use built_check::CheckKind;
 use ir_lex::LexKind;
 use ir_text::TextKind;
 use itoa::Buffer;

@@ -1,6 +1,6 @@
 // The second half of the program: writes what was found.
 ghost use Rattle.std.specs.Prelude.{◌≡◌, ◌<◌, ◌≤◌, ◌++◌, ◌∷◌, [], length, map, OnOk, OnErr, IfErr};
-ghost use Rattle.bundle_check.specs.Functions.{functions_of};
+ghost use Rattle.built_check.specs.Functions.{functions_of};
 ghost use Rattle.mu_base.specs.Faults.{Rose};
 ghost use Rattle.mu_step.specs.Run.{run};
 ghost use Rattle.mu_command.specs.Answer.{run_answer, ready_answer};
@@ -13,7 +13,7 @@ ghost use Rattle.mu_command.specs.Written.{Writes, IsWhole};
 use crate::lines::{ending_status, ending_text, line_text};
 use crate::ready::Ready;
 use crate::writing::{put_line, put_text};
-use bundle_check::Checked;
+use built_check::Checked;
 use ir_print::print_bundle;
 use ir_tree::Bundle;
 use mu_base::{PutFault, Sink, Status};

@@ -10,14 +10,14 @@ use Rattle.built_forms.specs.declared.tree.Operand.TheVariants as operands
 use Rattle.built_forms.specs.declared.tree.Op.{Op}
 use Rattle.built_forms.specs.declared.tree.Op.TheVariants as ops
 use Rattle.built_forms.specs.declared.tree.Item.{Item}
-use Rattle.bundle_check.specs.declared.meaning.Meaning.{Meaning}
-use Rattle.bundle_check.specs.declared.meaning.Meaning.TheVariants as meanings
-use Rattle.bundle_check.specs.Demands.{first_unmet}
-use Rattle.bundle_check.specs.Names.{Names, found, names_of}
-use Rattle.bundle_check.specs.Checking.{Results, with_result, is_constant, operand_demands, op_demands}
-use Rattle.bundle_check.specs.Numbering.{source_of, code_of}
-use Rattle.bundle_check.proofs.Meeting.{both_met, test_met}
-use Rattle.bundle_check.proofs.Counting.{found_behind}
+use Rattle.built_check.specs.declared.meaning.Meaning.{Meaning}
+use Rattle.built_check.specs.declared.meaning.Meaning.TheVariants as meanings
+use Rattle.built_check.specs.Demands.{first_unmet}
+use Rattle.built_check.specs.Names.{Names, found, names_of}
+use Rattle.built_check.specs.Checking.{Results, with_result, is_constant, operand_demands, op_demands}
+use Rattle.built_check.specs.Numbering.{source_of, code_of}
+use Rattle.built_check.proofs.Meeting.{both_met, test_met}
+use Rattle.built_check.proofs.Counting.{found_behind}
 use Rattle.mu_step.specs.Values.{Values, bound, value_of, result_of}
 use Rattle.mu_step.specs.Slots.{source_value, code_value, SourceFits, CodeFits}
 use Rattle.mu_step.proofs.Lookups.{found_front}

@@ -1,6 +1,6 @@
 -- Looking names up.
 use Rattle.std.proofs.Common.{◌≡◌, ℕ, ◌+◌, List, [], ◌∷◌, ◌++◌, length, Some, None, slice_get, refl, arith}
-use Rattle.bundle_check.specs.Names.{found}
+use Rattle.built_check.specs.Names.{found}
 
 -- a name that is among the first ones is found there
 pub found_front : {T : Type 0} (es fs : List (List ℕ × T)) (name : List ℕ) (v : T) → found es name ≡ Some v → found (es ++ fs) name ≡ Some v

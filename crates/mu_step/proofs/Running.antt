@@ -8,13 +8,13 @@ use Rattle.built_forms.specs.declared.tree.Block.{Block}
 use Rattle.built_forms.specs.declared.tree.Funcdef.{Funcdef}
 use Rattle.built_forms.specs.declared.tree.Item.{Item}
 use Rattle.built_forms.specs.declared.tree.Item.TheVariants as items
-use Rattle.bundle_check.specs.declared.code.Function.{Function}
-use Rattle.bundle_check.specs.Demands.{first_unmet}
-use Rattle.bundle_check.specs.Names.{Names, found, named, counted, names_from}
-use Rattle.bundle_check.specs.Checking.{Results, with_result, insts_demands, block_demands, items_demands, check_demands}
-use Rattle.bundle_check.specs.Functions.{functions_of}
-use Rattle.bundle_check.specs.Numbering.{source_of, code_of, codes_of, with_results, function_of, numbered_from, numbered}
-use Rattle.bundle_check.proofs.Meeting.{both_met, test_met, none_there}
+use Rattle.built_check.specs.declared.code.Function.{Function}
+use Rattle.built_check.specs.Demands.{first_unmet}
+use Rattle.built_check.specs.Names.{Names, found, named, counted, names_from}
+use Rattle.built_check.specs.Checking.{Results, with_result, insts_demands, block_demands, items_demands, check_demands}
+use Rattle.built_check.specs.Functions.{functions_of}
+use Rattle.built_check.specs.Numbering.{source_of, code_of, codes_of, with_results, function_of, numbered_from, numbered}
+use Rattle.built_check.proofs.Meeting.{both_met, test_met, none_there}
 use Rattle.mu_step.specs.declared.line.Line.{Line}
 use Rattle.mu_step.specs.declared.line.Line.TheVariants as lines
 use Rattle.mu_step.specs.declared.line.Note.TheVariants.{Returned}

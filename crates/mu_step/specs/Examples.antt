@@ -4,7 +4,7 @@ use Rattle.ir_lex.specs.declared.name.Name.{Name}
 use Rattle.built_forms.specs.declared.tree.Operand.TheVariants as operands
 use Rattle.built_forms.specs.declared.tree.Op.TheVariants as ops
 use Rattle.built_forms.specs.declared.tree.Block.{Block}
-use Rattle.bundle_check.specs.Samples.{adds}
+use Rattle.built_check.specs.Samples.{adds}
 use Rattle.mu_step.specs.declared.line.Note.TheVariants.{Returned}
 use Rattle.mu_step.specs.declared.line.Line.TheVariants as lines
 use Rattle.mu_step.specs.declared.line.Ending.TheVariants.{Done}

@@ -2,9 +2,9 @@
 use Rattle.std.specs.Prelude.{◌≡◌, ℕ, zero, suc, ◌<◌, List, ◌++◌, Option, Some, None, IsSome, length}
 use Rattle.built_forms.specs.declared.tree.Block.{Block}
 use Rattle.built_forms.specs.declared.tree.Item.{Item}
-use Rattle.bundle_check.specs.Demands.{first_unmet}
-use Rattle.bundle_check.specs.Checking.{check_demands}
-use Rattle.bundle_check.specs.Functions.{functions_of, function_numbered}
+use Rattle.built_check.specs.Demands.{first_unmet}
+use Rattle.built_check.specs.Checking.{check_demands}
+use Rattle.built_check.specs.Functions.{functions_of, function_numbered}
 use Rattle.mu_step.specs.declared.line.Line.{Line}
 use Rattle.mu_step.specs.declared.line.Ending.{Ending}
 use Rattle.mu_step.specs.Values.{with_some}

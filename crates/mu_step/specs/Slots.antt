@@ -1,10 +1,10 @@
 -- How the code runs numbered instructions: results stand in slots, by their numbers.
 use Rattle.std.specs.Prelude.{ℕ, ◌+◌, ◌<◌, List, [], ◌∷◌, ◌++◌, length, slice_index}
-use Rattle.bundle_check.specs.declared.code.Source.{Source}
-use Rattle.bundle_check.specs.declared.code.Source.TheVariants as sources
-use Rattle.bundle_check.specs.declared.code.Code.{Code}
-use Rattle.bundle_check.specs.declared.code.Code.TheVariants as instructions
-use Rattle.bundle_check.specs.declared.code.Function.{Function}
+use Rattle.built_check.specs.declared.code.Source.{Source}
+use Rattle.built_check.specs.declared.code.Source.TheVariants as sources
+use Rattle.built_check.specs.declared.code.Code.{Code}
+use Rattle.built_check.specs.declared.code.Code.TheVariants as instructions
+use Rattle.built_check.specs.declared.code.Function.{Function}
 use Rattle.mu_step.specs.Values.{sum_of}
 
 -- what a source has as value

@@ -6,8 +6,8 @@ use Rattle.built_forms.specs.declared.tree.Operand.TheVariants as operands
 use Rattle.built_forms.specs.declared.tree.Op.{Op}
 use Rattle.built_forms.specs.declared.tree.Op.TheVariants as ops
 use Rattle.built_forms.specs.declared.tree.Item.{Item}
-use Rattle.bundle_check.specs.Names.{found}
-use Rattle.bundle_check.specs.Functions.{constant_value}
+use Rattle.built_check.specs.Names.{found}
+use Rattle.built_check.specs.Functions.{constant_value}
 
 -- a map from names to values: what was bound last stands first
 abbrev pub Values : Type 0

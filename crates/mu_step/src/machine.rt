@@ -1,6 +1,6 @@
 //! The machine: it runs a block by numbers.
 ghost use Rattle.std.specs.Prelude.{◌≡◌, ◌<◌, Some, [], ◌∷◌, length, IfOk};
-ghost use Rattle.bundle_check.specs.Functions.{functions_of};
+ghost use Rattle.built_check.specs.Functions.{functions_of};
 ghost use Rattle.mu_step.specs.Values.{sum_of};
 ghost use Rattle.mu_step.specs.Slots.{source_value, code_value, value_returned, SourceFits, CodeFits, FunctionFits};
 ghost use Rattle.mu_step.specs.Run.{run};
@@ -9,7 +9,7 @@ ghost use Rattle.mu_step.specs.declared.line.Note.TheVariants.{Returned};
 ghost use Rattle.mu_step.specs.declared.line.Ending.TheVariants.{Done};
 
 use crate::line::{Line, Lines, Note};
-use bundle_check::{Checked, Code, Function, Source};
+use built_check::{Checked, Code, Function, Source};
 use std::alloc::{AllocError, Global};
 use text_forms::Listing;
 

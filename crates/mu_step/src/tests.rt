@@ -1,6 +1,6 @@
 //! Bundles that are run.
 use crate::{Line, Note, run_block};
-use bundle_check::check;
+use built_check::check;
 use ir_text::read_bundle;
 use std::test::Fail;
 

@@ -1,0 +1,10 @@
+pub mod Demands
+pub mod Constants
+pub mod Names
+pub mod Checking
+pub mod Bundles
+pub mod Functions
+pub mod Numbering
+pub mod Samples
+pub mod Laws
+pub mod Examples
