@@ -2,6 +2,7 @@
 #![tactic(auto)]
 
 mod code;
+mod operands;
 mod scopes;
 
 pub use code::{
