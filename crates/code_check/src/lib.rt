@@ -2,6 +2,8 @@
 #![tactic(auto)]
 
 mod code;
+mod destinations;
+mod gifts;
 mod operands;
 mod scopes;
 
@@ -9,4 +11,5 @@ pub use code::{
     AccessForm, AddressingForm, AllocationForm, CaseForm, Code, CommonForm, ComputationForm,
     ControlForm, Entered, Form, Source, SwitchForm, Target, TrappingForm,
 };
+pub use gifts::Gift;
 pub use scopes::{BlockEntry, Body, Locals, Variable};

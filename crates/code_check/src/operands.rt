@@ -3,7 +3,8 @@ ghost use Rattle.std.specs.Prelude.{◌≡◌, Some, is_some, length, option_cop
 ghost use Rattle.demands.specs.Demands.{Judges, Meets, demand};
 ghost use Rattle.demands.specs.Names.{found};
 ghost use Rattle.check_tables.specs.declared.fault.CheckKind.TheVariants.{NotLocal};
-ghost use Rattle.check_tables.specs.Lookups.{noted_class};
+ghost use Rattle.check_tables.specs.Lookups.{noted_class, definition_named};
+ghost use Rattle.check_tables.specs.TypeTests.{is_int};
 ghost use Rattle.code_check.specs.Operands.{is_class, operand_demands, of_type, member_demands, argument_demands, type_demand, value_type_demand, value_type_demands, noted_list, variable_demands, global_source, source_of, sources_of, numbers_in};
 
 use crate::code::Source;
@@ -150,6 +151,14 @@ pub fn type_demand(name: &Name, met: bool) -> Result<(), CheckFault>
     ensures { Meets (type_demand name.now met) result }
 {
     demand(met, CheckKind::OperandType, name.place)
+}
+
+/// A type of ints.
+pub fn int_type(tables: &Tables, name: &Name) -> Result<u32, CheckFault>
+    ensures { Judges (type_demand name.now (is_int (definition_named tables.now name.now))) (noted_class tables.now name.now) result }
+{
+    type_demand(name, tables.is_int(name))?;
+    Ok(tables.noted_class(name))
 }
 
 /// A type that variables may have.
