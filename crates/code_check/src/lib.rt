@@ -2,6 +2,7 @@
 #![tactic(auto)]
 
 mod code;
+mod computations;
 mod destinations;
 mod gifts;
 mod operands;
