@@ -3,6 +3,7 @@
 
 mod code;
 mod computations;
+mod control;
 mod destinations;
 mod gifts;
 mod operands;
