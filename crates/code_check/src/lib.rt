@@ -6,6 +6,7 @@ mod computations;
 mod control;
 mod destinations;
 mod gifts;
+mod objects;
 mod operands;
 mod scopes;
 
