@@ -1,5 +1,5 @@
 // What the forms of instructions ask of the types that they name.
-ghost use Rattle.std.specs.Prelude.{◌≡◌, Some, is_some};
+ghost use Rattle.std.specs.Prelude.{◌≡◌, Some, is_some, option_map, IfSome};
 ghost use Rattle.check_tables.specs.Lookups.{definition_named, leaves_named};
 ghost use Rattle.check_tables.specs.TypeTests.{is_int, is_scalar, is_sized, is_no_hybrid, is_value_type, is_castable, are_cast, is_hybrid, is_struct, fields_of, fixed_fields_of, field_at, element_of, repeated_of, width_of, is_not_wider, is_not_narrower};
 
@@ -10,16 +10,30 @@ use mu_types::TypeDef;
 /// The most leaves of a variable's type.
 const MOST_LEAVES_OF_A_VARIABLE: usize = 256;
 
+/// A field that is there: its number, and the number of its type.
+#[derive(Clone, Copy, Debug, PartialEq, Eq)]
+pub struct Field {
+    pub number: usize,
+    pub of_type: u32,
+}
+
 /// The member with that number, as it is written.
-fn member(fields: &[u32], n: Number) -> Option<u32>
-    ensures { result ≡ field_at (Some fields.now) n }
+fn member(fields: &[u32], n: Number) -> Option<Field>
+    ensures of_type { option_map (λ f. f.of_type) result ≡ field_at (Some fields.now) n }
+    ensures number { IfSome result (λ f. f.number ≡ n.magnitude) }
 {
     if n.negative {
         return None;
     }
-    match usize::try_from(n.magnitude) {
-        Ok(n) => fields.get(n).copied(),
-        Err(_) => None,
+    let Ok(number) = usize::try_from(n.magnitude) else {
+        return None;
+    };
+    match fields.get(number) {
+        Some(of_type) => Some(Field {
+            number,
+            of_type: *of_type,
+        }),
+        None => None,
     }
 }
 
@@ -111,9 +125,10 @@ impl Tables {
         matches!(self.definition_named(name), Some(TypeDef::Struct { .. }))
     }
 
-    /// The type of a field of the struct that a name stands for.
-    pub fn field(&self, name: &Name, n: Number) -> Option<u32>
-        ensures { result ≡ field_at (fields_of (definition_named self.now name.now)) n }
+    /// A field of the struct that a name stands for.
+    pub fn field(&self, name: &Name, n: Number) -> Option<Field>
+        ensures of_type { option_map (λ f. f.of_type) result ≡ field_at (fields_of (definition_named self.now name.now)) n }
+        ensures number { IfSome result (λ f. f.number ≡ n.magnitude) }
     {
         match self.definition_named(name) {
             Some(TypeDef::Struct { fields }) => member(fields.as_slice(), n),
@@ -131,9 +146,10 @@ impl Tables {
         )
     }
 
-    /// The type of a field of the struct, or of a fixed field of the hybrid, that a name stands for.
-    pub fn fixed_field(&self, name: &Name, n: Number) -> Option<u32>
-        ensures { result ≡ field_at (fixed_fields_of (definition_named self.now name.now)) n }
+    /// A field of the struct, or a fixed field of the hybrid, that a name stands for.
+    pub fn fixed_field(&self, name: &Name, n: Number) -> Option<Field>
+        ensures of_type { option_map (λ f. f.of_type) result ≡ field_at (fixed_fields_of (definition_named self.now name.now)) n }
+        ensures number { IfSome result (λ f. f.number ≡ n.magnitude) }
     {
         match self.definition_named(name) {
             Some(TypeDef::Struct { fields }) => member(fields.as_slice(), n),

@@ -8,5 +8,6 @@ mod tables;
 mod types;
 
 pub use fault::{CheckFault, CheckKind, fault_at};
+pub use forms::Field;
 pub use tables::{Signature, Tables};
 pub use types::TypeTable;

@@ -1,4 +1,5 @@
 pub mod Operands
+pub mod Gifts
 pub mod Destinations
 pub mod Computations
 pub mod Control

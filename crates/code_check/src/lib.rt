@@ -2,10 +2,17 @@
 #![tactic(auto)]
 
 mod code;
+mod computations;
+mod control;
+mod destinations;
+mod gifts;
+mod objects;
+mod operands;
 mod scopes;
 
 pub use code::{
     AccessForm, AddressingForm, AllocationForm, CaseForm, Code, CommonForm, ComputationForm,
     ControlForm, Entered, Form, Source, SwitchForm, Target, TrappingForm,
 };
+pub use gifts::Gift;
 pub use scopes::{BlockEntry, Body, Locals, Variable};
