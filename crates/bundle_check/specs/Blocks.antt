@@ -1,5 +1,5 @@
 -- To believe: a block: its demands, and what it is when names are numbers.
-use Rattle.std.specs.Prelude.{ℕ, false, List, [], ◌∷◌, Option, Some, None, length}
+use Rattle.std.specs.Prelude.{ℕ, suc, false, List, [], ◌∷◌, Option, Some, None, length}
 use Rattle.demands.specs.Demands.{Demands, none, demand, ◌⨾◌}
 use Rattle.ir_lex.specs.declared.name.Name.{Name}
 use Rattle.ir_tree.specs.declared.code.Parameter.{Parameter}
@@ -57,15 +57,18 @@ abbrev pub handler_number : BlockHead → Option Name → Option ℕ
 handler_number h None = None
 handler_number h (Some n) = Some (length h.parameters)
 
-abbrev pub block_code : Tables → Body → Block → BlockCode
-block_code p f b =
+-- block number `at` of the function that is item number `item`
+abbrev pub block_code : Tables → Body → ℕ → ℕ → Block → BlockCode
+block_code p f item at b =
     record {
+      item = item;
+      at = at;
       parameters = length b.head.parameters;
       handler = handler_number b.head b.head.handler;
       classes = (after_all p (head_locals p b.head) b.insts).classes;
       code = insts_code p f (head_locals p b.head) b.insts;
     }
 
-abbrev pub blocks_code : Tables → Body → List Block → List BlockCode
-blocks_code p f [] = []
-blocks_code p f (b ∷ bs) = block_code p f b ∷ blocks_code p f bs
+abbrev pub blocks_code : Tables → Body → ℕ → ℕ → List Block → List BlockCode
+blocks_code p f item at [] = []
+blocks_code p f item at (b ∷ bs) = block_code p f item at b ∷ blocks_code p f item (suc at) bs

@@ -11,16 +11,16 @@ use Rattle.bundle_check.specs.declared.code.Function.{Function}
 use Rattle.bundle_check.specs.declared.code.BlockCode.{BlockCode}
 use Rattle.bundle_check.specs.Functions.{functions_demands, functions_from, first_blocks, all_blocks}
 
-abbrev pub tables : List Item → Tables
-tables bundle = tables_of (globals_of bundle) bundle
+abbrev pub bundle_tables : List Item → Tables
+bundle_tables bundle = tables_of (globals_of bundle) bundle
 
 -- types, constants, signatures and globals, then functions
 abbrev pub check_demands : List Item → Demands CheckKind
-check_demands bundle = item_demands (globals_of bundle) bundle ⨾ functions_demands (tables bundle) 0 bundle
+check_demands bundle = item_demands (globals_of bundle) bundle ⨾ functions_demands (bundle_tables bundle) 0 bundle
 
 -- its functions by number, and its blocks
-abbrev pub functions : List Item → List Function
-functions bundle = functions_from (tables bundle) (first_blocks 0 bundle) 0 bundle
+abbrev pub bundle_functions : List Item → List Function
+bundle_functions bundle = functions_from (bundle_tables bundle) (first_blocks 0 bundle) 0 0 bundle
 
-abbrev pub blocks : List Item → List BlockCode
-blocks bundle = all_blocks (tables bundle) 0 bundle
+abbrev pub bundle_blocks : List Item → List BlockCode
+bundle_blocks bundle = all_blocks (bundle_tables bundle) 0 0 bundle

@@ -70,14 +70,15 @@ functions_demands p first (items.Funcdef d ∷ is) = function_demands p first d 
 
 -- ---- code
 
-abbrev pub all_blocks : Tables → ℕ → List Item → List BlockCode
-all_blocks p first [] = []
-all_blocks p first (items.Typedef d ∷ is) = all_blocks p first is
-all_blocks p first (items.Funcsig d ∷ is) = all_blocks p first is
-all_blocks p first (items.Const d ∷ is) = all_blocks p first is
-all_blocks p first (items.GlobalCell d ∷ is) = all_blocks p first is
-all_blocks p first (items.Funcdecl d ∷ is) = all_blocks p first is
-all_blocks p first (items.Funcdef d ∷ is) = blocks_code p (body_of p first d) d.blocks ++ all_blocks p (first + length d.blocks) is
+-- the blocks of the functions among these items, which stand behind so many items with so many blocks
+abbrev pub all_blocks : Tables → ℕ → ℕ → List Item → List BlockCode
+all_blocks p item first [] = []
+all_blocks p item first (items.Typedef d ∷ is) = all_blocks p (suc item) first is
+all_blocks p item first (items.Funcsig d ∷ is) = all_blocks p (suc item) first is
+all_blocks p item first (items.Const d ∷ is) = all_blocks p (suc item) first is
+all_blocks p item first (items.GlobalCell d ∷ is) = all_blocks p (suc item) first is
+all_blocks p item first (items.Funcdecl d ∷ is) = all_blocks p (suc item) first is
+all_blocks p item first (items.Funcdef d ∷ is) = blocks_code p (body_of p first d) item 0 d.blocks ++ all_blocks p (suc item) (first + length d.blocks) is
 
 -- the first block of each definition
 abbrev pub first_blocks : ℕ → List Item → List ℕ
@@ -97,19 +98,31 @@ abbrev pub signature_class : Option Signature → ℕ
 signature_class None = 0
 signature_class (Some s) = s.class
 
--- function k: its signature, and its first block, where it is defined
-abbrev pub function_named : Tables → List ℕ → ℕ → Name → Function
-function_named p firsts k n =
-    record { signature = signature_class (signature_in p (slice_get p.functions k)); first = first_of firsts (found p.globals.defined n.text) }
+-- function k: its signature, and its first block, where it is defined; its name stands first in that item
+abbrev pub function_named : Tables → List ℕ → ℕ → ℕ → Name → Function
+function_named p firsts k item n =
+    record { signature = signature_class (signature_in p (slice_get p.functions k)); first = first_of firsts (found p.globals.defined n.text); item = item }
 
--- the functions behind so many, each where its name comes first
-abbrev pub functions_from : Tables → List ℕ → ℕ → List Item → List Function
-functions_from p firsts k [] = []
-functions_from p firsts k (items.Typedef d ∷ is) = functions_from p firsts k is
-functions_from p firsts k (items.Funcsig d ∷ is) = functions_from p firsts k is
-functions_from p firsts k (items.Const d ∷ is) = functions_from p firsts k is
-functions_from p firsts k (items.GlobalCell d ∷ is) = functions_from p firsts k is
-functions_from p firsts k (items.Funcdecl d ∷ is) =
-    if is_function (found p.globals.names d.name.text) k then function_named p firsts k d.name ∷ functions_from p firsts (suc k) is else functions_from p firsts k is
-functions_from p firsts k (items.Funcdef d ∷ is) =
-    if is_function (found p.globals.names d.name.text) k then function_named p firsts k d.name ∷ functions_from p firsts (suc k) is else functions_from p firsts k is
+-- the name of a function that is declared or defined
+abbrev pub name_of_function : Item → Option Name
+name_of_function (items.Typedef d) = None
+name_of_function (items.Funcsig d) = None
+name_of_function (items.Const d) = None
+name_of_function (items.GlobalCell d) = None
+name_of_function (items.Funcdecl d) = Some d.name
+name_of_function (items.Funcdef d) = Some d.name
+
+-- function k, where the name is its own
+abbrev pub function_in : Tables → List ℕ → ℕ → ℕ → Option Name → Option Function
+function_in p firsts k item None = None
+function_in p firsts k item (Some n) = if is_function (found p.globals.names n.text) k then Some (function_named p firsts k item n) else None
+
+-- the functions behind so many: each is counted where its name comes first
+abbrev pub functions_behind : (ℕ → List Function) → ℕ → Option Function → List Function
+functions_behind more k None = more k
+functions_behind more k (Some f) = f ∷ more (suc k)
+
+-- the functions among these items, which stand behind so many items and so many functions
+abbrev pub functions_from : Tables → List ℕ → ℕ → ℕ → List Item → List Function
+functions_from p firsts k item [] = []
+functions_from p firsts k item (i ∷ is) = functions_behind (λ n. functions_from p firsts n (suc item) is) k (function_in p firsts k item (name_of_function i))

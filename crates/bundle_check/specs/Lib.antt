@@ -1,3 +1,4 @@
 pub mod Blocks
 pub mod Functions
 pub mod Checking
+pub mod Answers

@@ -9,11 +9,17 @@ pub struct Function {
     pub signature: u32,
     /// Its first block; none where it is only declared.
     pub first: Option<u32>,
+    /// The item in which its name stands first.
+    pub item: u32,
 }
 
 /// A block.
 #[derive(Drop)]
 pub struct BlockCode {
+    /// The item of its function.
+    pub item: u32,
+    /// How many blocks of the function stand before it.
+    pub at: u32,
     /// How many parameters it has: the first variables.
     pub parameters: usize,
     /// The variable that is its handler.

@@ -1,0 +1,102 @@
+-- To believe: what a checked bundle answers by names and by numbers.
+use Rattle.std.specs.Prelude.{ℕ, Bool, true, false, is_some, if◌then◌else◌, List, [], ◌∷◌, ◌++◌, Option, Some, None, Result, Ok, Err, codes, drop, slice_get}
+use Rattle.demands.specs.Names.{found}
+use Rattle.ir_lex.specs.declared.name.Name.{Name}
+use Rattle.ir_tree.specs.declared.code.Block.{Block}
+use Rattle.ir_tree.specs.declared.items.Funcdef.{Funcdef}
+use Rattle.ir_tree.specs.declared.items.Item.{Item}
+use Rattle.ir_tree.specs.declared.items.Item.TheVariants as items
+use Rattle.bundle_names.specs.declared.globals.Sort.{Sort}
+use Rattle.bundle_names.specs.declared.globals.Sort.TheVariants as sorts
+use Rattle.bundle_names.specs.Globals.{globals_of}
+use Rattle.check_tables.specs.declared.tables.Signature.{Signature}
+use Rattle.check_tables.specs.declared.tables.Tables.{Tables}
+use Rattle.check_tables.specs.Lookups.{signature_in, takes_of}
+use Rattle.bundle_check.specs.declared.code.Function.{Function}
+use Rattle.bundle_check.specs.declared.code.BlockCode.{BlockCode}
+use Rattle.bundle_check.specs.declared.fault.EntryFault.{EntryFault}
+use Rattle.bundle_check.specs.declared.fault.EntryFault.TheVariants.{Unknown, BadSignature, NoBody}
+use Rattle.bundle_check.specs.Functions.{name_of_function}
+use Rattle.bundle_check.specs.Checking.{bundle_tables, bundle_functions, bundle_blocks}
+
+-- ---- by name
+
+-- what the bundle defines under a name, with its number
+abbrev pub find : List Item → List ℕ → Option Sort
+find bundle name = found (globals_of bundle).names name
+
+abbrev pub function_number : Option Sort → Option ℕ
+function_number (Some (sorts.Written n)) = None
+function_number (Some (sorts.Signature n)) = None
+function_number (Some (sorts.Constant n)) = None
+function_number (Some (sorts.GlobalCell n)) = None
+function_number (Some (sorts.Function n)) = Some n
+function_number None = None
+
+abbrev pub takes_nothing : Option (List ℕ) → Bool
+takes_nothing None = false
+takes_nothing (Some []) = true
+takes_nothing (Some (c ∷ cs)) = false
+
+abbrev pub first_in : Option Function → Option ℕ
+first_in None = None
+first_in (Some f) = f.first
+
+-- a function that takes nothing and has a body may be entered
+abbrev pub entry_of : List Item → Option ℕ → Result ℕ EntryFault
+entry_of bundle None = Err Unknown
+entry_of bundle (Some n) =
+    if takes_nothing (takes_of (signature_in (bundle_tables bundle) (slice_get (bundle_tables bundle).functions n)))
+      then (if is_some (first_in (slice_get (bundle_functions bundle) n)) then Ok n else Err NoBody)
+      else Err BadSignature
+
+-- the number of the function with this name, or why it is no entry: there is none, it takes something, or it has no body
+abbrev pub entry : List Item → List ℕ → Result ℕ EntryFault
+entry bundle name = entry_of bundle (function_number (find bundle name))
+
+-- ---- names by number
+
+-- a dot and a name without its sigil
+abbrev pub part : Name → List ℕ
+part n = codes "." ++ drop 1 n.text
+
+-- @f.v.b
+abbrev pub full_name : Funcdef → Block → List ℕ
+full_name d b = d.name.text ++ part d.version ++ part b.head.name
+
+abbrev pub full_name_at : Funcdef → Option Block → List ℕ
+full_name_at d None = []
+full_name_at d (Some b) = full_name d b
+
+abbrev pub name_in : Option Item → ℕ → List ℕ
+name_in None at = []
+name_in (Some (items.Typedef d)) at = []
+name_in (Some (items.Funcsig d)) at = []
+name_in (Some (items.Const d)) at = []
+name_in (Some (items.GlobalCell d)) at = []
+name_in (Some (items.Funcdecl d)) at = []
+name_in (Some (items.Funcdef d)) at = full_name_at d (slice_get d.blocks at)
+
+abbrev pub name_of_block : List Item → Option BlockCode → List ℕ
+name_of_block bundle None = []
+name_of_block bundle (Some b) = name_in (slice_get bundle b.item) b.at
+
+-- the full name of a block by its number
+abbrev pub block_name : List Item → ℕ → List ℕ
+block_name bundle n = name_of_block bundle (slice_get (bundle_blocks bundle) n)
+
+abbrev pub text_of : Option Name → List ℕ
+text_of None = []
+text_of (Some n) = n.text
+
+abbrev pub item_name : Option Item → List ℕ
+item_name None = []
+item_name (Some i) = text_of (name_of_function i)
+
+abbrev pub name_of_function_at : List Item → Option Function → List ℕ
+name_of_function_at bundle None = []
+name_of_function_at bundle (Some f) = item_name (slice_get bundle f.item)
+
+-- the name of a function by its number
+abbrev pub function_name : List Item → ℕ → List ℕ
+function_name bundle n = name_of_function_at bundle (slice_get (bundle_functions bundle) n)

@@ -1,0 +1,245 @@
+// Bundles that are checked.
+ghost use Rattle.std.specs.Prelude.{◌≡◌, ◌<◌, ◌++◌, None, Some, codes, drop, length, slice_get, is_some, OnOk};
+ghost use Rattle.type_laws.specs.Same.{IsGraph};
+ghost use Rattle.check_tables.specs.Bare.{bare_table};
+ghost use Rattle.bundle_check.specs.Checking.{bundle_tables, bundle_functions, bundle_blocks};
+ghost use Rattle.check_tables.specs.Lookups.{signature_in, takes_of};
+ghost use Rattle.bundle_check.specs.Answers.{find, entry, first_in, takes_nothing, part, full_name, full_name_at, item_name, block_name, function_name};
+
+use crate::code::{BlockCode, Function};
+use crate::fault::EntryFault;
+use bundle_names::Sort;
+use check_tables::Tables;
+use ir_lex::Name;
+use ir_tree::{Block, Bundle, Funcdef, Item};
+use mu_types::Classes;
+use std::alloc::AllocError;
+use std::marker::Model;
+use text_forms::Listing;
+
+fn write_dot(out: &mut Vec<u8>) -> Result<(), AllocError>
+    ensures { OnOk result (out.new.items ≡ out.old.items ++ codes "." ) }
+{
+    out.push(b'.')?;
+    Ok(())
+}
+
+/// Writes a name without its sigil.
+fn write_bare(name: &Name, out: &mut Vec<u8>) -> Result<(), AllocError>
+    ensures { OnOk result (out.new.items ≡ out.old.items ++ drop 1 name.now.text) }
+{
+    match name.text.as_slice() {
+        [_, rest @ ..] => out.extend_from_slice(rest),
+        [] => Ok(()),
+    }
+}
+
+/// Writes a dot and a name without its sigil.
+fn write_part(name: &Name, out: &mut Vec<u8>) -> Result<(), AllocError>
+    ensures { OnOk result (out.new.items ≡ out.old.items ++ part name.now) }
+{
+    write_dot(out)?;
+    write_bare(name, out)
+}
+
+fn write_full_name(
+    function: &Funcdef,
+    block: &Block,
+    out: &mut Vec<u8>,
+) -> Result<(), AllocError>
+    ensures { OnOk result (out.new.items ≡ out.old.items ++ full_name function.now block.now) }
+{
+    out.extend_from_slice(function.name.text.as_slice())?;
+    write_part(&function.version, out)?;
+    write_part(&block.head.name, out)
+}
+
+fn write_name_at(function: &Funcdef, at: u32, out: &mut Vec<u8>) -> Result<(), AllocError>
+    ensures { OnOk result (out.new.items ≡ out.old.items ++ full_name_at function.now (slice_get function.now.blocks at)) }
+{
+    match function.blocks.as_slice().get(at as usize) {
+        None => Ok(()),
+        Some(block) => write_full_name(function, block, out),
+    }
+}
+
+fn write_item_name(item: &Item, out: &mut Vec<u8>) -> Result<(), AllocError>
+    ensures { OnOk result (out.new.items ≡ out.old.items ++ item_name (Some item.now)) }
+{
+    match item {
+        Item::Funcdecl(item) => out.extend_from_slice(item.name.text.as_slice()),
+        Item::Funcdef(item) => out.extend_from_slice(item.name.text.as_slice()),
+        _ => Ok(()),
+    }
+}
+
+/// A bundle that meets all demands on it. Contracts see the bundle.
+#[derive(Drop)]
+pub struct Checked {
+    bundle: Bundle,
+    tables: Tables,
+    functions: Listing<Function>,
+    blocks: Listing<BlockCode>,
+}
+
+impl Model for Checked {
+    ghost use Rattle.std.specs.Prelude.{List, ◌≡◌, None};
+    ghost use Rattle.ir_tree.specs.declared.items.Item.{Item};
+    ghost use Rattle.demands.specs.Demands.{first_unmet};
+    ghost use Rattle.bundle_names.specs.Naming.{name_demands};
+    ghost use Rattle.bundle_check.specs.Checking.{check_demands, bundle_tables, bundle_functions, bundle_blocks};
+
+    ghost Value = { List Item };
+
+    ghost view = { λ c. c.bundle };
+
+    ghost invariant = { λ c. (first_unmet (name_demands c.bundle) ≡ None) × (first_unmet (check_demands c.bundle) ≡ None) × (c.tables ≡ bundle_tables c.bundle) × (c.functions ≡ bundle_functions c.bundle) × (c.blocks ≡ bundle_blocks c.bundle) };
+}
+
+impl Checked {
+    ghost use Rattle.demands.specs.Demands.{first_unmet};
+    ghost use Rattle.bundle_names.specs.Naming.{name_demands};
+    ghost use Rattle.bundle_check.specs.Checking.{check_demands};
+
+    pub(crate) fn new(
+        bundle: Bundle,
+        tables: Tables,
+        functions: Listing<Function>,
+        blocks: Listing<BlockCode>,
+    ) -> Checked
+        requires named { first_unmet (name_demands bundle) ≡ None }
+        requires met { first_unmet (check_demands bundle) ≡ None }
+        requires tables { tables ≡ bundle_tables bundle }
+        requires functions { functions ≡ bundle_functions bundle }
+        requires blocks { blocks ≡ bundle_blocks bundle }
+        ensures { result ≡ bundle }
+    {
+        Checked {
+            bundle,
+            tables,
+            functions,
+            blocks,
+        }
+    }
+
+    /// The items as they are written, which meet all demands.
+    pub fn items(&self) -> &[Item]
+        ensures same { result.now ≡ self.now }
+        ensures named { first_unmet (name_demands self.now) ≡ None }
+        ensures met { first_unmet (check_demands self.now) ≡ None }
+    {
+        self.bundle.as_slice()
+    }
+
+    /// What the bundle defines under a name, its sigil included, with its number: each sort of item is counted from 0 in text order,
+    /// a function where its name comes first. It takes the time of one hash.
+    #[tactic(auto, unfolding(bundle_tables::specs::Entries::tables_of))]
+    pub fn find(&self, name: &str) -> Option<Sort>
+        ensures { result ≡ find self.now name.now }
+    {
+        self.tables.globals.names.find(name.as_bytes()).copied()
+    }
+
+    fn takes_nothing(&self, function: u32) -> bool
+        ensures { result ≡ takes_nothing (takes_of (signature_in (bundle_tables self.now) (slice_get (bundle_tables self.now).functions function))) }
+    {
+        match self.tables.functions.as_slice().get(function as usize) {
+            Some(s) => match self.tables.signatures.as_slice().get(*s as usize) {
+                Some(signature) => signature.takes.is_empty(),
+                None => false,
+            },
+            None => false,
+        }
+    }
+
+    fn has_body(&self, function: u32) -> bool
+        ensures { result ≡ is_some (first_in (slice_get (bundle_functions self.now) function)) }
+    {
+        match self.functions.as_slice().get(function as usize) {
+            Some(function) => function.first.is_some(),
+            None => false,
+        }
+    }
+
+    /// The number of the function with that name, its `@` included. In this order: Unknown comes exactly where no function has the
+    /// name, BadSignature where it has parameters, NoBody where it is only declared. It takes the time of one hash.
+    pub fn entry(&self, name: &str) -> Result<u32, EntryFault>
+        ensures { result ≡ entry self.now name.now }
+    {
+        match self.find(name) {
+            Some(Sort::Function(n)) => if !self.takes_nothing(n) {
+                Err(EntryFault::BadSignature)
+            } else if !self.has_body(n) {
+                Err(EntryFault::NoBody)
+            } else {
+                Ok(n)
+            },
+            _ => Err(EntryFault::Unknown),
+        }
+    }
+
+    /// The types of the bundle.
+    pub fn classes(&self) -> &Classes
+        ensures same { bare_table result.now ≡ (bundle_tables self.now).types }
+        ensures graph { IsGraph result.now.definitions }
+    {
+        self.tables.types.classes()
+    }
+
+    /// The class of a constant that is there.
+    pub fn constant_type(&self, n: u32) -> u32
+        requires { n < length (bundle_tables self.now).constants }
+        ensures { slice_get (bundle_tables self.now).constants n ≡ Some result }
+    {
+        self.tables.constants.as_slice()[n as usize]
+    }
+
+    /// How many globals there are.
+    pub fn globals(&self) -> usize
+        ensures { result ≡ length (bundle_tables self.now).global_cells }
+    {
+        self.tables.global_cells.len()
+    }
+
+    /// A function that is there.
+    pub fn function(&self, n: u32) -> &Function
+        requires { n < length (bundle_functions self.now) }
+        ensures { slice_get (bundle_functions self.now) n ≡ Some result.now }
+    {
+        &self.functions.as_slice()[n as usize]
+    }
+
+    /// A block that is there.
+    pub fn block(&self, n: u32) -> &BlockCode
+        requires { n < length (bundle_blocks self.now) }
+        ensures { slice_get (bundle_blocks self.now) n ≡ Some result.now }
+    {
+        &self.blocks.as_slice()[n as usize]
+    }
+
+    /// Writes the full name of a block that is there behind what `out` holds: that of its function, of the function's version and its
+    /// own, as `@f.v.b`. Where no memory is found a part of it may have been written.
+    pub fn block_name(&self, n: u32, out: &mut Vec<u8>) -> Result<(), AllocError>
+        requires { n < length (bundle_blocks self.now) }
+        ensures { OnOk result (out.new.items ≡ out.old.items ++ block_name self.now n) }
+    {
+        let block = self.block(n);
+        match self.bundle.as_slice().get(block.item as usize) {
+            Some(Item::Funcdef(function)) => write_name_at(function, block.at, out),
+            _ => Ok(()),
+        }
+    }
+
+    /// Writes the name of a function that is there behind what `out` holds, its `@` included. Where no memory is found a part of it may
+    /// have been written.
+    pub fn function_name(&self, n: u32, out: &mut Vec<u8>) -> Result<(), AllocError>
+        requires { n < length (bundle_functions self.now) }
+        ensures { OnOk result (out.new.items ≡ out.old.items ++ function_name self.now n) }
+    {
+        let function = self.function(n);
+        match self.bundle.as_slice().get(function.item as usize) {
+            Some(item) => write_item_name(item, out),
+            None => Ok(()),
+        }
+    }
+}
