@@ -1,11 +1,15 @@
 //! The demands on instructions, and code with numbers in place of names.
 #![tactic(auto)]
 
+mod accesses;
 mod code;
+mod commons;
 mod destinations;
 mod gifts;
+mod objects;
 mod operands;
 mod scopes;
+mod stacks;
 
 pub use code::{
     AccessForm, AddressingForm, AllocationForm, CaseForm, Code, CommonForm, ComputationForm,
