@@ -1,4 +1,7 @@
 // What an instruction gives.
+ghost use Rattle.std.specs.Prelude.{◌≡◌};
+ghost use Rattle.check_tables.specs.Lookups.{or_zero};
+
 use ir_lex::Name;
 
 /// The classes of the results of an instruction, without memory for a list.
@@ -11,4 +14,14 @@ pub enum Gift<'a> {
     Listed(&'a [u32]),
     /// The classes of the types with these names.
     Named(&'a [Name]),
+}
+
+/// The class, and 0 where there is none.
+pub fn or_zero(class: Option<u32>) -> u32
+    ensures { result ≡ or_zero class }
+{
+    match class {
+        Some(class) => class,
+        None => 0,
+    }
 }

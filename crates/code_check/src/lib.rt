@@ -4,6 +4,7 @@
 mod accesses;
 mod code;
 mod commons;
+mod computations;
 mod destinations;
 mod gifts;
 mod objects;

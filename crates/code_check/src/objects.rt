@@ -10,7 +10,7 @@ ghost use Rattle.code_check.specs.Gifts.{listed};
 ghost use Rattle.code_check.specs.Objects.{allocation_demands, allocation_gives, allocation_code, place_of_type, object_of_type, addressing_demands, addressing_gives, addressing_code, fixed_field_named};
 
 use crate::code::{AddressingForm, AllocationForm, Source};
-use crate::gifts::Gift;
+use crate::gifts::{Gift, or_zero};
 use crate::operands::{int_type, of_type, operand, type_demand};
 use crate::scopes::Locals;
 use check_tables::{CheckFault, CheckKind, Tables, fault_at};
@@ -23,16 +23,6 @@ pub fn tested_type(tables: &Tables, name: &Name, met: bool) -> Result<u32, Check
 {
     type_demand(name, met)?;
     Ok(tables.noted_class(name))
-}
-
-/// The number, and 0 where there is none.
-fn or_zero(class: Option<u32>) -> u32
-    ensures { result ≡ or_zero class }
-{
-    match class {
-        Some(class) => class,
-        None => 0,
-    }
 }
 
 // ---- making
