@@ -2,6 +2,8 @@
 #![tactic(auto)]
 
 mod accesses;
+mod binding;
+mod clauses;
 mod code;
 mod commons;
 mod computations;
