@@ -7,6 +7,7 @@ mod clauses;
 mod code;
 mod commons;
 mod computations;
+mod control;
 mod destinations;
 mod gifts;
 mod objects;

@@ -1,0 +1,13 @@
+use Rattle.std.proofs.Common.{◌≡◌, length, ◌++◌}
+use Rattle.demands.specs.Demands.{first_unmet}
+use Rattle.code_check.specs.Control.{case_demands, cases_code}
+use Rattle.code_check.proofs.control.cases.Given as goal
+
+abbrev pub invariant-each : goal.invariant-each
+invariant-each l = record {
+  left : first_unmet (case_demands l.tables l.body l.locals l.name l.left) ≡ first_unmet (case_demands l.tables l.body l.locals l.name l.fn.cases);
+  made : l.forms ++ cases_code l.tables l.body l.locals l.left ≡ cases_code l.tables l.body l.locals l.fn.cases;
+}
+
+abbrev pub decreases-each : goal.decreases-each
+decreases-each l = length l.left

@@ -1,0 +1,280 @@
+// Instructions that say where the function goes on, or that enter or leave one.
+ghost use Rattle.std.specs.Prelude.{◌≡◌, None, Some};
+ghost use Rattle.demands.specs.Demands.{Judges, demand, ◌⨾◌};
+ghost use Rattle.demands.specs.Names.{found};
+ghost use Rattle.ir_tree.specs.declared.flow.ControlFlow.TheVariants as flows;
+ghost use Rattle.check_tables.specs.declared.fault.CheckKind.TheVariants.{OperandType};
+ghost use Rattle.check_tables.specs.Lookups.{class_named, class_of_global, signature_named, gives_of};
+ghost use Rattle.code_check.specs.Operands.{is_class};
+ghost use Rattle.code_check.specs.Destinations.{normal_demands};
+ghost use Rattle.code_check.specs.Gifts.{listed};
+ghost use Rattle.code_check.specs.Control.{case_demands, constant_number, case_code, cases_code, are_classes, gives_these, control_demands, control_gives, control_code};
+
+use crate::code::{CaseForm, ControlForm};
+use crate::destinations::normal;
+use crate::gifts::Gift;
+use crate::operands::{arguments, demand, int_type, is_class, of_type, operand, type_demand};
+use crate::scopes::{Body, Locals};
+use bundle_names::Sort;
+use check_tables::{CheckFault, CheckKind, Tables};
+use ir_lex::Name;
+use ir_tree::{Arguments, Case, ControlFlow, Destination, Operand};
+use std::alloc::Global;
+use text_forms::Listing;
+
+/// The number of the constant that a name stands for, and 0 where there is none.
+fn constant_number(tables: &Tables, name: &Name) -> u32
+    ensures { result ≡ constant_number (found tables.now.globals.names name.now.text) }
+{
+    match tables.globals.names.find(name.text.as_slice()) {
+        Some(Sort::Constant(n)) => *n,
+        _ => 0,
+    }
+}
+
+/// A case of a `SWITCH`: the constant is of the type that is switched on.
+fn case(
+    alloc: Global,
+    tables: &Tables,
+    body: &Body,
+    locals: &Locals,
+    name: &Name,
+    case: &Case,
+) -> Result<CaseForm, CheckFault>
+    ensures { Judges (demand case.now.constant.place OperandType (is_class (class_of_global tables.now case.now.constant) (class_named tables.now name.now)) ⨾ normal_demands tables.now body.now locals.now case.now.destination) (case_code tables.now body.now locals.now case.now) result }
+{
+    let constant = &case.constant;
+    let class = tables.class_of_global(constant);
+    type_demand(constant, is_class(class, tables.class_named(name)))?;
+    let target = normal(alloc, tables, body, locals, &case.destination)?;
+    Ok(CaseForm {
+        constant: constant_number(tables, constant),
+        target,
+    })
+}
+
+fn cases(
+    alloc: Global,
+    tables: &Tables,
+    body: &Body,
+    locals: &Locals,
+    name: &Name,
+    cases: &[Case],
+) -> Result<Listing<CaseForm>, CheckFault>
+    ensures { Judges (case_demands tables.now body.now locals.now name.now cases.now) (cases_code tables.now body.now locals.now cases.now) result }
+{
+    let mut forms = Listing::new(alloc);
+    let mut left = cases;
+    'each: while let [first, more @ ..] = left {
+        forms.push(case(alloc, tables, body, locals, name, first)?)?;
+        left = more;
+    }
+    Ok(forms)
+}
+
+/// Whether these are the classes that are wanted.
+fn are_classes(classes: &[u32], wanted: &[u32]) -> bool
+    ensures { result ≡ are_classes classes.now wanted.now }
+{
+    let mut left = classes;
+    let mut others = wanted;
+    'each: while let [class, more @ ..] = left {
+        match others {
+            [other, rest @ ..] if class == other => {
+                left = more;
+                others = rest;
+            }
+            _ => return false,
+        }
+    }
+    matches!(others, [])
+}
+
+/// Whether the signature that a name stands for gives these classes.
+fn gives_these(tables: &Tables, signature: &Name, classes: &[u32]) -> bool
+    ensures { result ≡ gives_these (gives_of (signature_named tables.now signature.now)) classes.now }
+{
+    match tables.gives_named(signature) {
+        Some(given) => are_classes(given, classes),
+        None => false,
+    }
+}
+
+/// `BRANCH2`.
+fn branch2(
+    alloc: Global,
+    tables: &Tables,
+    body: &Body,
+    locals: &Locals,
+    condition: &Operand,
+    if_one: &Destination,
+    if_zero: &Destination,
+) -> Result<ControlForm, CheckFault>
+    ensures { Judges (control_demands tables.now body.now locals.now (flows.Branch2 condition.now if_one.now if_zero.now)) (control_code tables.now body.now locals.now (flows.Branch2 condition.now if_one.now if_zero.now)) result }
+{
+    let one_bit = Some(tables.types.int1());
+    let condition = operand(tables, locals, CheckKind::OperandType, condition, one_bit)?;
+    let if_one = normal(alloc, tables, body, locals, if_one)?;
+    let if_zero = normal(alloc, tables, body, locals, if_zero)?;
+    Ok(ControlForm::Branch2 {
+        condition,
+        if_one,
+        if_zero,
+    })
+}
+
+/// `SWITCH`.
+fn switch(
+    alloc: Global,
+    tables: &Tables,
+    body: &Body,
+    locals: &Locals,
+    name: &Name,
+    operand: &Operand,
+    default: &Destination,
+    listed: &Listing<Case>,
+) -> Result<ControlForm, CheckFault>
+    ensures { Judges (control_demands tables.now body.now locals.now (flows.Switch name.now operand.now default.now listed.now)) (control_code tables.now body.now locals.now (flows.Switch name.now operand.now default.now listed.now)) result }
+{
+    let class = int_type(tables, name)?;
+    let operand = of_type(tables, locals, operand, name)?;
+    let default = normal(alloc, tables, body, locals, default)?;
+    let cases = cases(alloc, tables, body, locals, name, listed.as_slice())?;
+    Ok(ControlForm::Switch {
+        class,
+        operand,
+        default,
+        cases,
+    })
+}
+
+/// `CALL`.
+fn call(
+    alloc: Global,
+    tables: &Tables,
+    body: &Body,
+    locals: &Locals,
+    signature: &Name,
+    callee: &Operand,
+    given: &Arguments,
+) -> Result<ControlForm, CheckFault>
+    ensures { Judges (control_demands tables.now body.now locals.now (flows.Call signature.now callee.now given.now None None)) (control_code tables.now body.now locals.now (flows.Call signature.now callee.now given.now None None)) result }
+{
+    let funcref = tables.funcref_named(signature);
+    let callee = operand(tables, locals, CheckKind::OperandType, callee, funcref)?;
+    let arguments = arguments(alloc, tables, locals, given, tables.takes_named(signature))?;
+    Ok(ControlForm::Call {
+        signature: tables.noted_signature(signature),
+        callee,
+        arguments,
+    })
+}
+
+/// `TAILCALL`.
+fn tailcall(
+    alloc: Global,
+    tables: &Tables,
+    body: &Body,
+    locals: &Locals,
+    signature: &Name,
+    callee: &Operand,
+    given: &Arguments,
+) -> Result<ControlForm, CheckFault>
+    ensures { Judges (control_demands tables.now body.now locals.now (flows.Tailcall signature.now callee.now given.now)) (control_code tables.now body.now locals.now (flows.Tailcall signature.now callee.now given.now)) result }
+{
+    let met = gives_these(tables, signature, body.gives.as_slice());
+    demand(met, CheckKind::BadSignature, signature.place)?;
+    let funcref = tables.funcref_named(signature);
+    let callee = operand(tables, locals, CheckKind::OperandType, callee, funcref)?;
+    let arguments = arguments(alloc, tables, locals, given, tables.takes_named(signature))?;
+    Ok(ControlForm::Tailcall {
+        signature: tables.noted_signature(signature),
+        callee,
+        arguments,
+    })
+}
+
+/// `RET`.
+fn ret(
+    alloc: Global,
+    tables: &Tables,
+    body: &Body,
+    locals: &Locals,
+    values: &Arguments,
+) -> Result<ControlForm, CheckFault>
+    ensures { Judges (control_demands tables.now body.now locals.now (flows.Ret values.now)) (control_code tables.now body.now locals.now (flows.Ret values.now)) result }
+{
+    let values = arguments(alloc, tables, locals, values, Some(body.gives.as_slice()))?;
+    Ok(ControlForm::Ret { values })
+}
+
+/// `THROW`.
+fn throw(
+    tables: &Tables,
+    body: &Body,
+    locals: &Locals,
+    exception: &Operand,
+) -> Result<ControlForm, CheckFault>
+    ensures { Judges (control_demands tables.now body.now locals.now (flows.Throw exception.now)) (control_code tables.now body.now locals.now (flows.Throw exception.now)) result }
+{
+    let wanted = Some(tables.types.ref_void());
+    let exception = operand(tables, locals, CheckKind::OperandType, exception, wanted)?;
+    Ok(ControlForm::Throw { exception })
+}
+
+/// An instruction that says where the function goes on, or that enters or leaves one.
+pub fn control(
+    alloc: Global,
+    tables: &Tables,
+    body: &Body,
+    locals: &Locals,
+    control: &ControlFlow,
+) -> Result<ControlForm, CheckFault>
+    ensures { Judges (control_demands tables.now body.now locals.now control.now) (control_code tables.now body.now locals.now control.now) result }
+{
+    match control {
+        ControlFlow::Branch { destination } => {
+            let target = normal(alloc, tables, body, locals, destination)?;
+            Ok(ControlForm::Branch { target })
+        }
+        ControlFlow::Branch2 {
+            condition,
+            if_one,
+            if_zero,
+        } => branch2(alloc, tables, body, locals, condition, if_one, if_zero),
+        ControlFlow::Switch {
+            of_type,
+            operand,
+            default,
+            cases,
+        } => switch(
+            alloc, tables, body, locals, of_type, operand, default, cases,
+        ),
+        ControlFlow::Call {
+            signature,
+            callee,
+            arguments,
+            ..
+        } => call(alloc, tables, body, locals, signature, callee, arguments),
+        ControlFlow::Tailcall {
+            signature,
+            callee,
+            arguments,
+        } => tailcall(alloc, tables, body, locals, signature, callee, arguments),
+        ControlFlow::Ret { values } => ret(alloc, tables, body, locals, values),
+        ControlFlow::Throw { exception } => throw(tables, body, locals, exception),
+    }
+}
+
+/// What such an instruction gives.
+pub fn control_gift<'a>(tables: &'a Tables, control: &'a ControlFlow) -> Gift<'a>
+    ensures { listed tables.now result ≡ control_gives tables.now control.now }
+{
+    match control {
+        ControlFlow::Call { signature, .. } => match tables.gives_named(signature) {
+            Some(classes) => Gift::Listed(classes),
+            None => Gift::Nothing,
+        },
+        _ => Gift::Nothing,
+    }
+}
