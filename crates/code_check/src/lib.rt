@@ -10,14 +10,17 @@ mod computations;
 mod control;
 mod destinations;
 mod gifts;
+mod instructions;
 mod objects;
 mod operands;
 mod scopes;
 mod stacks;
 
+pub use binding::bind;
 pub use code::{
     AccessForm, AddressingForm, AllocationForm, CaseForm, Code, CommonForm, ComputationForm,
     ControlForm, Entered, Form, Source, SwitchForm, Target, TrappingForm,
 };
 pub use gifts::Gift;
+pub use instructions::insts;
 pub use scopes::{BlockEntry, Body, Locals, Variable};
