@@ -1,19 +1,21 @@
 // Instructions that say where the function goes on, or that enter or leave one.
-ghost use Rattle.std.specs.Prelude.{◌≡◌, None, Some};
+ghost use Rattle.std.specs.Prelude.{◌≡◌};
 ghost use Rattle.demands.specs.Demands.{Judges, demand, ◌⨾◌};
 ghost use Rattle.demands.specs.Names.{found};
 ghost use Rattle.ir_tree.specs.declared.flow.ControlFlow.TheVariants as flows;
 ghost use Rattle.check_tables.specs.declared.fault.CheckKind.TheVariants.{OperandType};
-ghost use Rattle.check_tables.specs.Lookups.{class_named, class_of_global, signature_named, gives_of};
-ghost use Rattle.code_check.specs.Operands.{is_class};
+ghost use Rattle.check_tables.specs.Lookups.{class_named, class_of_global, signature_named, funcref_of, takes_of, gives_of};
+ghost use Rattle.code_check.specs.Operands.{is_class, operand_demands, argument_demands, source_of, sources_of};
 ghost use Rattle.code_check.specs.Destinations.{normal_demands};
 ghost use Rattle.code_check.specs.Gifts.{listed};
 ghost use Rattle.code_check.specs.Control.{case_demands, constant_number, case_code, cases_code, are_classes, gives_these, control_demands, control_gives, control_code};
 
-use crate::code::{CaseForm, ControlForm};
+use crate::code::{CaseForm, ControlForm, Source};
 use crate::destinations::normal;
 use crate::gifts::Gift;
-use crate::operands::{arguments, demand, int_type, is_class, of_type, operand, type_demand};
+use crate::operands::{
+    arguments, demand, int_type, is_class, of_type, operand, thrown, type_demand,
+};
 use crate::scopes::{Body, Locals};
 use bundle_names::Sort;
 use check_tables::{CheckFault, CheckKind, Tables};
@@ -148,26 +150,21 @@ fn switch(
     })
 }
 
-/// `CALL`.
-fn call(
+/// What is called, and the arguments: both are of the signature that a name stands for.
+fn called(
     alloc: Global,
     tables: &Tables,
-    body: &Body,
     locals: &Locals,
     signature: &Name,
     callee: &Operand,
     given: &Arguments,
-) -> Result<ControlForm, CheckFault>
-    ensures { Judges (control_demands tables.now body.now locals.now (flows.Call signature.now callee.now given.now None None)) (control_code tables.now body.now locals.now (flows.Call signature.now callee.now given.now None None)) result }
+) -> Result<(Source, Listing<Source>), CheckFault>
+    ensures { Judges (operand_demands tables.now locals.now OperandType callee.now (funcref_of (signature_named tables.now signature.now)) ⨾ argument_demands tables.now locals.now given.now (takes_of (signature_named tables.now signature.now))) (source_of tables.now locals.now callee.now, sources_of tables.now locals.now given.now.values) result }
 {
-    let funcref = tables.funcref_named(signature);
-    let callee = operand(tables, locals, CheckKind::OperandType, callee, funcref)?;
+    let wanted = tables.funcref_named(signature);
+    let callee = operand(tables, locals, CheckKind::OperandType, callee, wanted)?;
     let arguments = arguments(alloc, tables, locals, given, tables.takes_named(signature))?;
-    Ok(ControlForm::Call {
-        signature: tables.noted_signature(signature),
-        callee,
-        arguments,
-    })
+    Ok((callee, arguments))
 }
 
 /// `TAILCALL`.
@@ -184,9 +181,7 @@ fn tailcall(
 {
     let met = gives_these(tables, signature, body.gives.as_slice());
     demand(met, CheckKind::BadSignature, signature.place)?;
-    let funcref = tables.funcref_named(signature);
-    let callee = operand(tables, locals, CheckKind::OperandType, callee, funcref)?;
-    let arguments = arguments(alloc, tables, locals, given, tables.takes_named(signature))?;
+    let (callee, arguments) = called(alloc, tables, locals, signature, callee, given)?;
     Ok(ControlForm::Tailcall {
         signature: tables.noted_signature(signature),
         callee,
@@ -206,20 +201,6 @@ fn ret(
 {
     let values = arguments(alloc, tables, locals, values, Some(body.gives.as_slice()))?;
     Ok(ControlForm::Ret { values })
-}
-
-/// `THROW`.
-fn throw(
-    tables: &Tables,
-    body: &Body,
-    locals: &Locals,
-    exception: &Operand,
-) -> Result<ControlForm, CheckFault>
-    ensures { Judges (control_demands tables.now body.now locals.now (flows.Throw exception.now)) (control_code tables.now body.now locals.now (flows.Throw exception.now)) result }
-{
-    let wanted = Some(tables.types.ref_void());
-    let exception = operand(tables, locals, CheckKind::OperandType, exception, wanted)?;
-    Ok(ControlForm::Throw { exception })
 }
 
 /// An instruction that says where the function goes on, or that enters or leaves one.
@@ -255,14 +236,24 @@ pub fn control(
             callee,
             arguments,
             ..
-        } => call(alloc, tables, body, locals, signature, callee, arguments),
+        } => {
+            let (callee, arguments) = called(alloc, tables, locals, signature, callee, arguments)?;
+            Ok(ControlForm::Call {
+                signature: tables.noted_signature(signature),
+                callee,
+                arguments,
+            })
+        }
         ControlFlow::Tailcall {
             signature,
             callee,
             arguments,
         } => tailcall(alloc, tables, body, locals, signature, callee, arguments),
         ControlFlow::Ret { values } => ret(alloc, tables, body, locals, values),
-        ControlFlow::Throw { exception } => throw(tables, body, locals, exception),
+        ControlFlow::Throw { exception } => {
+            let exception = thrown(tables, locals, exception)?;
+            Ok(ControlForm::Throw { exception })
+        }
     }
 }
 

@@ -4,7 +4,7 @@ ghost use Rattle.demands.specs.Demands.{Judges};
 ghost use Rattle.code_check.specs.Destinations.{block_named, entry_takes, takes_no_exception, exceptional_demands, normal_demands, block_number, target_of, optional_normal_demands, optional_exceptional_demands, optional_target, keepalive_demands, keepalive_numbers, entered_demands, entered_code};
 
 use crate::code::{Entered, Target};
-use crate::operands::{arguments, demand, kept, operand, value_types};
+use crate::operands::{arguments, demand, kept, thrown, value_types};
 use crate::scopes::{Body, Locals};
 use check_tables::{CheckFault, CheckKind, Tables};
 use ir_lex::Name;
@@ -141,9 +141,7 @@ pub fn entered(
             Ok(Entered::Values { classes, values })
         }
         NewStackClause::ThrowExc { exception } => {
-            let wanted = Some(tables.types.ref_void());
-            let exception = operand(tables, locals, CheckKind::OperandType, exception, wanted)?;
-            Ok(Entered::Exception(exception))
+            Ok(Entered::Exception(thrown(tables, locals, exception)?))
         }
     }
 }

@@ -2,7 +2,8 @@
 ghost use Rattle.std.specs.Prelude.{◌≡◌, Some, is_some, length, option_copied, IfOk};
 ghost use Rattle.demands.specs.Demands.{Judges, Meets, demand};
 ghost use Rattle.demands.specs.Names.{found};
-ghost use Rattle.check_tables.specs.declared.fault.CheckKind.TheVariants.{NotLocal};
+ghost use Rattle.check_tables.specs.declared.fault.CheckKind.TheVariants.{NotLocal, OperandType};
+ghost use Rattle.check_tables.specs.Types.{ref_void};
 ghost use Rattle.check_tables.specs.Lookups.{noted_class, definition_named};
 ghost use Rattle.check_tables.specs.TypeTests.{is_int};
 ghost use Rattle.code_check.specs.Operands.{is_class, operand_demands, of_type, member_demands, argument_demands, type_demand, value_type_demand, value_type_demands, noted_list, variable_demands, global_source, source_of, sources_of, numbers_in};
@@ -103,6 +104,14 @@ pub fn of_type(
         given,
         tables.class_named(name),
     )
+}
+
+/// An operand that is an exception: a reference to an object of type void.
+pub fn thrown(tables: &Tables, locals: &Locals, exception: &Operand) -> Result<Source, CheckFault>
+    ensures { Judges (operand_demands tables.now locals.now OperandType exception.now (Some (ref_void tables.now.types))) (source_of tables.now locals.now exception.now) result }
+{
+    let wanted = Some(tables.types.ref_void());
+    operand(tables, locals, CheckKind::OperandType, exception, wanted)
 }
 
 /// Operands of these classes.
