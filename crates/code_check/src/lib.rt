@@ -1,18 +1,26 @@
 //! The demands on instructions, and code with numbers in place of names.
 #![tactic(auto)]
 
+mod accesses;
+mod binding;
+mod clauses;
 mod code;
+mod commons;
 mod computations;
 mod control;
 mod destinations;
 mod gifts;
+mod instructions;
 mod objects;
 mod operands;
 mod scopes;
+mod stacks;
 
+pub use binding::bind;
 pub use code::{
     AccessForm, AddressingForm, AllocationForm, CaseForm, Code, CommonForm, ComputationForm,
     ControlForm, Entered, Form, Source, SwitchForm, Target, TrappingForm,
 };
 pub use gifts::Gift;
+pub use instructions::insts;
 pub use scopes::{BlockEntry, Body, Locals, Variable};

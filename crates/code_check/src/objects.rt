@@ -1,13 +1,13 @@
 // Instructions that make objects, and those that find places in them.
 ghost use Rattle.std.specs.Prelude.{◌≡◌, None};
 ghost use Rattle.demands.specs.Demands.{Judges};
-ghost use Rattle.ir_tree.specs.declared.allocating.Allocation.TheVariants as makings;
-ghost use Rattle.ir_tree.specs.declared.addressing.Addressing.TheVariants as findings;
+ghost use Rattle.ir_tree.specs.declared.allocating.Allocation.TheVariants as allocations;
+ghost use Rattle.ir_tree.specs.declared.addressing.Addressing.TheVariants as addressings;
 ghost use Rattle.check_tables.specs.Types.{iref_in};
-ghost use Rattle.check_tables.specs.Lookups.{or_zero};
-ghost use Rattle.code_check.specs.Operands.{source_of};
+ghost use Rattle.check_tables.specs.Lookups.{noted_class, or_zero};
+ghost use Rattle.code_check.specs.Operands.{type_demand, source_of};
 ghost use Rattle.code_check.specs.Gifts.{listed};
-ghost use Rattle.code_check.specs.Objects.{allocation_demands, allocation_gives, allocation_code, place_of_type, object_of_type, fixed_field_named, addressing_demands, addressing_gives, addressing_code};
+ghost use Rattle.code_check.specs.Objects.{allocation_demands, allocation_gives, allocation_code, place_of_type, object_of_type, addressing_demands, addressing_gives, addressing_code, fixed_field_named};
 
 use crate::code::{AddressingForm, AllocationForm, Source};
 use crate::gifts::{Gift, or_zero};
@@ -17,21 +17,31 @@ use check_tables::{CheckFault, CheckKind, Tables, fault_at};
 use ir_lex::{Name, Numeral};
 use ir_tree::{Addressing, Allocation, Operand};
 
-/// `NEWHYBRID`.
+/// A type that passes a test.
+pub fn tested_type(tables: &Tables, name: &Name, met: bool) -> Result<u32, CheckFault>
+    ensures { Judges (type_demand name.now met) (noted_class tables.now name.now) result }
+{
+    type_demand(name, met)?;
+    Ok(tables.noted_class(name))
+}
+
+// ---- making
+
+/// `NEWHYBRID`, whatever stands behind it.
 fn newhybrid(
     tables: &Tables,
     locals: &Locals,
-    name: &Name,
+    hybrid: &Name,
     length_type: &Name,
     length: &Operand,
 ) -> Result<AllocationForm, CheckFault>
-    ensures { Judges (allocation_demands tables.now locals.now (makings.Newhybrid name.now length_type.now length.now None)) (allocation_code tables.now locals.now (makings.Newhybrid name.now length_type.now length.now None)) result }
+    ensures { Judges (allocation_demands tables.now locals.now (allocations.Newhybrid hybrid.now length_type.now length.now None)) (allocation_code tables.now locals.now (allocations.Newhybrid hybrid.now length_type.now length.now None)) result }
 {
-    type_demand(name, tables.is_hybrid(name))?;
+    let class = tested_type(tables, hybrid, tables.is_hybrid(hybrid))?;
     let length_class = int_type(tables, length_type)?;
     let length = of_type(tables, locals, length, length_type)?;
     Ok(AllocationForm::Newhybrid {
-        class: tables.noted_class(name),
+        class,
         length_class,
         length,
     })
@@ -46,29 +56,23 @@ pub fn allocation(
     ensures { Judges (allocation_demands tables.now locals.now allocation.now) (allocation_code tables.now locals.now allocation.now) result }
 {
     match allocation {
-        Allocation::New { of_type, .. } => {
-            type_demand(of_type, tables.is_no_hybrid(of_type))?;
-            Ok(AllocationForm::New {
-                class: tables.noted_class(of_type),
-            })
-        }
+        Allocation::New { of_type, .. } => Ok(AllocationForm::New {
+            class: tested_type(tables, of_type, tables.is_no_hybrid(of_type))?,
+        }),
         Allocation::Newhybrid {
             of_type,
             length_type,
             length,
             ..
         } => newhybrid(tables, locals, of_type, length_type, length),
-        Allocation::Alloca { of_type, .. } => {
-            type_demand(of_type, tables.is_no_hybrid(of_type))?;
-            Ok(AllocationForm::Alloca {
-                class: tables.noted_class(of_type),
-            })
-        }
+        Allocation::Alloca { of_type, .. } => Ok(AllocationForm::Alloca {
+            class: tested_type(tables, of_type, tables.is_no_hybrid(of_type))?,
+        }),
     }
 }
 
-/// What such an instruction gives.
-pub fn allocation_gift<'a>(tables: &'a Tables, allocation: &'a Allocation) -> Gift<'a>
+/// What an instruction gives that makes an object.
+pub fn allocation_gift<'a>(tables: &'a Tables, allocation: &Allocation) -> Gift<'a>
     ensures { listed tables.now result ≡ allocation_gives tables.now allocation.now }
 {
     match allocation {
@@ -79,71 +83,72 @@ pub fn allocation_gift<'a>(tables: &'a Tables, allocation: &'a Allocation) -> Gi
     }
 }
 
-/// An operand that is a reference to a place of the type with this name.
+// ---- finding
+
+/// A reference to a place of the type with this name.
 pub fn place_of_type(
     tables: &Tables,
     locals: &Locals,
-    location: &Operand,
+    given: &Operand,
     name: &Name,
 ) -> Result<Source, CheckFault>
-    ensures { Judges (place_of_type tables.now locals.now location.now name.now) (source_of tables.now locals.now location.now) result }
+    ensures { Judges (place_of_type tables.now locals.now given.now name.now) (source_of tables.now locals.now given.now) result }
 {
     let wanted = tables.iref_named(name);
-    operand(tables, locals, CheckKind::OperandType, location, wanted)
+    operand(tables, locals, CheckKind::OperandType, given, wanted)
 }
 
-/// An operand that is a reference to an object of the type with this name.
+/// A reference to an object of the type with this name.
 fn object_of_type(
     tables: &Tables,
     locals: &Locals,
-    reference: &Operand,
+    given: &Operand,
     name: &Name,
 ) -> Result<Source, CheckFault>
-    ensures { Judges (object_of_type tables.now locals.now reference.now name.now) (source_of tables.now locals.now reference.now) result }
+    ensures { Judges (object_of_type tables.now locals.now given.now name.now) (source_of tables.now locals.now given.now) result }
 {
     let wanted = tables.ref_named(name);
-    operand(tables, locals, CheckKind::OperandType, reference, wanted)
+    operand(tables, locals, CheckKind::OperandType, given, wanted)
 }
 
-/// `GETIREF`.
+/// `GETIREF`
 fn getiref(
     tables: &Tables,
     locals: &Locals,
     name: &Name,
     reference: &Operand,
 ) -> Result<AddressingForm, CheckFault>
-    ensures { Judges (addressing_demands tables.now locals.now (findings.Getiref name.now reference.now)) (addressing_code tables.now locals.now (findings.Getiref name.now reference.now)) result }
+    ensures { Judges (addressing_demands tables.now locals.now (addressings.Getiref name.now reference.now)) (addressing_code tables.now locals.now (addressings.Getiref name.now reference.now)) result }
 {
-    let reference = object_of_type(tables, locals, reference, name)?;
     Ok(AddressingForm::Getiref {
         class: tables.noted_class(name),
-        reference,
+        reference: object_of_type(tables, locals, reference, name)?,
     })
 }
 
-/// `GETFIELDIREF`.
+/// `GETFIELDIREF`
 fn getfieldiref(
     tables: &Tables,
     locals: &Locals,
     name: &Name,
-    number: Numeral,
+    field: Numeral,
     location: &Operand,
 ) -> Result<AddressingForm, CheckFault>
-    ensures { Judges (addressing_demands tables.now locals.now (findings.Getfieldiref name.now number location.now)) (addressing_code tables.now locals.now (findings.Getfieldiref name.now number location.now)) result }
+    ensures { Judges (addressing_demands tables.now locals.now (addressings.Getfieldiref name.now field location.now)) (addressing_code tables.now locals.now (addressings.Getfieldiref name.now field location.now)) result }
 {
-    type_demand(name, tables.has_fields(name))?;
-    let Some(field) = tables.fixed_field(name, number.number) else {
-        return Err(fault_at(CheckKind::BadIndex, number.place));
+    let class = tested_type(tables, name, tables.has_fields(name))?;
+    let Some(found) = tables.fixed_field(name, field.number) else {
+        return Err(fault_at(CheckKind::BadIndex, field.place));
     };
     let location = place_of_type(tables, locals, location, name)?;
     Ok(AddressingForm::Getfieldiref {
-        class: tables.noted_class(name),
-        field: field.number,
+        class,
+        field: found.number,
         location,
     })
 }
 
-/// `GETELEMIREF`.
+/// `GETELEMIREF`
 fn getelemiref(
     tables: &Tables,
     locals: &Locals,
@@ -152,21 +157,21 @@ fn getelemiref(
     location: &Operand,
     index: &Operand,
 ) -> Result<AddressingForm, CheckFault>
-    ensures { Judges (addressing_demands tables.now locals.now (findings.Getelemiref name.now index_type.now location.now index.now)) (addressing_code tables.now locals.now (findings.Getelemiref name.now index_type.now location.now index.now)) result }
+    ensures { Judges (addressing_demands tables.now locals.now (addressings.Getelemiref name.now index_type.now location.now index.now)) (addressing_code tables.now locals.now (addressings.Getelemiref name.now index_type.now location.now index.now)) result }
 {
-    type_demand(name, tables.element(name).is_some())?;
+    let class = tested_type(tables, name, tables.element(name).is_some())?;
     let index_class = int_type(tables, index_type)?;
     let location = place_of_type(tables, locals, location, name)?;
     let index = of_type(tables, locals, index, index_type)?;
     Ok(AddressingForm::Getelemiref {
-        class: tables.noted_class(name),
+        class,
         index_class,
         location,
         index,
     })
 }
 
-/// `SHIFTIREF`.
+/// `SHIFTIREF`
 fn shiftiref(
     tables: &Tables,
     locals: &Locals,
@@ -175,35 +180,32 @@ fn shiftiref(
     location: &Operand,
     offset: &Operand,
 ) -> Result<AddressingForm, CheckFault>
-    ensures { Judges (addressing_demands tables.now locals.now (findings.Shiftiref name.now offset_type.now location.now offset.now)) (addressing_code tables.now locals.now (findings.Shiftiref name.now offset_type.now location.now offset.now)) result }
+    ensures { Judges (addressing_demands tables.now locals.now (addressings.Shiftiref name.now offset_type.now location.now offset.now)) (addressing_code tables.now locals.now (addressings.Shiftiref name.now offset_type.now location.now offset.now)) result }
 {
-    type_demand(name, tables.is_sized(name))?;
+    let class = tested_type(tables, name, tables.is_sized(name))?;
     let offset_class = int_type(tables, offset_type)?;
     let location = place_of_type(tables, locals, location, name)?;
     let offset = of_type(tables, locals, offset, offset_type)?;
     Ok(AddressingForm::Shiftiref {
-        class: tables.noted_class(name),
+        class,
         offset_class,
         location,
         offset,
     })
 }
 
-/// `GETVARPARTIREF`.
+/// `GETVARPARTIREF`
 fn getvarpartiref(
     tables: &Tables,
     locals: &Locals,
-    name: &Name,
+    hybrid: &Name,
     location: &Operand,
 ) -> Result<AddressingForm, CheckFault>
-    ensures { Judges (addressing_demands tables.now locals.now (findings.Getvarpartiref name.now location.now)) (addressing_code tables.now locals.now (findings.Getvarpartiref name.now location.now)) result }
+    ensures { Judges (addressing_demands tables.now locals.now (addressings.Getvarpartiref hybrid.now location.now)) (addressing_code tables.now locals.now (addressings.Getvarpartiref hybrid.now location.now)) result }
 {
-    type_demand(name, tables.is_hybrid(name))?;
-    let location = place_of_type(tables, locals, location, name)?;
-    Ok(AddressingForm::Getvarpartiref {
-        class: tables.noted_class(name),
-        location,
-    })
+    let class = tested_type(tables, hybrid, tables.is_hybrid(hybrid))?;
+    let location = place_of_type(tables, locals, location, hybrid)?;
+    Ok(AddressingForm::Getvarpartiref { class, location })
 }
 
 /// An instruction that finds a place in an object.
@@ -239,28 +241,28 @@ pub fn addressing(
     }
 }
 
-/// The class of the references to places of the type under a number, and 0 where there is no such type.
-fn noted_iref(tables: &Tables, t: Option<u32>) -> u32
-    ensures { result ≡ or_zero (iref_in tables.now.types t) }
+/// The class of the references to places of a type, where there is one, and 0 where there is none.
+fn noted_iref(tables: &Tables, of_type: Option<u32>) -> u32
+    ensures { result ≡ or_zero (iref_in tables.now.types of_type) }
 {
-    match t {
-        Some(t) => or_zero(tables.types.iref_to(t)),
+    match of_type {
+        Some(of_type) => or_zero(tables.types.iref_to(of_type)),
         None => 0,
     }
 }
 
-/// The class of the references to a field, and 0 where there is no such field.
-fn noted_field(tables: &Tables, name: &Name, number: Numeral) -> u32
-    ensures { result ≡ or_zero (iref_in tables.now.types (fixed_field_named tables.now name.now number)) }
+/// The type of a field of the struct, or of a fixed field of the hybrid, that a name stands for.
+fn type_of_fixed_field(tables: &Tables, name: &Name, field: Numeral) -> Option<u32>
+    ensures { result ≡ fixed_field_named tables.now name.now field }
 {
-    match tables.fixed_field(name, number.number) {
-        Some(field) => or_zero(tables.types.iref_to(field.of_type)),
-        None => 0,
+    match tables.fixed_field(name, field.number) {
+        Some(field) => Some(field.of_type),
+        None => None,
     }
 }
 
-/// What such an instruction gives.
-pub fn addressing_gift<'a>(tables: &'a Tables, addressing: &'a Addressing) -> Gift<'a>
+/// What an instruction gives that finds a place in an object.
+pub fn addressing_gift<'a>(tables: &'a Tables, addressing: &Addressing) -> Gift<'a>
     ensures { listed tables.now result ≡ addressing_gives tables.now addressing.now }
 {
     match addressing {
@@ -268,7 +270,8 @@ pub fn addressing_gift<'a>(tables: &'a Tables, addressing: &'a Addressing) -> Gi
             Gift::One(or_zero(tables.iref_named(of_type)))
         }
         Addressing::Getfieldiref { of_type, field, .. } => {
-            Gift::One(noted_field(tables, of_type, *field))
+            let found = type_of_fixed_field(tables, of_type, *field);
+            Gift::One(noted_iref(tables, found))
         }
         Addressing::Getelemiref { of_type, .. } => {
             Gift::One(noted_iref(tables, tables.element(of_type)))
