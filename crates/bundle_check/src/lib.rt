@@ -1,10 +1,12 @@
 //! Checking of bundles.
 #![tactic(auto)]
 
+mod blocks;
 mod bodies;
 mod checked;
 mod code;
 mod fault;
+mod functions;
 mod numbering;
 
 pub use checked::Checked;

@@ -75,7 +75,7 @@ fn cases(
 }
 
 /// Whether these are the classes that are wanted.
-fn are_classes(classes: &[u32], wanted: &[u32]) -> bool
+pub fn are_classes(classes: &[u32], wanted: &[u32]) -> bool
     ensures { result ≡ are_classes classes.now wanted.now }
 {
     let mut left = classes;

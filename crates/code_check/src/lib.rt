@@ -21,6 +21,8 @@ pub use code::{
     AccessForm, AddressingForm, AllocationForm, CaseForm, Code, CommonForm, ComputationForm,
     ControlForm, Entered, Form, Source, SwitchForm, Target, TrappingForm,
 };
+pub use control::are_classes;
 pub use gifts::Gift;
 pub use instructions::insts;
+pub use operands::{demand, is_class, value_type};
 pub use scopes::{BlockEntry, Body, Locals, Variable};
