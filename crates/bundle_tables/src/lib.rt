@@ -3,3 +3,4 @@
 
 mod entries;
 mod numbers;
+mod rules;
