@@ -34,11 +34,19 @@ references_from_bare t (d ∷ ds) =
     ∙ ap (λ (r : List TypeDef). r ++ map bare (references_from (suc t) ds)) (references_bare t d)
     ∙ ap (λ (r : List TypeDef). references t (bare d) ++ r) (references_from_bare (suc t) ds)
 
+void_bare : (g : List TypeDef) → map bare (references_from 0 (g ++ Void ∷ [])) ≡ references_from 0 (map bare g ++ Void ∷ [])
+void_bare g = references_from_bare 0 (g ++ Void ∷ []) ∙ ap (references_from 0) (map-append bare g (Void ∷ []))
+
+front_bare : (g : List TypeDef) → map bare (g ++ Void ∷ [] ++ Int 1 ∷ Int 32 ∷ StackRef ∷ ThreadRef ∷ []) ≡ map bare g ++ Void ∷ [] ++ Int 1 ∷ Int 32 ∷ StackRef ∷ ThreadRef ∷ []
+front_bare g =
+    map-append bare (g ++ Void ∷ []) (Int 1 ∷ Int 32 ∷ StackRef ∷ ThreadRef ∷ [])
+    ∙ ap (λ (r : List TypeDef). r ++ Int 1 ∷ Int 32 ∷ StackRef ∷ ThreadRef ∷ []) (map-append bare g (Void ∷ []))
+
 pub complete_bare : (g : List TypeDef) → map bare (complete g) ≡ complete (map bare g)
 complete_bare g =
-    map-append bare g (Void ∷ [] ++ Int 1 ∷ Int 32 ∷ StackRef ∷ ThreadRef ∷ [] ++ references_from 0 (g ++ Void ∷ []))
-    ∙ ap (λ (r : List TypeDef). map bare g ++ Void ∷ [] ++ Int 1 ∷ Int 32 ∷ StackRef ∷ ThreadRef ∷ [] ++ r)
-    (references_from_bare 0 (g ++ Void ∷ []) ∙ ap (references_from 0) (map-append bare g (Void ∷ [])))
+    map-append bare (g ++ Void ∷ [] ++ Int 1 ∷ Int 32 ∷ StackRef ∷ ThreadRef ∷ []) (references_from 0 (g ++ Void ∷ []))
+    ∙ ap (λ (r : List TypeDef). r ++ map bare (references_from 0 (g ++ Void ∷ []))) (front_bare g)
+    ∙ ap (λ (r : List TypeDef). map bare g ++ Void ∷ [] ++ Int 1 ∷ Int 32 ∷ StackRef ∷ ThreadRef ∷ [] ++ r) (void_bare g)
 
 -- ---- tests
 
@@ -148,7 +156,9 @@ many_bare g ps t = rw (leaves_bare g t, place_bare ps t 0) refl
 
 pub passes_bare : (g : List TypeDef) (ps : List (Roomy ℕ)) (many : ℕ) → passes (map bare g) (map bare_ids ps) many ≡ passes g ps many
 passes_bare g ps many =
-    rw (each_same (wrong_arguments (map bare g) (map bare_ids ps)) (wrong_arguments g ps) (wrong_bare g ps) many 0,
+    rw (
+      each_same (wrong_arguments (map bare g) (map bare_ids ps)) (wrong_arguments g ps) (wrong_bare g ps) many 0,
       each_same (endless_type (map bare g) (map bare_ids ps)) (endless_type g ps) (endless_bare g ps) many 0,
-      each_same (too_many_leaves (map bare g) (map bare_ids ps)) (too_many_leaves g ps) (many_bare g ps) many 0)
+      each_same (too_many_leaves (map bare g) (map bare_ids ps)) (too_many_leaves g ps) (many_bare g ps) many 0,
+    )
     refl

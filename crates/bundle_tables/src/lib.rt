@@ -2,5 +2,6 @@
 #![tactic(auto)]
 
 mod entries;
+mod graph;
 mod numbers;
 mod rules;

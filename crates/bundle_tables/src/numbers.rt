@@ -1,8 +1,8 @@
 // What global names are the numbers of.
-ghost use Rattle.std.specs.Prelude.{◌≡◌, IfOk};
+ghost use Rattle.std.specs.Prelude.{◌≡◌, ◌+◌, ◌<◌, IfOk};
 ghost use Rattle.demands.specs.Names.{found};
 ghost use Rattle.check_tables.specs.Lookups.{written_number, signature_number, or_zero};
-ghost use Rattle.bundle_tables.specs.Graph.{within, type_id, signature_id};
+ghost use Rattle.bundle_tables.specs.Graph.{type_id, signature_id};
 
 use bundle_names::{Globals, Sort};
 use ir_lex::Name;
@@ -38,30 +38,27 @@ pub fn or_zero(number: Option<u32>) -> u32
     }
 }
 
-/// The number where there is one and it is below that many, else 0.
-pub fn within(many: u32, number: Option<u32>) -> u32
-    ensures { result ≡ within many number }
+/// The id of the type with this name. Where nothing has it, which the names of a bundle rule out, the answer is want of memory.
+pub fn type_id(globals: &Globals, name: &Name) -> Result<u32, AllocError>
+    ensures same { IfOk result (λ id. id ≡ type_id globals.now name.now) }
+    ensures below { IfOk result (λ id. id < globals.now.counts.written) }
 {
-    match number {
-        Some(n) => if n < many { n } else { 0 },
-        None => 0,
+    match written_number(globals, name) {
+        Some(id) if id < globals.counts.written => Ok(id),
+        _ => Err(AllocError),
     }
 }
 
-/// The id of the type with this name.
-pub fn type_id(globals: &Globals, name: &Name) -> u32
-    ensures { result ≡ type_id globals.now name.now }
-{
-    within(globals.counts.written, written_number(globals, name))
-}
-
-/// The id of the signature with this name: signatures stand behind all types. Past 2^32 - 1 the answer is want of memory.
+/// The id of the signature with this name: signatures stand behind all types. Where nothing has the name, which the names of a
+/// bundle rule out, and past 2^32 - 1 the answer is want of memory.
 pub fn signature_id(globals: &Globals, name: &Name) -> Result<u32, AllocError>
-    ensures { IfOk result (λ id. id ≡ signature_id globals.now name.now) }
+    ensures same { IfOk result (λ id. id ≡ signature_id globals.now name.now) }
+    ensures below { IfOk result (λ id. id < globals.now.counts.written + globals.now.counts.signatures) }
 {
-    let number = within(globals.counts.signatures, signature_number(globals, name));
-    match globals.counts.written.checked_add(number) {
-        Some(id) => Ok(id),
-        None => Err(AllocError),
+    match signature_number(globals, name) {
+        Some(number) if number < globals.counts.signatures => {
+            globals.counts.written.checked_add(number).ok_or(AllocError)
+        }
+        _ => Err(AllocError),
     }
 }
