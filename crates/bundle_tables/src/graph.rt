@@ -1,9 +1,13 @@
 // The graph of the types and signatures of a bundle: types stand there first, then signatures, each in text order.
-ghost use Rattle.std.specs.Prelude.{◌≡◌, ◌+◌, ◌-◌, ◌*◌, ◌^◌, ◌<◌, ◌≤◌, [], ◌∷◌, ◌++◌, length, map, IfOk, OnOk};
+ghost use Rattle.std.specs.Prelude.{◌≡◌, ℕ, ◌+◌, ◌-◌, ◌^◌, ◌<◌, ◌≤◌, [], ◌∷◌, ◌++◌, length, map, IfOk, OnOk};
 ghost use Rattle.std.specs.List.{All};
+ghost use Rattle.type_laws.specs.declared.definition.TypeDef.TheVariants.{Sig};
 ghost use Rattle.type_laws.specs.Definition.{arguments};
+ghost use Rattle.type_laws.specs.Same.{IsGraph};
+ghost use Rattle.bundle_names.specs.Globals.{globals_of};
 ghost use Rattle.check_tables.specs.Bare.{bare, ids};
-ghost use Rattle.bundle_tables.specs.Graph.{size_of, type_ids, type_definition, places_of_names, argument_places};
+ghost use Rattle.bundle_tables.specs.Graph.{size_of, type_ids, type_definition, types_of, signatures_of, graph_of, places_of_names, argument_places, type_places, signature_places, places_of};
+ghost use Rattle.bundle_tables.specs.Inner.{bare_ids, AllBelow};
 
 use crate::numbers::{signature_id, type_id};
 use bundle_names::Globals;
@@ -122,4 +126,92 @@ fn type_definition(alloc: Global, globals: &Globals, form: &TypeForm) -> Result<
         TypeForm::Stackref => TypeDef::StackRef,
         TypeForm::Threadref => TypeDef::ThreadRef,
     })
+}
+
+fn add(graph: &mut TypeGraph, definition: TypeDef, places: Ids) -> Result<(), AllocError>
+    requires { length graph.old.definitions + 1 < 2 ^ 32 - 1 }
+    ensures definitions { OnOk result (map bare graph.new.definitions ≡ map bare graph.old.definitions ++ bare definition ∷ []) }
+    ensures places { OnOk result (map bare_ids graph.new.places ≡ map bare_ids graph.old.places ++ ids places.members ∷ []) }
+    ensures below { OnOk result ((many : ℕ) → AllBelow many graph.old.definitions → All (λ n. n < many) (arguments definition) → AllBelow many graph.new.definitions) }
+    ensures count { OnOk result (length graph.new.definitions ≡ length graph.old.definitions + 1) }
+{
+    graph.add(definition, places)?;
+    Ok(())
+}
+
+fn add_types(
+    alloc: Global,
+    globals: &Globals,
+    graph: &mut TypeGraph,
+    items: &[Item],
+) -> Result<(), AllocError>
+    requires { length graph.old.definitions + length items.now < 2 ^ 32 - 1 }
+    ensures definitions { OnOk result (map bare graph.new.definitions ≡ map bare graph.old.definitions ++ types_of globals.now items.now) }
+    ensures places { OnOk result (map bare_ids graph.new.places ≡ map bare_ids graph.old.places ++ type_places items.now) }
+    ensures below { OnOk result (AllBelow (globals.now.counts.written + globals.now.counts.signatures) graph.old.definitions → AllBelow (globals.now.counts.written + globals.now.counts.signatures) graph.new.definitions) }
+    ensures count { OnOk result (length graph.new.definitions ≤ length graph.old.definitions + length items.now) }
+{
+    let mut left = items;
+    'each: while let [first, more @ ..] = left {
+        if let Item::Typedef(item) = first {
+            let definition = type_definition(alloc, globals, &item.form)?;
+            add(graph, definition, type_places(alloc, item)?)?;
+        }
+        left = more;
+    }
+    Ok(())
+}
+
+fn signature_definition(
+    alloc: Global,
+    globals: &Globals,
+    item: &Funcsig,
+) -> Result<TypeDef, AllocError>
+    ensures same { IfOk result (λ definition. bare definition ≡ Sig (ids (type_ids globals.now item.now.takes)) (ids (type_ids globals.now item.now.gives))) }
+    ensures below { IfOk result (λ definition. All (λ n. n < globals.now.counts.written + globals.now.counts.signatures) (arguments definition)) }
+{
+    Ok(TypeDef::Sig {
+        takes: type_ids(alloc, globals, item.takes.as_slice())?,
+        gives: type_ids(alloc, globals, item.gives.as_slice())?,
+    })
+}
+
+fn add_signatures(
+    alloc: Global,
+    globals: &Globals,
+    graph: &mut TypeGraph,
+    items: &[Item],
+) -> Result<(), AllocError>
+    requires { length graph.old.definitions + length items.now < 2 ^ 32 - 1 }
+    ensures definitions { OnOk result (map bare graph.new.definitions ≡ map bare graph.old.definitions ++ signatures_of globals.now items.now) }
+    ensures places { OnOk result (map bare_ids graph.new.places ≡ map bare_ids graph.old.places ++ signature_places items.now) }
+    ensures below { OnOk result (AllBelow (globals.now.counts.written + globals.now.counts.signatures) graph.old.definitions → AllBelow (globals.now.counts.written + globals.now.counts.signatures) graph.new.definitions) }
+    ensures count { OnOk result (length graph.new.definitions ≤ length graph.old.definitions + length items.now) }
+{
+    let mut left = items;
+    'each: while let [first, more @ ..] = left {
+        if let Item::Funcsig(item) = first {
+            let definition = signature_definition(alloc, globals, item)?;
+            add(graph, definition, signature_places(alloc, item)?)?;
+        }
+        left = more;
+    }
+    Ok(())
+}
+
+/// The graph of the types and signatures of a bundle. Past 5 * 10^8 items the answer is want of memory.
+pub fn graph(alloc: Global, globals: &Globals, items: &[Item]) -> Result<TypeGraph, AllocError>
+    requires { globals.now ≡ globals_of items.now }
+    ensures definitions { IfOk result (λ graph. map bare graph.definitions ≡ graph_of globals.now items.now) }
+    ensures places { IfOk result (λ graph. map bare_ids graph.places ≡ places_of items.now) }
+    ensures closed { IfOk result (λ graph. IsGraph graph.definitions) }
+    ensures few { IfOk result (λ graph. length graph.definitions ≤ 1000000000) }
+{
+    if items.len() > MOST_ITEMS {
+        return Err(AllocError);
+    }
+    let mut graph = TypeGraph::new(alloc);
+    add_types(alloc, globals, &mut graph, items)?;
+    add_signatures(alloc, globals, &mut graph, items)?;
+    Ok(graph)
 }

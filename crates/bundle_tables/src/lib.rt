@@ -5,3 +5,4 @@ mod entries;
 mod graph;
 mod numbers;
 mod rules;
+mod types;
