@@ -1,14 +1,17 @@
 -- The counts of names are the numbers of items.
-use Rattle.std.proofs.Common.{◌≡◌, ℕ, ◌+◌, List, [], ◌∷◌, ◌++◌, length, map, refl, sym, ◌∙◌, ap, arith, rules}
+use Rattle.std.proofs.Common.{◌≡◌, ℕ, ◌+◌, ◌≤◌, List, [], ◌∷◌, ◌++◌, length, map, refl, sym, ◌∙◌, ap, arith, rules}
 use Rattle.std.proofs.lemmas.List.{length-map, length-append}
 use Rattle.ir_tree.specs.declared.items.Item.{Item}
 use Rattle.ir_tree.specs.declared.items.Item.TheVariants as items
 use Rattle.type_laws.specs.declared.definition.TypeDef.{TypeDef}
+use Rattle.type_laws.specs.declared.definition.TypeDef.TheVariants.{Int, Void, StackRef, ThreadRef}
 use Rattle.type_laws.specs.Same.{IsGraph}
+use Rattle.mu_types.specs.Graph.{Table}
+use Rattle.mu_types.specs.Implied.{complete, references_from}
 use Rattle.bundle_names.specs.declared.globals.Globals.{Globals}
 use Rattle.bundle_names.specs.Globals.{with_item, with_items, no_globals, globals_of}
 use Rattle.check_tables.specs.Bare.{bare}
-use Rattle.bundle_tables.specs.Graph.{types_of, signatures_of, graph_of}
+use Rattle.bundle_tables.specs.Graph.{types_of, signatures_of, graph_of, table_of}
 use Rattle.bundle_tables.specs.Rules.{constant_types}
 use Rattle.bundle_tables.specs.Inner.{AllBelow}
 
@@ -54,6 +57,17 @@ graph_counted g is e =
     ap (λ (n : ℕ). n + g.counts.signatures) types
     ∙ ap (λ (n : ℕ). length (types_of g is) + n) signatures
     ∙ sym (length-append (types_of g is) (signatures_of g is))
+
+complete_longer : (ds : List TypeDef) → length ds ≤ length (complete ds)
+complete_longer ds =
+    let front : length (ds ++ Void ∷ [] ++ Int 1 ∷ Int 32 ∷ StackRef ∷ ThreadRef ∷ []) ≡ length (ds ++ Void ∷ []) + 4 = length-append (ds ++ Void ∷ []) (Int 1 ∷ Int 32 ∷ StackRef ∷ ThreadRef ∷ []) in
+    omega (arith, front, length-append ds (Void ∷ []), length-append (ds ++ Void ∷ [] ++ Int 1 ∷ Int 32 ∷ StackRef ∷ ThreadRef ∷ []) (references_from 0 (ds ++ Void ∷ [])))
+
+-- the types are numbered within the table
+pub written_within : (g : Globals) (is : List Item) (p : Table) → p ≡ table_of g is → g ≡ globals_of is → g.counts.written ≤ length p.definitions
+written_within g is p f e =
+    let same : length p.definitions ≡ length (complete (graph_of g is)) = ap (λ (q : Table). length q.definitions) f in
+    omega (arith, same, graph_counted g is e, complete_longer (graph_of g is))
 
 pub is_graph : (g : Globals) (is : List Item) (ds : List TypeDef) → g ≡ globals_of is → map bare ds ≡ graph_of g is → AllBelow (g.counts.written + g.counts.signatures) ds → IsGraph ds
 is_graph g is ds e same below =

@@ -243,7 +243,9 @@ pub fn entries(
     items: &[Item],
 ) -> Result<Tables, AllocError>
     requires { types ≡ table_of globals items.now }
-    ensures { IfOk result (λ tables. tables ≡ tables_of globals items.now) }
+    ensures made { IfOk result (λ tables. tables ≡ tables_of globals items.now) }
+    ensures types { IfOk result (λ tables. tables.types ≡ types) }
+    ensures globals { IfOk result (λ tables. tables.globals ≡ globals) }
 {
     let signatures = signature_entries(alloc, &types, &globals, items)?;
     let constants = constant_entries(alloc, &types, &globals, items)?;

@@ -30,7 +30,7 @@ fn add_place(places: &mut Ids, place: usize) -> Result<(), AllocError>
     }
 }
 
-pub fn add_places_of_names(places: &mut Ids, names: &[Name]) -> Result<(), AllocError>
+fn add_places_of_names(places: &mut Ids, names: &[Name]) -> Result<(), AllocError>
     ensures { OnOk result (places.new.members ≡ places.old.members ++ places_of_names names.now) }
 {
     let mut left = names;
@@ -39,6 +39,15 @@ pub fn add_places_of_names(places: &mut Ids, names: &[Name]) -> Result<(), Alloc
         left = more;
     }
     Ok(())
+}
+
+/// The places of names.
+pub fn places_of_names(alloc: Global, names: &[Name]) -> Result<Ids, AllocError>
+    ensures { IfOk result (λ places. places.members ≡ places_of_names names.now) }
+{
+    let mut places = Ids::new(alloc);
+    add_places_of_names(&mut places, names)?;
+    Ok(places)
 }
 
 fn add_argument_places(places: &mut Ids, form: &TypeForm) -> Result<(), AllocError>

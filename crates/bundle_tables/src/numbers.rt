@@ -3,6 +3,7 @@ ghost use Rattle.std.specs.Prelude.{◌≡◌, ◌+◌, ◌<◌, IfOk};
 ghost use Rattle.demands.specs.Names.{found};
 ghost use Rattle.check_tables.specs.Lookups.{written_number, signature_number, or_zero};
 ghost use Rattle.bundle_tables.specs.Graph.{type_id, signature_id};
+ghost use Rattle.bundle_tables.specs.Rules.{constant_number, constant_id};
 
 use bundle_names::{Globals, Sort};
 use ir_lex::Name;
@@ -24,6 +25,15 @@ pub fn signature_number(globals: &Globals, name: &Name) -> Option<u32>
 {
     match globals.names.find(name.text.as_slice()) {
         Some(Sort::Signature(n)) => Some(*n),
+        _ => None,
+    }
+}
+
+fn constant_number(globals: &Globals, name: &Name) -> Option<u32>
+    ensures { result ≡ constant_number (found globals.now.names name.now.text) }
+{
+    match globals.names.find(name.text.as_slice()) {
+        Some(Sort::Constant(n)) => Some(*n),
         _ => None,
     }
 }
@@ -59,6 +69,17 @@ pub fn signature_id(globals: &Globals, name: &Name) -> Result<u32, AllocError>
         Some(number) if number < globals.counts.signatures => {
             globals.counts.written.checked_add(number).ok_or(AllocError)
         }
+        _ => Err(AllocError),
+    }
+}
+
+/// The number of the constant with this name. Where nothing has it, which the names of a bundle rule out, the answer is want of memory.
+pub fn constant_id(globals: &Globals, name: &Name) -> Result<u32, AllocError>
+    ensures same { IfOk result (λ id. id ≡ constant_id globals.now name.now) }
+    ensures below { IfOk result (λ id. id < globals.now.counts.constants) }
+{
+    match constant_number(globals, name) {
+        Some(id) if id < globals.counts.constants => Ok(id),
         _ => Err(AllocError),
     }
 }
