@@ -1,3 +1,4 @@
 pub mod Graph
 pub mod Entries
 pub mod Rules
+pub mod Inner

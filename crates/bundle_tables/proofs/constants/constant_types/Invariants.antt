@@ -1,0 +1,13 @@
+use Rattle.std.proofs.Common.{◌≡◌, ◌++◌, ◌<◌, length, map}
+use Rattle.std.specs.List.{All}
+use Rattle.bundle_tables.specs.Rules.{constant_types}
+use Rattle.bundle_tables.proofs.constants.constant_types.Given as goal
+
+abbrev pub invariant-each : goal.invariant-each
+invariant-each l = record {
+  same : l.types.members ++ constant_types l.globals l.left ≡ constant_types l.globals l.fn.items;
+  below : All (λ t. t < l.globals.counts.written) l.types.members;
+}
+
+abbrev pub decreases-each : goal.decreases-each
+decreases-each l = length l.left

@@ -1,0 +1,48 @@
+-- Inner: what contracts inside the crate cite; no public one does, so no reader of those needs it.
+use Rattle.std.specs.List.{All}
+use Rattle.std.specs.Prelude.{ℕ, suc, ◌<◌, List, ◌∷◌, Option, Some, None}
+use Rattle.mu_base.specs.Lists.{Roomy}
+use Rattle.ir_tree.specs.declared.items.Item.{Item}
+use Rattle.bundle_names.specs.declared.globals.Globals.{Globals}
+use Rattle.type_laws.specs.declared.definition.TypeDef.{TypeDef}
+use Rattle.type_laws.specs.Definition.{arguments}
+use Rattle.demands.specs.declared.fault.Fault.{Fault}
+use Rattle.demands.specs.declared.fault.Fault.TheVariants as faults
+use Rattle.mu_types.specs.declared.faults.TypeKind.{TypeKind}
+use Rattle.mu_types.specs.declared.faults.TypeKind.TheVariants as kinds
+use Rattle.mu_values.specs.declared.literals.Literal.{Literal}
+use Rattle.mu_values.specs.declared.literals.LiteralKind.{LiteralKind}
+use Rattle.mu_values.specs.declared.literals.LiteralKind.TheVariants as literals
+use Rattle.check_tables.specs.declared.fault.CheckKind.{CheckKind}
+use Rattle.check_tables.specs.declared.fault.CheckKind.TheVariants.{Types}
+use Rattle.check_tables.specs.Bare.{ids}
+use Rattle.bundle_tables.specs.Entries.{function_entries}
+
+-- the signatures of the functions, where that of the first is told if there is one
+abbrev pub entered : Option ℕ → Globals → List ℕ → ℕ → List Item → List ℕ
+entered None g defined k is = function_entries g defined k is
+entered (Some s) g defined k is = s ∷ function_entries g defined (suc k) is
+
+-- a list without its room
+abbrev pub bare_ids : Roomy ℕ → Roomy ℕ
+bare_ids r = ids r.members
+
+-- each argument of each definition is below that number
+abbrev pub AllBelow : ℕ → List TypeDef → Type 0
+AllBelow many ds = All (λ d. All (λ n. n < many) (arguments d)) ds
+
+-- the fault of a graph as the fault of a bundle
+abbrev pub fault_of : TypeKind → ℕ → Fault CheckKind
+fault_of kinds.EndlessType place = faults.At (Types kinds.EndlessType) place
+fault_of kinds.WrongArgument place = faults.At (Types kinds.WrongArgument) place
+fault_of kinds.TooManyLeaves place = faults.At (Types kinds.TooManyLeaves) place
+fault_of kinds.Memory place = faults.Memory
+
+-- a literal whose lists have no room
+abbrev pub bare_kind : LiteralKind → LiteralKind
+bare_kind (literals.Number negative magnitude) = literals.Number negative magnitude
+bare_kind literals.Null = literals.Null
+bare_kind (literals.Members members places) = literals.Members (ids members.members) (ids places.members)
+
+abbrev pub bare_literal : Literal → Literal
+bare_literal l = record { place = l.place; kind = bare_kind l.kind }

@@ -1,0 +1,42 @@
+// The items of a bundle that are no functions are judged.
+ghost use Rattle.std.specs.Prelude.{◌≡◌};
+ghost use Rattle.demands.specs.Demands.{◌⨾◌, Judges, Meets};
+ghost use Rattle.bundle_names.specs.Globals.{globals_of};
+ghost use Rattle.bundle_tables.specs.Graph.{table_of};
+ghost use Rattle.bundle_tables.specs.Entries.{tables_of};
+ghost use Rattle.bundle_tables.specs.Rules.{constant_types, constants_demands, signatures_demands, globals_demands, item_demands};
+
+use crate::constants::{constant_types, judge_constants};
+use crate::entries::entries;
+use crate::rules::{judge_globals, judge_signatures};
+use crate::types::type_table;
+use bundle_names::Globals;
+use check_tables::{CheckFault, Tables};
+use ir_tree::Item;
+use std::alloc::Global;
+
+#[tactic(auto, using(crate::proofs::Counted::written_within, crate::proofs::Counted::constants_counted))]
+fn judge_others(alloc: Global, tables: &Tables, items: &[Item]) -> Result<(), CheckFault>
+    requires types { tables.now.types ≡ table_of tables.now.globals items.now }
+    requires globals { tables.now.globals ≡ globals_of items.now }
+    ensures { Meets (constants_demands tables.now (constant_types tables.now.globals items.now) items.now ⨾ signatures_demands tables.now items.now ⨾ globals_demands tables.now 0 items.now) result }
+{
+    let types = constant_types(alloc, &tables.globals, items)?;
+    judge_constants(alloc, tables, &types, items)?;
+    judge_signatures(tables, items)?;
+    judge_globals(tables, items)
+}
+
+/// What the items of a bundle say, by number, where those that are no functions meet all demands on them; else the first that they do
+/// not meet: the types in three passes, then the constants, the signatures and the globals, each in text order. `globals` is what the
+/// global names of these items stand for. It takes no time more than the graph of the types does and one look-up a name. A bundle of
+/// 5 * 10^8 items, or one whose places do not fit 32 bits, answers want of memory.
+pub fn tables(alloc: Global, items: &[Item], globals: Globals) -> Result<Tables, CheckFault>
+    requires { globals ≡ globals_of items.now }
+    ensures { Judges (item_demands globals items.now) (tables_of globals items.now) result }
+{
+    let types = type_table(alloc, &globals, items)?;
+    let tables = entries(alloc, types, globals, items)?;
+    judge_others(alloc, &tables, items)?;
+    Ok(tables)
+}
