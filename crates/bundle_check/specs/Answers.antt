@@ -9,8 +9,6 @@ use Rattle.ir_tree.specs.declared.items.Item.TheVariants as items
 use Rattle.bundle_names.specs.declared.globals.Sort.{Sort}
 use Rattle.bundle_names.specs.declared.globals.Sort.TheVariants as sorts
 use Rattle.bundle_names.specs.Globals.{globals_of}
-use Rattle.check_tables.specs.declared.tables.Signature.{Signature}
-use Rattle.check_tables.specs.declared.tables.Tables.{Tables}
 use Rattle.check_tables.specs.Lookups.{signature_in, takes_of}
 use Rattle.bundle_check.specs.declared.code.Function.{Function}
 use Rattle.bundle_check.specs.declared.code.BlockCode.{BlockCode}
@@ -47,8 +45,8 @@ abbrev pub entry_of : List Item → Option ℕ → Result ℕ EntryFault
 entry_of bundle None = Err Unknown
 entry_of bundle (Some n) =
     if takes_nothing (takes_of (signature_in (bundle_tables bundle) (slice_get (bundle_tables bundle).functions n)))
-      then (if is_some (first_in (slice_get (bundle_functions bundle) n)) then Ok n else Err NoBody)
-      else Err BadSignature
+    then (if is_some (first_in (slice_get (bundle_functions bundle) n)) then Ok n else Err NoBody)
+    else Err BadSignature
 
 -- the number of the function with this name, or why it is no entry: there is none, it takes something, or it has no body
 abbrev pub entry : List Item → List ℕ → Result ℕ EntryFault

@@ -24,7 +24,12 @@ fn bind_parameters(
 {
     let mut left = parameters;
     'each: while let [first, more @ ..] = left {
-        bind(alloc, locals, &first.name, tables.noted_class(&first.of_type))?;
+        bind(
+            alloc,
+            locals,
+            &first.name,
+            tables.noted_class(&first.of_type),
+        )?;
         left = more;
     }
     Ok(())

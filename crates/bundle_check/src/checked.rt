@@ -18,7 +18,7 @@ use std::marker::Model;
 use text_forms::Listing;
 
 fn write_dot(out: &mut Vec<u8>) -> Result<(), AllocError>
-    ensures { OnOk result (out.new.items ≡ out.old.items ++ codes "." ) }
+    ensures { OnOk result (out.new.items ≡ out.old.items ++ codes ".") }
 {
     out.push(b'.')?;
     Ok(())
@@ -42,11 +42,7 @@ fn write_part(name: &Name, out: &mut Vec<u8>) -> Result<(), AllocError>
     write_bare(name, out)
 }
 
-fn write_full_name(
-    function: &Funcdef,
-    block: &Block,
-    out: &mut Vec<u8>,
-) -> Result<(), AllocError>
+fn write_full_name(function: &Funcdef, block: &Block, out: &mut Vec<u8>) -> Result<(), AllocError>
     ensures { OnOk result (out.new.items ≡ out.old.items ++ full_name function.now block.now) }
 {
     out.extend_from_slice(function.name.text.as_slice())?;

@@ -101,14 +101,7 @@ fn function(
         function.blocks.as_slice(),
     )?;
     let body = body(alloc, tables, first, function)?;
-    blocks(
-        alloc,
-        tables,
-        &body,
-        item,
-        function.blocks.as_slice(),
-        all,
-    )
+    blocks(alloc, tables, &body, item, function.blocks.as_slice(), all)
 }
 
 /// The blocks of all functions.

@@ -4,11 +4,13 @@
 mod blocks;
 mod bodies;
 mod checked;
+mod checking;
 mod code;
 mod fault;
 mod functions;
 mod numbering;
 
 pub use checked::Checked;
+pub use checking::check;
 pub use code::{BlockCode, Function};
 pub use fault::EntryFault;

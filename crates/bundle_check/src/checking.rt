@@ -1,0 +1,48 @@
+// The check of a bundle.
+ghost use Rattle.std.specs.Prelude.{◌≡◌};
+ghost use Rattle.demands.specs.Demands.{Judges, ◌⨾◌};
+ghost use Rattle.bundle_names.specs.Globals.{globals_of};
+ghost use Rattle.bundle_tables.specs.Entries.{tables_of};
+ghost use Rattle.bundle_tables.specs.Rules.{item_demands};
+ghost use Rattle.bundle_check.specs.Functions.{functions_demands, all_blocks};
+ghost use Rattle.bundle_check.specs.Checking.{check_demands};
+
+use crate::checked::Checked;
+use crate::code::BlockCode;
+use crate::functions::all_functions;
+use crate::numbering::{first_of_each, functions};
+use bundle_names::{Globals, Resolved};
+use bundle_tables::tables;
+use check_tables::{CheckFault, Tables};
+use ir_tree::Item;
+use std::alloc::Global;
+use text_forms::Listing;
+
+/// What the items say, and the blocks of their functions.
+#[tactic(auto, using(crate::proofs::Judged::met_and_unmet, crate::proofs::Judged::both_met))]
+fn judged(
+    alloc: Global,
+    items: &[Item],
+    globals: Globals,
+) -> Result<(Tables, Listing<BlockCode>), CheckFault>
+    requires { globals ≡ globals_of items.now }
+    ensures { Judges (item_demands globals items.now ⨾ functions_demands (tables_of globals items.now) 0 items.now) (tables_of globals items.now, all_blocks (tables_of globals items.now) 0 0 items.now) result }
+{
+    let tables = tables(alloc, items, globals)?;
+    let blocks = all_functions(alloc, &tables, items)?;
+    Ok((tables, blocks))
+}
+
+/// Judges a bundle whose names are all defined. The fault is the first demand that is not met: of types in three passes over the text
+/// (arguments, types that contain themselves, types with too many leaves), of constants, of signatures, of globals, then function by
+/// function. Want of memory is also answered where numbers do not fit: more than 2^32 - 1 blocks, say. The bundle is taken in each
+/// case. It takes time in proportion to the text, save for the classes of types and one hash for each name that is used.
+pub fn check(alloc: Global, names: Resolved) -> Result<Checked, CheckFault>
+    ensures { Judges (check_demands names) names result }
+{
+    let (bundle, globals) = names.into_parts();
+    let (tables, blocks) = judged(alloc, bundle.as_slice(), globals)?;
+    let firsts = first_of_each(alloc, bundle.as_slice())?;
+    let functions = functions(alloc, &tables, firsts.as_slice(), bundle.as_slice())?;
+    Ok(Checked::new(bundle, tables, functions, blocks))
+}
