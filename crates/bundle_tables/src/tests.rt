@@ -8,7 +8,7 @@ use mu_values::ConstKind;
 use std::test::Fail;
 
 const ALL_ITEMS: &[u8] =
-    b".typedef @i64 = int<64> .typedef @j64 = int<64> .typedef @r = ref<@j64> .funcsig @t = () -> () .funcsig @s = (@j64 @r) -> (@r) .const @a <@j64> = 7 .const @n <@r> = NULL .global @g <@i64> .funcdecl @f <@t> .funcdecl @h <@s>";
+    b".typedef @i64 = int<64> .typedef @j64 = int<64> .typedef @r = ref<@j64> .funcsig @t = () -> () .funcsig @s = (@j64 @r) -> (@r) .const @a <@j64> = 7 .const @n <@r> = NULL .global @g <@i64> .funcdecl @f <@t> .funcdecl @h <@t> .funcdef @h VERSION %v <@s> { %e(<@j64> %x <@r> %y): RET (%y) }";
 
 #[test]
 fn notes_what_items_say(rt: HostRuntime) -> Result<(), Fail> {
@@ -29,13 +29,13 @@ fn notes_what_items_say(rt: HostRuntime) -> Result<(), Fail> {
         tables.types.iref_to(1)
     );
     assert_eq!(rt; tables.functions.as_slice(), [0, 1].as_slice());
-    assert_eq!(rt; tables.declarations.as_slice(), [0, 1].as_slice());
+    assert_eq!(rt; tables.declarations.as_slice(), [0, 0].as_slice());
     Ok(())
 }
 
 #[test]
 fn refuses_at_the_first_demand(rt: HostRuntime) -> Result<(), Fail> {
-    let rows: [(&[u8], CheckKind, usize); 6] = [
+    let rows: [(&[u8], CheckKind, usize); 7] = [
         (
             b".typedef @s = struct<@s>",
             CheckKind::Types(TypeKind::EndlessType),
@@ -65,6 +65,11 @@ fn refuses_at_the_first_demand(rt: HostRuntime) -> Result<(), Fail> {
             b".typedef @v = void .global @g <@v>",
             CheckKind::OperandType,
             31,
+        ),
+        (
+            b".typedef @v = void .global @g <@v> .const @c <@v> = 1",
+            CheckKind::Const(ConstKind::WrongShape),
+            52,
         ),
     ];
     for (text, kind, place) in rows {
