@@ -3,7 +3,6 @@ use Rattle.std.specs.Prelude.{option_map}
 use Rattle.std.proofs.Common.{◌≡◌, ℕ, zero, suc, Bool, List, length, map, Option, Some, None, slice_get, slice_index, refl, sym, ◌∙◌, ap}
 use Rattle.std.proofs.lemmas.Option.{slice_get-map}
 use Rattle.demands.specs.declared.fault.Fault.{Fault}
-use Rattle.demands.specs.declared.fault.Fault.TheVariants.{At}
 use Rattle.demands.specs.Demands.{Demands, demand, ◌⨾◌, first_unmet, as_kind}
 use Rattle.demands.specs.Laws.{fault_as}
 use Rattle.demands.proofs.Meeting.{carried}
@@ -17,7 +16,6 @@ use Rattle.mu_values.specs.declared.literals.LiteralKind.TheVariants as literals
 use Rattle.mu_values.specs.declared.literals.ConstKind.{ConstKind}
 use Rattle.mu_values.specs.declared.literals.ConstKind.TheVariants.{WrongShape, NotNullable}
 use Rattle.mu_values.specs.Constants.{width_of, is_reference, member_count, member_type, is_count, number_demands, member_demands, kind_demands, constant_demands}
-use Rattle.check_tables.specs.declared.fault.CheckKind.{CheckKind}
 use Rattle.check_tables.specs.declared.fault.CheckKind.TheVariants.{Const}
 use Rattle.check_tables.specs.Bare.{bare, bare_table}
 use Rattle.check_tables.proofs.Bare.{same_bare}

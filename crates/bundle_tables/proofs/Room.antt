@@ -1,19 +1,17 @@
 -- Tests of graphs do not see the room in lists.
 use Rattle.std.specs.Prelude.{option_map}
 use Rattle.std.specs.List.{list_any}
-use Rattle.std.proofs.Common.{◌≡◌, ℕ, zero, suc, ◌+◌, ◌==◌, ◌||◌, Bool, true, false, not, cond, nat_le, List, [], ◌∷◌, ◌++◌, length, map, Option, Some, None, slice_get, slice_index, slice_index_or, refl, sym, ◌∙◌, ap}
+use Rattle.std.proofs.Common.{◌≡◌, ℕ, zero, suc, ◌+◌, ◌==◌, ◌||◌, Bool, true, false, cond, List, [], ◌∷◌, ◌++◌, length, map, Option, Some, None, slice_get, slice_index, slice_index_or, refl, sym, ◌∙◌, ap}
 use Rattle.std.proofs.lemmas.Option.{slice_get-map}
 use Rattle.std.proofs.lemmas.List.{length-map, map-append}
 use Rattle.mu_base.specs.Lists.{Roomy}
 use Rattle.type_laws.specs.declared.definition.TypeDef.{TypeDef}
 use Rattle.type_laws.specs.declared.definition.TypeDef.TheVariants.{Int, Struct, Array, Hybrid, Void, Ref, Iref, FuncRef, StackRef, ThreadRef, Sig}
 use Rattle.type_laws.specs.Parts.{parts, parts_at, leads, contains_itself}
-use Rattle.type_laws.specs.Leaves.{leaves}
-use Rattle.mu_types.specs.declared.limits.TheConstants.{MOST_LEAVES}
-use Rattle.mu_types.specs.declared.faults.TypeKind.TheVariants.{EndlessType, WrongArgument, TooManyLeaves}
+use Rattle.mu_types.specs.declared.faults.TypeKind.TheVariants.{WrongArgument}
 use Rattle.mu_types.specs.Implied.{is_signature, references, references_from, complete}
 use Rattle.mu_types.specs.Tests.{Test, each, can_be_part, judged, allows, place_at, place, argument_tests, wrong_arguments, endless_type, too_many_leaves, passes}
-use Rattle.check_tables.specs.Bare.{ids, bare}
+use Rattle.check_tables.specs.Bare.{bare}
 use Rattle.check_tables.proofs.Bare.{leaves_bare}
 use Rattle.check_tables.proofs.Like.{signature_bare}
 use Rattle.bundle_tables.specs.Inner.{bare_ids}

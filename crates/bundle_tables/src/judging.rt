@@ -15,6 +15,7 @@ use check_tables::{CheckFault, Tables};
 use ir_tree::Item;
 use std::alloc::Global;
 
+/// Constants, signatures and globals, where the types are judged.
 #[tactic(auto, using(crate::proofs::Counted::written_within, crate::proofs::Counted::constants_counted))]
 fn judge_others(alloc: Global, tables: &Tables, items: &[Item]) -> Result<(), CheckFault>
     requires types { tables.now.types ≡ table_of tables.now.globals items.now }
@@ -29,8 +30,8 @@ fn judge_others(alloc: Global, tables: &Tables, items: &[Item]) -> Result<(), Ch
 
 /// What the items of a bundle say, by number, where those that are no functions meet all demands on them; else the first that they do
 /// not meet: the types in three passes, then the constants, the signatures and the globals, each in text order. `globals` is what the
-/// global names of these items stand for. It takes no time more than the graph of the types does and one look-up a name. A bundle of
-/// 5 * 10^8 items, or one whose places do not fit 32 bits, answers want of memory.
+/// global names of these items stand for. It takes the time of `mu_types::classes`, and a few hashes for each name. Past 5 * 10^8
+/// items, or where a place is past 2^32 - 1, the answer is want of memory.
 pub fn tables(alloc: Global, items: &[Item], globals: Globals) -> Result<Tables, CheckFault>
     requires { globals ≡ globals_of items.now }
     ensures { Judges (item_demands globals items.now) (tables_of globals items.now) result }

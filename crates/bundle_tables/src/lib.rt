@@ -10,3 +10,6 @@ mod rules;
 mod types;
 
 pub use judging::tables;
+
+#[cfg(test)]
+mod tests;

@@ -1,4 +1,4 @@
-use Rattle.std.proofs.Common.{◌≡◌, ◌++◌, ◌<◌, length, map}
+use Rattle.std.proofs.Common.{◌≡◌, ◌++◌, ◌<◌, length}
 use Rattle.std.specs.List.{All}
 use Rattle.bundle_tables.specs.Rules.{constant_types}
 use Rattle.bundle_tables.proofs.constants.constant_types.Given as goal

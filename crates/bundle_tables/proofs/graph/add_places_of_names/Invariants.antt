@@ -1,5 +1,4 @@
-use Rattle.std.proofs.Common.{◌≡◌, ◌++◌, ◌+◌, ◌<◌, length}
-use Rattle.std.specs.List.{All}
+use Rattle.std.proofs.Common.{◌≡◌, ◌++◌, length}
 use Rattle.bundle_tables.specs.Graph.{places_of_names}
 use Rattle.bundle_tables.proofs.graph.add_places_of_names.Given as goal
 
