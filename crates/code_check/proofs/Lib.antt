@@ -1,1 +1,4 @@
 pub mod TypedOperands
+pub mod TypedComputations
+pub mod TypedControl
+pub mod TypedObjects

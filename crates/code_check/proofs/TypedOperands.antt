@@ -3,6 +3,7 @@ use Rattle.std.proofs.Common.{◌≡◌, ℕ, Bool, true, false, List, [], ◌�
 use Rattle.demands.specs.Demands.{AllMet}
 use Rattle.demands.specs.Names.{found}
 use Rattle.ir_lex.specs.declared.name.Name.{Name}
+use Rattle.ir_lex.specs.declared.token.Number.{Number}
 use Rattle.ir_tree.specs.declared.operands.Operand.{Operand}
 use Rattle.ir_tree.specs.declared.operands.Operand.TheVariants.{Local, Global}
 use Rattle.ir_tree.specs.declared.operands.Arguments.{Arguments}
@@ -11,20 +12,20 @@ use Rattle.bundle_names.specs.declared.globals.Sort.{Sort}
 use Rattle.bundle_names.specs.declared.globals.Sort.TheVariants as sorts
 use Rattle.type_laws.specs.declared.definition.TypeDef.{TypeDef}
 use Rattle.check_tables.specs.declared.fault.CheckKind.{CheckKind}
-use Rattle.check_tables.specs.declared.fault.CheckKind.TheVariants.{ArgumentType}
+use Rattle.check_tables.specs.declared.fault.CheckKind.TheVariants.{OperandType, ArgumentType}
 use Rattle.check_tables.specs.declared.tables.Signature.{Signature}
 use Rattle.check_tables.specs.declared.tables.Tables.{Tables}
-use Rattle.check_tables.specs.Types.{definition_at, definition_in, class_at, class_in, leaves_in}
+use Rattle.check_tables.specs.Types.{definition_at, definition_in, class_at, class_in, leaves_in, iref_in}
 use Rattle.check_tables.specs.Lookups.{or_zero, type_named, class_named, noted_class, noted_classes, signature_number, signature_in, signature_named, noted_signature, funcref_of, global_class, class_of_global}
-use Rattle.check_tables.specs.TypeTests.{is_value_type}
+use Rattle.check_tables.specs.TypeTests.{is_value_type, field_at}
 use Rattle.code_check.specs.declared.code.Source.{Source}
 use Rattle.code_check.specs.declared.scopes.BlockEntry.{BlockEntry}
 use Rattle.code_check.specs.declared.scopes.Variable.{Variable}
 use Rattle.code_check.specs.declared.scopes.Locals.{Locals}
 use Rattle.code_check.specs.declared.scopes.Body.{Body}
-use Rattle.code_check.specs.Operands.{is_class, variable_class, variable_number, operand_demands, member_demands, argument_demands, value_type_demands, variable_demands, global_source, source_of, sources_of, noted_list, numbers_in}
+use Rattle.code_check.specs.Operands.{is_class, of_type, variable_class, variable_number, operand_demands, member_demands, argument_demands, value_type_demands, variable_demands, global_source, source_of, sources_of, noted_list, numbers_in}
 use Rattle.code_check.specs.Destinations.{block_named, entry_takes, takes_no_exception, block_number, target_of, exceptional_demands, normal_demands, optional_normal_demands, optional_exceptional_demands, optional_target, keepalive_demands, keepalive_numbers}
-use Rattle.code_check.specs.Typed.{SourceFits, SourcesFit, AreVariables, HasType, HasValueType, HaveValueTypes, HasSignature, Blocks, TargetFits, NormalFits, OptionalTargetFits, OptionalNormalFits, LocalsFit, BodyFits}
+use Rattle.code_check.specs.Typed.{SourceFits, SourcesFit, PlaceFits, nth_of, AreVariables, HasType, HasValueType, HaveValueTypes, HasSignature, Blocks, TargetFits, NormalFits, OptionalTargetFits, OptionalNormalFits, LocalsFit, BodyFits}
 
 -- ---- tests
 
@@ -73,6 +74,10 @@ pub operand_fits : (p : Tables) (ls : Locals) (kind : CheckKind) (o : Operand) (
 operand_fits p ls kind (Local n) wanted fits m = variable_fits p ls n.text (found ls.names n.text) wanted fits refl m.1
 operand_fits p ls kind (Global n) wanted fits m = global_fits p ls.classes (found p.globals.names n.text) wanted m.1
 
+-- of the type with this name
+pub of_type_fits : (p : Tables) (ls : Locals) (o : Operand) (n : Name) → LocalsFit ls → AllMet (of_type p ls o n) → SourceFits p ls.classes (source_of p ls o) (noted_class p n)
+of_type_fits p ls o n fits m = noted (λ c. SourceFits p ls.classes (source_of p ls o) c) (class_named p n) (operand_fits p ls OperandType o (class_named p n) fits m)
+
 -- ---- lists of arguments
 
 members_fit : (p : Tables) (ls : Locals) (os : List Operand) (cs : List ℕ) → LocalsFit ls → length os ≡ length cs →
@@ -96,7 +101,7 @@ pub record TypeIn (p : Tables) (o : Option ℕ) (test : Option TypeDef → Bool)
   pub type : HasType p test (or_zero (class_in p.types o))
   pub is : o ≡ Some type.number
 
-type_in : (p : Tables) (o : Option ℕ) (test : Option TypeDef → Bool) → test None ≡ false → test (definition_in p.types o) ≡ true → TypeIn p o test
+pub type_in : (p : Tables) (o : Option ℕ) (test : Option TypeDef → Bool) → test None ≡ false → test (definition_in p.types o) ≡ true → TypeIn p o test
 type_in p None test absent met = let h : false ≡ true = sym absent ∙ met in cc
 type_in p (Some t) test absent met = by (nat_lt t p.types.written) refl
   where
@@ -108,3 +113,108 @@ type_in p (Some t) test absent met = by (nat_lt t p.types.written) refl
 pub type_of : (p : Tables) (n : Name) (test : Option TypeDef → Bool) → test None ≡ false → test (definition_in p.types (type_named p n)) ≡ true →
     TypeIn p (type_named p n) test
 type_of p n test absent met = type_in p (type_named p n) test absent met
+
+-- the same for a type that variables may have
+pub record ValueTypeIn (p : Tables) (o : Option ℕ) : Type 0 where
+  pub type : HasValueType p (or_zero (class_in p.types o))
+  pub is : o ≡ Some type.number
+
+pub value_type_in : (p : Tables) (o : Option ℕ) → is_value_type (definition_in p.types o) (leaves_in p.types o) ≡ true → ValueTypeIn p o
+value_type_in p None met = cc
+value_type_in p (Some t) met = by (nat_lt t p.types.written) refl
+  where
+    by : (b : Bool) → nat_lt t p.types.written ≡ b → ValueTypeIn p (Some t)
+    by true e = record { type = record { number = t; class = rw e refl; passes = met }; is = refl }
+    by false e = let h : is_value_type None (leaves_in p.types (Some t)) ≡ true = rw e at met in cc
+
+pub value_types_fit : (p : Tables) (ns : List Name) → AllMet (value_type_demands p ns) → HaveValueTypes p (noted_list p ns)
+value_types_fit p [] m = tt
+value_types_fit p (n ∷ ns) m = ((value_type_in p (type_named p n) m.0).type, value_types_fit p ns m.1)
+
+-- ---- fields
+
+not_negative : (b : Bool) (o : Option ℕ) → is_some (if b then None else o) ≡ true → (if b then None else o) ≡ o
+not_negative true o h = cc
+not_negative false o h = refl
+
+-- a field that is there has the number as it is written
+pub field_is : (fields : Option (List ℕ)) (n : Number) → is_some (field_at fields n) ≡ true → field_at fields n ≡ nth_of fields n.magnitude
+field_is None n h = cc
+field_is (Some fields) n h = not_negative n.negative (slice_get fields n.magnitude) h
+
+-- ---- places
+
+-- a place of a type whose number is known
+pub place_fits : (p : Tables) (ls : Locals) (l : Operand) (o : Option ℕ) (t : ℕ) → LocalsFit ls → o ≡ Some t →
+    AllMet (operand_demands p ls OperandType l (iref_in p.types o)) → PlaceFits p ls.classes (source_of p ls l) t
+place_fits p ls l o t fits is m =
+    subst (λ (x : Option ℕ). IsSomeAnd (iref_in p.types x) (λ c. SourceFits p ls.classes (source_of p ls l) c)) is
+      (operand_fits p ls OperandType l (iref_in p.types o) fits m)
+
+-- ---- signatures
+
+-- a signature whose references are known, or what it takes, is there
+pub record SignatureIn (p : Tables) (o : Option Signature) : Type 0 where
+  pub signature : HasSignature p (noted_signature o)
+  pub is : o ≡ Some signature.entry
+
+signature_by : (p : Tables) (n : Option ℕ) (o : Option Signature) (P : ℕ → Type 0) → signature_in p n ≡ o → IsSomeAnd (funcref_of o) P → SignatureIn p o
+signature_by p n None P e h = absurd h
+signature_by p None (Some s) P e h = cc
+signature_by p (Some n) (Some s) P e h = record { signature = record { number = n; entry = s; there = e; class = refl }; is = refl }
+
+-- the signature of a name, where something is a reference to a function of it
+pub signature_of : (p : Tables) (n : Name) (P : ℕ → Type 0) → IsSomeAnd (funcref_of (signature_named p n)) P → SignatureIn p (signature_named p n)
+signature_of p n P h = signature_by p (signature_number (found p.globals.names n.text)) (signature_named p n) P refl h
+
+-- ---- destinations
+
+target_fits : (p : Tables) (blocks : Blocks) (f : Body) (ks : List ℕ) (name : List ℕ) (o : Option BlockEntry) (vs : List Source) → BodyFits blocks f → found f.blocks name ≡ o →
+    IsSomeAnd (entry_takes o) (λ cs. SourcesFit p ks vs cs) → TargetFits p blocks ks (record { block = block_number o; arguments = vs })
+target_fits p blocks f ks name None vs body e h = absurd h
+target_fits p blocks f ks name (Some b) vs body e h = record { entry = b; there = body.each name b e; arguments = h }
+
+normal_fits_by : (p : Tables) (blocks : Blocks) (f : Body) (ks : List ℕ) (name : List ℕ) (o : Option BlockEntry) (vs : List Source) → BodyFits blocks f → found f.blocks name ≡ o →
+    takes_no_exception o ≡ true → IsSomeAnd (entry_takes o) (λ cs. SourcesFit p ks vs cs) → NormalFits p blocks ks (record { block = block_number o; arguments = vs })
+normal_fits_by p blocks f ks name None vs body e k h = absurd h
+normal_fits_by p blocks f ks name (Some b) vs body e k h =
+    record { target = record { entry = b; there = body.each name b e; arguments = h }; no_handler = not_is b.has_handler k }
+
+-- where an exception may go
+pub exceptional_fits : (p : Tables) (blocks : Blocks) (f : Body) (ls : Locals) (d : Destination) → BodyFits blocks f → LocalsFit ls →
+    AllMet (exceptional_demands p f ls d) → TargetFits p blocks ls.classes (target_of p f ls d)
+exceptional_fits p blocks f ls d body fits m =
+    target_fits p blocks f ls.classes d.block.text (block_named f d.block) (sources_of p ls d.arguments.values) body refl
+      (arguments_fit p ls d.arguments (entry_takes (block_named f d.block)) fits m)
+
+-- every other destination
+pub normal_fits : (p : Tables) (blocks : Blocks) (f : Body) (ls : Locals) (d : Destination) → BodyFits blocks f → LocalsFit ls →
+    AllMet (normal_demands p f ls d) → NormalFits p blocks ls.classes (target_of p f ls d)
+normal_fits p blocks f ls d body fits m =
+    normal_fits_by p blocks f ls.classes d.block.text (block_named f d.block) (sources_of p ls d.arguments.values) body refl m.0
+      (arguments_fit p ls d.arguments (entry_takes (block_named f d.block)) fits m.1)
+
+pub optional_normal_fits : (p : Tables) (blocks : Blocks) (f : Body) (ls : Locals) (d : Option Destination) → BodyFits blocks f → LocalsFit ls →
+    AllMet (optional_normal_demands p f ls d) → OptionalNormalFits p blocks ls.classes (optional_target p f ls d)
+optional_normal_fits p blocks f ls None body fits m = tt
+optional_normal_fits p blocks f ls (Some d) body fits m = normal_fits p blocks f ls d body fits m
+
+pub optional_exceptional_fits : (p : Tables) (blocks : Blocks) (f : Body) (ls : Locals) (d : Option Destination) → BodyFits blocks f → LocalsFit ls →
+    AllMet (optional_exceptional_demands p f ls d) → OptionalTargetFits p blocks ls.classes (optional_target p f ls d)
+optional_exceptional_fits p blocks f ls None body fits m = tt
+optional_exceptional_fits p blocks f ls (Some d) body fits m = exceptional_fits p blocks f ls d body fits m
+
+-- ---- KEEPALIVE
+
+is_variable : (ls : Locals) (name : List ℕ) (o : Option Variable) → LocalsFit ls → found ls.names name ≡ o → is_some o ≡ true →
+    is_some (slice_get ls.classes (variable_number o)) ≡ true
+is_variable ls name None fits e h = cc
+is_variable ls name (Some v) fits e h = ap is_some (fits.each name v e)
+
+pub are_variables : (ls : Locals) (ns : List Name) → LocalsFit ls → AllMet (variable_demands ls ns) → AreVariables ls.classes (numbers_in ls ns)
+are_variables ls [] fits m = tt
+are_variables ls (n ∷ ns) fits m = (is_variable ls n.text (found ls.names n.text) fits refl m.0, are_variables ls ns fits m.1)
+
+pub keepalive_fits : (ls : Locals) (ns : Option (List Name)) → LocalsFit ls → AllMet (keepalive_demands ls ns) → AreVariables ls.classes (keepalive_numbers ls ns)
+keepalive_fits ls None fits m = tt
+keepalive_fits ls (Some ns) fits m = are_variables ls ns fits m

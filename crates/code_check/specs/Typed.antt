@@ -416,3 +416,8 @@ pub record LocalsFit (ls : Locals) : Type 0 where
 -- the number of each block of the function finds what the block takes
 pub record BodyFits (blocks : Blocks) (f : Body) : Type 0 where
   pub each : (name : List ℕ) (b : BlockEntry) → found f.blocks name ≡ Some b → blocks b.number ≡ Some b
+
+-- no int type has the class of a global or of a function as an operand, which are references
+pub record TablesFit (p : Tables) : Type 0 where
+  pub cells : (n c : ℕ) → slice_get p.global_cells n ≡ Some c → HasType p is_int c → ⊥
+  pub functions : (n c : ℕ) → funcref_of (signature_in p (slice_get p.functions n)) ≡ Some c → HasType p is_int c → ⊥
