@@ -5,3 +5,6 @@ pub mod TypedObjects
 pub mod TypedAccesses
 pub mod TypedStacks
 pub mod TypedCommons
+pub mod TypedVariables
+pub mod TypedInstructions
+pub mod TypedEndings

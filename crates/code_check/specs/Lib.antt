@@ -9,3 +9,4 @@ pub mod Stacks
 pub mod Commons
 pub mod Instructions
 pub mod Typed
+pub mod TypedLaws

@@ -1,12 +1,13 @@
 -- To believe: well typed code, as a machine needs it, in terms of numbers and classes alone. p are the tables of a bundle, of which only
 -- what is known by number is used; blocks says what the block with a number takes; ks are the classes of a block's variables so far, by
 -- number; returns are the classes of what the function gives; gs are the classes of what an instruction gives.
-use Rattle.std.specs.Prelude.{◌≡◌, ℕ, ◌+◌, ◌^◌, ◌<◌, Bool, true, false, List, [], ◌∷◌, ◌++◌, Option, Some, None, IsSomeAnd, IfSome, is_some, slice_get, length, nat_lt, ◌||◌}
+use Rattle.std.specs.Prelude.{◌≡◌, ℕ, ◌+◌, ◌^◌, ◌<◌, Bool, true, false, List, [], ◌∷◌, ◌++◌, Option, Some, None, IsSomeAnd, IfSome, is_some, slice_get, length, take, nat_lt, ◌||◌}
 use Rattle.demands.specs.Names.{found}
 use Rattle.mu_base.specs.declared.order.Order.{Order as MuOrder}
 use Rattle.mu_base.specs.declared.order.Order.TheVariants as mu_orders
 use Rattle.ir_tree.specs.declared.operators.MemoryOrder.{MemoryOrder}
 use Rattle.ir_tree.specs.declared.operators.MemoryOrder.TheVariants as orders
+use Rattle.ir_tree.specs.declared.code.Inst.{Inst}
 use Rattle.ir_tree.specs.declared.operators.CompareOp.{CompareOp}
 use Rattle.ir_tree.specs.declared.operators.CompareOp.TheVariants as compare_ops
 use Rattle.ir_tree.specs.declared.operators.ConvertOp.{ConvertOp}
@@ -52,6 +53,7 @@ use Rattle.code_check.specs.declared.scopes.Variable.{Variable}
 use Rattle.code_check.specs.declared.scopes.Body.{Body}
 use Rattle.code_check.specs.Computations.{compares, converts}
 use Rattle.code_check.specs.Accesses.{may_load, may_store, may_update, may_fail, may_fence, updates_type}
+use Rattle.code_check.specs.Instructions.{gives}
 
 -- ---- where values come from
 
@@ -354,6 +356,17 @@ abbrev pub joined : List (List ℕ) → List ℕ
 joined [] = []
 joined (gs ∷ gss) = gs ++ joined gss
 
+-- what the instruction at a place of such code gives; it fits the variables before it, which are ks and all that was given before
+pub record CodeAt (p : Tables) (blocks : Blocks) (returns : List ℕ) (ks : List ℕ) (gss : List (List ℕ)) (at : ℕ) (code : Code) : Type 0 where
+  pub given : List ℕ
+  pub there : slice_get gss at ≡ Some given
+  pub fits : CodeFits p blocks returns (ks ++ joined (take at gss)) code given
+
+-- what each of some instructions gives
+abbrev pub all_gives : Tables → List Inst → List (List ℕ)
+all_gives p [] = []
+all_gives p (i ∷ is) = gives p i.op ∷ all_gives p is
+
 -- ---- endings
 
 -- BRANCH, BRANCH2, SWITCH, TAILCALL, RET and THROW end their block, so do WATCHPOINT and WPBRANCH, SWAPSTACK with KILL_OLD, and
@@ -406,6 +419,15 @@ abbrev pub EndsAtLast : List Code → Type 0
 EndsAtLast [] = ⊥
 EndsAtLast (i ∷ []) = code_ends i ≡ true
 EndsAtLast (i ∷ j ∷ is) = (code_ends i ≡ false) × EndsAtLast (j ∷ is)
+
+-- ---- a block
+
+-- the code of a block whose parameters and handler have the classes ks
+pub record BlockFits (p : Tables) (blocks : Blocks) (returns : List ℕ) (ks : List ℕ) (is : List Code) : Type 0 where
+  -- what each instruction gives
+  pub given : List (List ℕ)
+  pub codes : CodesFit p blocks returns ks is given
+  pub ending : EndsAtLast is
 
 -- ---- what is known of names
 

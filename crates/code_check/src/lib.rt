@@ -6,6 +6,7 @@ mod computations;
 mod control;
 mod destinations;
 mod gifts;
+mod laws;
 mod objects;
 mod operands;
 mod scopes;
@@ -15,4 +16,8 @@ pub use code::{
     ControlForm, Entered, Form, Source, SwitchForm, Target, TrappingForm,
 };
 pub use gifts::Gift;
+pub use laws::{
+    arguments_fit, blocks_fit, destinations_fit, fits_at_its_place, forms_fit, goes_on,
+    instructions_fit, lists_fit, operands_fit, variables_fit,
+};
 pub use scopes::{BlockEntry, Body, Locals, Variable};
