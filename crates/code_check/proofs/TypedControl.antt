@@ -20,6 +20,7 @@ use Rattle.code_check.specs.declared.scopes.Body.{Body}
 use Rattle.code_check.specs.Operands.{source_of, sources_of}
 use Rattle.code_check.specs.Control.{case_demands, constant_number, cases_code, are_classes, gives_these, control_demands, control_gives, control_code}
 use Rattle.code_check.specs.Typed.{SourceFits, SourcesFit, HasType, Blocks, CasesFit, ControlFits, LocalsFit, BodyFits, TablesFit}
+use Rattle.code_check.proofs.TypedTables.{cell_is_no_int, function_is_no_int}
 use Rattle.code_check.proofs.TypedOperands.{nat_eq_is, both_are, same_class, noted, operand_fits, of_type_fits, arguments_fit, type_of, SignatureIn, signature_of, normal_fits}
 
 -- ---- cases of a SWITCH
@@ -30,8 +31,8 @@ constant_is p None c tables int h = cc
 constant_is p (Some (sorts.Written n)) c tables int h = cc
 constant_is p (Some (sorts.Signature n)) c tables int h = cc
 constant_is p (Some (sorts.Constant n)) c tables int h = h
-constant_is p (Some (sorts.GlobalCell n)) c tables int h = absurd (tables.cells n c h int)
-constant_is p (Some (sorts.Function n)) c tables int h = absurd (tables.functions n c h int)
+constant_is p (Some (sorts.GlobalCell n)) c tables int h = absurd (cell_is_no_int p n c tables h int)
+constant_is p (Some (sorts.Function n)) c tables int h = absurd (function_is_no_int p (slice_get p.functions n) c tables h int)
 
 cases_fit : (p : Tables) (blocks : Blocks) (f : Body) (ls : Locals) (t : Name) (cs : List Case) → TablesFit p → BodyFits blocks f → LocalsFit ls →
     HasType p is_int (noted_class p t) → AllMet (case_demands p f ls t cs) → CasesFit p blocks ls.classes (noted_class p t) (cases_code p f ls cs)

@@ -21,10 +21,10 @@ use Rattle.code_check.proofs.TypedVariables.{results_fit, results_classes}
 
 pub op_fits : (p : Tables) (blocks : Blocks) (f : Body) (ls : Locals) (i : Op) → TablesFit p → BodyFits blocks f → LocalsFit ls →
     AllMet (op_demands p f ls i) → FormFits p blocks f.gives ls.classes (form_of p f ls i) (gives p i)
-op_fits p blocks f ls (ops.Computation c) tables body fits m = computation_fits p ls c fits m
+op_fits p blocks f ls (ops.Computation c) tables body fits m = computation_fits p ls c tables fits m
 op_fits p blocks f ls (ops.ControlFlow c) tables body fits m = control_fits p blocks f ls c tables body fits m
 op_fits p blocks f ls (ops.Allocation a) tables body fits m = allocation_fits p ls a fits m
-op_fits p blocks f ls (ops.Addressing a) tables body fits m = addressing_fits p ls a fits m
+op_fits p blocks f ls (ops.Addressing a) tables body fits m = addressing_fits p ls a tables fits m
 op_fits p blocks f ls (ops.Access a) tables body fits m = access_fits p ls a fits m
 op_fits p blocks f ls (ops.Trapping t) tables body fits m = trapping_fits p blocks f ls t body fits m
 op_fits p blocks f ls (ops.StackSwitch s) tables body fits m = switch_fits p ls s fits m

@@ -32,11 +32,11 @@ found_added es n name x v h = by (is_some (found es n)) h
     by true k = inr k
     by false k = found_last es n name x v k
 
-get_more : {T : Type 0} (xs ys : List T) (i : ℕ) (a : T) → slice_get xs i ≡ Some a → slice_get (xs ++ ys) i ≡ Some a
+pub get_more : {T : Type 0} (xs ys : List T) (i : ℕ) (a : T) → slice_get xs i ≡ Some a → slice_get (xs ++ ys) i ≡ Some a
 get_more [] ys i a h = cc
 get_more (x ∷ xs) ys i a h = grind (arith, get_more xs ys)
 
-get_last : {T : Type 0} (xs : List T) (a : T) → slice_get (xs ++ a ∷ []) (length xs) ≡ Some a
+pub get_last : {T : Type 0} (xs : List T) (a : T) → slice_get (xs ++ a ∷ []) (length xs) ≡ Some a
 get_last [] a = refl
 get_last (x ∷ xs) a = grind (arith, get_last xs a)
 

@@ -13,15 +13,17 @@ use Rattle.ir_tree.specs.declared.operators.CompareOp.TheVariants as compare_ops
 use Rattle.ir_tree.specs.declared.operators.ConvertOp.{ConvertOp}
 use Rattle.ir_tree.specs.declared.operators.ConvertOp.TheVariants as convert_ops
 use Rattle.type_laws.specs.declared.definition.TypeDef.{TypeDef}
+use Rattle.type_laws.specs.Same.{IsGraph}
+use Rattle.type_laws.specs.Parts.{parts_at}
 use Rattle.mu_values.specs.declared.operators.CmpOp.{CmpOp}
 use Rattle.mu_values.specs.declared.operators.CmpOp.TheVariants as cmp_ops
 use Rattle.mu_values.specs.declared.operators.ConvOp.{ConvOp}
 use Rattle.mu_values.specs.declared.operators.ConvOp.TheVariants as conv_ops
 use Rattle.check_tables.specs.declared.tables.Signature.{Signature}
 use Rattle.check_tables.specs.declared.tables.Tables.{Tables}
-use Rattle.check_tables.specs.Types.{definition_at, class_at, class_in, leaves_at, is_type_there, ref_at, iref_at, iref_in, int1, int32, stackref, threadref, ref_void}
-use Rattle.check_tables.specs.Lookups.{or_zero, signature_in, funcref_of}
-use Rattle.check_tables.specs.TypeTests.{is_int, is_scalar, is_sized, is_no_hybrid, is_value_type, is_castable, are_cast, is_hybrid, is_struct, fields_of, fixed_fields_of, element_of, repeated_of}
+use Rattle.check_tables.specs.Types.{definition_at, class_at, leaves_at, is_type_there, ref_at, iref_at, funcref_at, int1, int32, stackref, threadref, ref_void}
+use Rattle.check_tables.specs.Lookups.{signature_in, funcref_of}
+use Rattle.check_tables.specs.TypeTests.{is_int, is_scalar, is_sized, is_no_hybrid, is_value_type, is_castable, are_cast, is_hybrid, fields_of, fixed_fields_of, element_of, repeated_of}
 use Rattle.code_check.specs.declared.code.Source.{Source}
 use Rattle.code_check.specs.declared.code.Source.TheVariants as sources
 use Rattle.code_check.specs.declared.code.Target.{Target}
@@ -110,6 +112,20 @@ PlaceFits p ks s t = IsSomeAnd (iref_at p.types t) (λ c. SourceFits p ks s c)
 
 abbrev pub ObjectFits : Tables → List ℕ → Source → ℕ → Type 0
 ObjectFits p ks s t = IsSomeAnd (ref_at p.types t) (λ c. SourceFits p ks s c)
+
+-- a value of the type with a number
+abbrev pub TypeFits : Tables → List ℕ → Source → ℕ → Type 0
+TypeFits p ks s t = IsSomeAnd (class_at p.types t) (λ c. SourceFits p ks s c)
+
+-- all that is given is a value, a reference to a place or one to an object of the type with a number
+abbrev pub GivesType : Tables → ℕ → List ℕ → Type 0
+GivesType p t gs = IsSomeAnd (class_at p.types t) (λ c. gs ≡ c ∷ [])
+
+abbrev pub GivesPlace : Tables → ℕ → List ℕ → Type 0
+GivesPlace p t gs = IsSomeAnd (iref_at p.types t) (λ c. gs ≡ c ∷ [])
+
+abbrev pub GivesObject : Tables → ℕ → List ℕ → Type 0
+GivesObject p t gs = IsSomeAnd (ref_at p.types t) (λ c. gs ≡ c ∷ [])
 
 -- one of some fields, counted from 0
 abbrev pub nth_of : Option (List ℕ) → ℕ → Option ℕ
@@ -213,13 +229,10 @@ ComputationFits p ks (computing.Select c s a b) gs =
     HasValueType p c × SourceFits p ks s (int1 p.types) × SourceFits p ks a c × SourceFits p ks b c × (gs ≡ c ∷ [])
 -- a type that variables may have, with a field of this number; the operand has it; the result has the field's type
 ComputationFits p ks (computing.Extractvalue c n a) gs =
-    (t : HasValueType p c) × (is_some (nth_field n (definition_at p.types t.number)) ≡ true) × SourceFits p ks a c
-    × (gs ≡ or_zero (class_in p.types (nth_field n (definition_at p.types t.number))) ∷ [])
+    (t : HasValueType p c) × SourceFits p ks a c × IsSomeAnd (nth_field n (definition_at p.types t.number)) (λ k. GivesType p k gs)
 -- the same; the second operand has the field's type, and the result that of the first
 ComputationFits p ks (computing.Insertvalue c n a b) gs =
-    (t : HasValueType p c) × (is_some (nth_field n (definition_at p.types t.number)) ≡ true) × SourceFits p ks a c
-    × IsSomeAnd (class_in p.types (nth_field n (definition_at p.types t.number))) (λ d. SourceFits p ks b d)
-    × (gs ≡ c ∷ [])
+    (t : HasValueType p c) × SourceFits p ks a c × IsSomeAnd (nth_field n (definition_at p.types t.number)) (λ k. TypeFits p ks b k) × (gs ≡ c ∷ [])
 
 -- each constant is there and of the class that is switched on, and its destination fits
 abbrev pub CasesFit : Tables → Blocks → List ℕ → ℕ → List CaseForm → Type 0
@@ -246,30 +259,28 @@ ControlFits p blocks returns ks (going.Throw s) gs = SourceFits p ks s (ref_void
 
 abbrev pub AllocationFits : Tables → List ℕ → AllocationForm → List ℕ → Type 0
 -- no hybrid; the result is a reference to an object of the type
-AllocationFits p ks (making.New c) gs = (t : HasType p is_no_hybrid c) × (gs ≡ or_zero (ref_at p.types t.number) ∷ [])
+AllocationFits p ks (making.New c) gs = (t : HasType p is_no_hybrid c) × GivesObject p t.number gs
 -- a hybrid, and an int type, which the length has; the result is a reference to an object of the hybrid
-AllocationFits p ks (making.Newhybrid c d n) gs =
-    (t : HasType p is_hybrid c) × HasType p is_int d × SourceFits p ks n d × (gs ≡ or_zero (ref_at p.types t.number) ∷ [])
+AllocationFits p ks (making.Newhybrid c d n) gs = (t : HasType p is_hybrid c) × HasType p is_int d × SourceFits p ks n d × GivesObject p t.number gs
 -- no hybrid; the result is a reference to a place of the type
-AllocationFits p ks (making.Alloca c) gs = (t : HasType p is_no_hybrid c) × (gs ≡ or_zero (iref_at p.types t.number) ∷ [])
+AllocationFits p ks (making.Alloca c) gs = (t : HasType p is_no_hybrid c) × GivesPlace p t.number gs
 
 abbrev pub AddressingFits : Tables → List ℕ → AddressingForm → List ℕ → Type 0
 -- a reference to an object of a type that is there; the result is one to a place of the type
-AddressingFits p ks (finding.Getiref c r) gs = (t : HasType p is_type_there c) × ObjectFits p ks r t.number × (gs ≡ or_zero (iref_at p.types t.number) ∷ [])
+AddressingFits p ks (finding.Getiref c r) gs = (t : HasType p is_type_there c) × ObjectFits p ks r t.number × GivesPlace p t.number gs
 -- a struct or hybrid with a fixed field of this number; a reference to a place of it; the result is one to a place of the field's type
 AddressingFits p ks (finding.Getfieldiref c n l) gs =
-    (t : HasType p (has_fixed_field n) c) × PlaceFits p ks l t.number
-    × (gs ≡ or_zero (iref_in p.types (nth_fixed_field n (definition_at p.types t.number))) ∷ [])
+    (t : HasType p (has_fixed_field n) c) × PlaceFits p ks l t.number × IsSomeAnd (nth_fixed_field n (definition_at p.types t.number)) (λ k. GivesPlace p k gs)
 -- an array, and an int type, which the index has; a reference to a place of the array; the result is one to a place of its elements' type
 AddressingFits p ks (finding.Getelemiref c d l x) gs =
     (t : HasType p has_element c) × HasType p is_int d × PlaceFits p ks l t.number × SourceFits p ks x d
-    × (gs ≡ or_zero (iref_in p.types (element_of (definition_at p.types t.number))) ∷ [])
+    × IsSomeAnd (element_of (definition_at p.types t.number)) (λ k. GivesPlace p k gs)
 -- neither void nor a hybrid, and an int type, which the offset has; a reference to a place of the first, and so is the result
 AddressingFits p ks (finding.Shiftiref c d l x) gs =
-    (t : HasType p is_sized c) × HasType p is_int d × PlaceFits p ks l t.number × SourceFits p ks x d × (gs ≡ or_zero (iref_at p.types t.number) ∷ [])
+    (t : HasType p is_sized c) × HasType p is_int d × PlaceFits p ks l t.number × SourceFits p ks x d × GivesPlace p t.number gs
 -- a hybrid; a reference to a place of it; the result is one to a place of the type of which it has any number
 AddressingFits p ks (finding.Getvarpartiref c l) gs =
-    (t : HasType p is_hybrid c) × PlaceFits p ks l t.number × (gs ≡ or_zero (iref_in p.types (repeated_of (definition_at p.types t.number))) ∷ [])
+    (t : HasType p is_hybrid c) × PlaceFits p ks l t.number × IsSomeAnd (repeated_of (definition_at p.types t.number)) (λ k. GivesPlace p k gs)
 
 abbrev pub AccessFits : Tables → List ℕ → AccessForm → List ℕ → Type 0
 -- an order of loads; a scalar type; a reference to a place of it; the result has the type
@@ -439,7 +450,12 @@ pub record LocalsFit (ls : Locals) : Type 0 where
 pub record BodyFits (blocks : Blocks) (f : Body) : Type 0 where
   pub each : (name : List ℕ) (b : BlockEntry) → found f.blocks name ≡ Some b → blocks b.number ≡ Some b
 
--- no int type has the class of a global or of a function as an operand, which are references
+-- ---- what is known of tables
+
+-- they are the tables of a bundle: the types are a graph in which what a written type is made of is written and is a type; a global is a
+-- reference to a place of a type, and what is a reference to functions of a signature has the class of such references
 pub record TablesFit (p : Tables) : Type 0 where
-  pub cells : (n c : ℕ) → slice_get p.global_cells n ≡ Some c → HasType p is_int c → ⊥
-  pub functions : (n c : ℕ) → funcref_of (signature_in p (slice_get p.functions n)) ≡ Some c → HasType p is_int c → ⊥
+  pub graph : IsGraph p.types.definitions
+  pub parts : (t n k : ℕ) → slice_get (parts_at (definition_at p.types t)) n ≡ Some k → is_type_there (definition_at p.types k) ≡ true
+  pub cells : (n c : ℕ) → slice_get p.global_cells n ≡ Some c → (t : ℕ) × (iref_at p.types t ≡ Some c)
+  pub signatures : (n : ℕ) (s : Signature) → slice_get p.signatures n ≡ Some s → (k : ℕ) × (funcref_at p.types k ≡ Some s.funcref)
