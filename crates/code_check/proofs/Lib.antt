@@ -1,0 +1,11 @@
+pub mod TypedOperands
+pub mod TypedVariables
+pub mod TypedTables
+pub mod TypedComputations
+pub mod TypedControl
+pub mod TypedObjects
+pub mod TypedAccesses
+pub mod TypedStacks
+pub mod TypedCommons
+pub mod TypedInstructions
+pub mod TypedEndings

@@ -8,3 +8,5 @@ pub mod Accesses
 pub mod Stacks
 pub mod Commons
 pub mod Instructions
+pub mod Typed
+pub mod TypedLaws

@@ -11,6 +11,7 @@ mod control;
 mod destinations;
 mod gifts;
 mod instructions;
+mod laws;
 mod objects;
 mod operands;
 mod scopes;
@@ -24,5 +25,9 @@ pub use code::{
 pub use control::are_classes;
 pub use gifts::Gift;
 pub use instructions::insts;
+pub use laws::{
+    arguments_fit, blocks_fit, destinations_fit, fits_at_its_place, forms_fit, goes_on,
+    instructions_fit, lists_fit, operands_fit, variables_fit,
+};
 pub use operands::{demand, is_class, value_type};
 pub use scopes::{BlockEntry, Body, Locals, Variable};
