@@ -1,5 +1,4 @@
 pub mod Values
+pub mod Built
 pub mod Step
 pub mod Run
-pub mod Slots
-pub mod Examples

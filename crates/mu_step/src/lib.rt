@@ -1,13 +1,8 @@
 //! The machine.
 #![tactic(auto)]
 
-mod laws;
+mod built;
 mod line;
-mod machine;
 
-pub use laws::never_stuck;
+pub use built::{RunFault, RunKind};
 pub use line::{Ending, Line, Lines, Note};
-pub use machine::run_block;
-
-#[cfg(test)]
-mod tests;
