@@ -2,3 +2,4 @@ pub mod Values
 pub mod Built
 pub mod Step
 pub mod Run
+pub mod Acts

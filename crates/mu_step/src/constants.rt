@@ -1,0 +1,49 @@
+// The values of constants.
+ghost use Rattle.std.specs.Prelude.{◌≡◌, IfOk};
+ghost use Rattle.mu_values.specs.Constants.{number_bits};
+ghost use Rattle.mu_step.specs.Values.{literal_value};
+ghost use Rattle.mu_step.specs.Acts.{values_of};
+
+use ir_lex::Number;
+use ir_tree::{Item, Literal};
+use std::alloc::{AllocError, Global};
+use text_forms::Listing;
+
+/// 2^64, the number of values of an `int<64>`.
+const VALUES: u128 = 1 << 64;
+
+/// A number as an integer of 64 bits.
+fn wrapped(number: Number) -> u64
+    ensures { result ≡ number_bits 64 number.negative number.magnitude }
+{
+    let magnitude = number.magnitude % VALUES;
+    if number.negative {
+        ((VALUES - magnitude) % VALUES) as u64
+    } else {
+        magnitude as u64
+    }
+}
+
+fn value(literal: &Literal) -> Option<u64>
+    ensures { result ≡ literal_value literal.now }
+{
+    match literal {
+        Literal::Number(numeral) => Some(wrapped(numeral.number)),
+        _ => None,
+    }
+}
+
+/// The value of each constant, where it is written as a number.
+pub fn constants(alloc: Global, items: &[Item]) -> Result<Listing<Option<u64>>, AllocError>
+    ensures { IfOk result (λ values. values ≡ values_of items.now) }
+{
+    let mut values = Listing::new(alloc);
+    let mut left = items;
+    'each: while let [item, more @ ..] = left {
+        if let Item::Const(constant) = item {
+            values.push(value(&constant.literal))?;
+        }
+        left = more;
+    }
+    Ok(values)
+}
