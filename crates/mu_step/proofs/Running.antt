@@ -1,9 +1,6 @@
 -- The run of a block, and what its code returns.
 use Rattle.std.proofs.Common.{◌≡◌, ℕ, ◌+◌, zero, suc, List, [], ◌∷◌, ◌++◌, length, map, Option, Some, None, Result, Ok, Err, IfOk, IsSome, slice_get, refl, sym, ap, subst, ◌∙◌, arith, append_assoc, length-append}
 use Rattle.std.specs.declared.alloc.AllocError.{AllocError}
-use Rattle.std.specs.Prelude.{option_map}
-use Rattle.std.proofs.lemmas.Option.{slice_get-map}
-use Rattle.ir_tree.specs.declared.definitions.Literal.{Literal}
 use Rattle.ir_tree.specs.declared.items.Item.{Item}
 use Rattle.mu_values.specs.declared.operators.BinOp.TheVariants as bin_ops
 use Rattle.code_check.specs.declared.code.Source.{Source}
@@ -25,19 +22,9 @@ use Rattle.mu_step.specs.declared.line.Ending.TheVariants.{Done}
 use Rattle.mu_step.specs.Values.{with_some, literals_of, literal_value, value_of, sum_of, sum_from}
 use Rattle.mu_step.specs.Step.{Config, Outcome, Stuck, start, given, returned, computed, controlled, by_form, stepped}
 use Rattle.mu_step.specs.Run.{Run, behind, continued, run_from, run_of_block, first_block, run}
-use Rattle.mu_step.specs.Acts.{values_of, itself, source_value, sum_act, return_act, computation_act, control_act, act_of, after_act, value_returned}
+use Rattle.mu_step.specs.Acts.{sum_act, return_act, computation_act, control_act, act_of, after_act, value_returned}
 
 -- ---- one instruction
-
-constant_is : (o : Option Literal) → with_some o literal_value ≡ with_some (option_map literal_value o) itself
-constant_is None = refl
-constant_is (Some l) = refl
-
-pub value_is : (bundle : List Item) (slots : List ℕ) (s : Source) → value_of bundle slots s ≡ source_value (values_of bundle) slots s
-value_is bundle slots (sources.Variable n) = refl
-value_is bundle slots (sources.Constant n) = rw (slice_get-map literal_value (literals_of bundle) n) (constant_is (slice_get (literals_of bundle) n))
-value_is bundle slots (sources.GlobalCell n) = refl
-value_is bundle slots (sources.Function n) = refl
 
 -- what a step comes to by what its instruction does
 abbrev pub outcome_of : Config → Option Act → Outcome
@@ -54,15 +41,15 @@ return_is : (c : Config) (x : Option ℕ) → returned x ≡ outcome_of c (with_
 return_is c None = refl
 return_is c (Some v) = refl
 
-computed_is : (bundle : List Item) (c : Config) (f : ComputationForm) → computed bundle c f ≡ outcome_of c (computation_act (values_of bundle) c.slots f)
-computed_is bundle c (computations.Binary bin_ops.Add class a b) = rw (value_is bundle c.slots a, value_is bundle c.slots b) (sum_is c (source_value (values_of bundle) c.slots a) (source_value (values_of bundle) c.slots b))
+computed_is : (bundle : List Item) (c : Config) (f : ComputationForm) → computed bundle c f ≡ outcome_of c (computation_act bundle c.slots f)
+computed_is bundle c (computations.Binary bin_ops.Add class a b) = sum_is c (value_of bundle c.slots a) (value_of bundle c.slots b)
 computed_is bundle c _ = refl
 
-controlled_is : (bundle : List Item) (c : Config) (f : ControlForm) → controlled bundle c f ≡ outcome_of c (control_act (values_of bundle) c.slots f)
-controlled_is bundle c (controls.Ret (v ∷ [])) = rw (value_is bundle c.slots v) (return_is c (source_value (values_of bundle) c.slots v))
+controlled_is : (bundle : List Item) (c : Config) (f : ControlForm) → controlled bundle c f ≡ outcome_of c (control_act bundle c.slots f)
+controlled_is bundle c (controls.Ret (v ∷ [])) = return_is c (value_of bundle c.slots v)
 controlled_is bundle c _ = refl
 
-by_form_is : (bundle : List Item) (c : Config) (f : Form) → by_form bundle c f ≡ outcome_of c (act_of (values_of bundle) c.slots f)
+by_form_is : (bundle : List Item) (c : Config) (f : Form) → by_form bundle c f ≡ outcome_of c (act_of bundle c.slots f)
 by_form_is bundle c (forms.Computation f) = computed_is bundle c f
 by_form_is bundle c (forms.Control f) = controlled_is bundle c f
 by_form_is bundle c _ = refl
@@ -90,7 +77,7 @@ goes_on c (Some (Gives v)) more rest f = rw (f v) (behind_none (rest v))
 goes_on c (Some (Returns v)) more rest f = refl
 
 block_runs : (is : List Code) (bundle : List Item) (b : BlockCode) (front : List Code) (slots : List ℕ) → front ++ is ≡ b.code →
-    run_from bundle b (length is) (record { at = length front; slots = slots }) ≡ returning (value_returned (values_of bundle) slots is)
+    run_from bundle b (length is) (record { at = length front; slots = slots }) ≡ returning (value_returned bundle slots is)
 block_runs [] bundle b front slots parts = refl
 block_runs (i ∷ is) bundle b front slots parts =
     let c : Config = record { at = length front; slots = slots } in
@@ -98,11 +85,11 @@ block_runs (i ∷ is) bundle b front slots parts =
     let longer : length (front ++ i ∷ []) ≡ length front + 1 = length-append front (i ∷ []) in
     ap (λ o. continued (stepped bundle c o) (run_from bundle b (length is))) here
     ∙ ap (λ o. continued o (run_from bundle b (length is))) (by_form_is bundle c i.form)
-    ∙ goes_on c (act_of (values_of bundle) slots i.form) (run_from bundle b (length is)) (λ v. value_returned (values_of bundle) (slots ++ v ∷ []) is)
-    (λ v. subst (λ (n : ℕ). run_from bundle b (length is) (record { at = n; slots = slots ++ v ∷ [] }) ≡ returning (value_returned (values_of bundle) (slots ++ v ∷ []) is)) longer
+    ∙ goes_on c (act_of bundle slots i.form) (run_from bundle b (length is)) (λ v. value_returned bundle (slots ++ v ∷ []) is)
+    (λ v. subst (λ (n : ℕ). run_from bundle b (length is) (record { at = n; slots = slots ++ v ∷ [] }) ≡ returning (value_returned bundle (slots ++ v ∷ []) is)) longer
     (block_runs is bundle b (front ++ i ∷ []) (slots ++ v ∷ []) (append_assoc front (i ∷ []) is ∙ parts)))
 
-pub run_is : (bundle : List Item) (n : ℕ) (b : BlockCode) → first_block bundle n ≡ Some b → run bundle n ≡ returning (value_returned (values_of bundle) [] b.code)
+pub run_is : (bundle : List Item) (n : ℕ) (b : BlockCode) → first_block bundle n ≡ Some b → run bundle n ≡ returning (value_returned bundle [] b.code)
 run_is bundle n b e = ap (λ o. with_some o (run_of_block bundle)) e ∙ block_runs b.code bundle b [] [] refl
 
 pub some_returned : (o : Option ℕ) → IsSome (returning o) → IsSome o

@@ -1,7 +1,9 @@
 // What an instruction does.
 ghost use Rattle.std.specs.Prelude.{◌≡◌, IsSome, Some};
-ghost use Rattle.mu_step.specs.Acts.{source_value, sum_act, return_act, computation_act, control_act, act_of};
+ghost use Rattle.mu_step.specs.Values.{value_of};
+ghost use Rattle.mu_step.specs.Acts.{sum_act, return_act, computation_act, control_act, act_of};
 
+use crate::constants::Constants;
 use code_check::{ComputationForm, ControlForm, Form, Source};
 use mu_values::BinOp;
 
@@ -15,19 +17,19 @@ pub enum Act {
 }
 
 /// The value of an operand.
-fn value(constants: &[Option<u64>], slots: &[u64], source: Source) -> u64
-    requires { IsSome (source_value constants.now slots.now source) }
-    ensures { source_value constants.now slots.now source ≡ Some result }
+fn value(constants: &Constants, slots: &[u64], source: Source) -> u64
+    requires { IsSome (value_of constants.now slots.now source) }
+    ensures { value_of constants.now slots.now source ≡ Some result }
 {
     match source {
         Source::Variable(n) => slots[n as usize],
-        Source::Constant(n) => constants[n as usize].unwrap(),
+        Source::Constant(n) => constants.value(n).unwrap(),
         Source::GlobalCell(_) | Source::Function(_) => unreachable!(),
     }
 }
 
 /// ADD: sums wrap at 2^64.
-fn sum(constants: &[Option<u64>], slots: &[u64], left: Source, right: Source) -> Act
+fn sum(constants: &Constants, slots: &[u64], left: Source, right: Source) -> Act
     requires { IsSome (sum_act constants.now slots.now left right) }
     ensures { sum_act constants.now slots.now left right ≡ Some result }
 {
@@ -37,14 +39,14 @@ fn sum(constants: &[Option<u64>], slots: &[u64], left: Source, right: Source) ->
 }
 
 /// RET with one value.
-fn returning(constants: &[Option<u64>], slots: &[u64], source: Source) -> Act
+fn returning(constants: &Constants, slots: &[u64], source: Source) -> Act
     requires { IsSome (return_act constants.now slots.now source) }
     ensures { return_act constants.now slots.now source ≡ Some result }
 {
     Act::Returns(value(constants, slots, source))
 }
 
-fn computation(constants: &[Option<u64>], slots: &[u64], form: &ComputationForm) -> Act
+fn computation(constants: &Constants, slots: &[u64], form: &ComputationForm) -> Act
     requires { IsSome (computation_act constants.now slots.now form.now) }
     ensures { computation_act constants.now slots.now form.now ≡ Some result }
 {
@@ -59,7 +61,7 @@ fn computation(constants: &[Option<u64>], slots: &[u64], form: &ComputationForm)
     }
 }
 
-fn control(constants: &[Option<u64>], slots: &[u64], form: &ControlForm) -> Act
+fn control(constants: &Constants, slots: &[u64], form: &ControlForm) -> Act
     requires { IsSome (control_act constants.now slots.now form.now) }
     ensures { control_act constants.now slots.now form.now ≡ Some result }
 {
@@ -73,7 +75,7 @@ fn control(constants: &[Option<u64>], slots: &[u64], form: &ControlForm) -> Act
 }
 
 /// What an instruction does, by its form.
-pub fn decide(constants: &[Option<u64>], slots: &[u64], form: &Form) -> Act
+pub fn decide(constants: &Constants, slots: &[u64], form: &Form) -> Act
     requires { IsSome (act_of constants.now slots.now form.now) }
     ensures { act_of constants.now slots.now form.now ≡ Some result }
 {

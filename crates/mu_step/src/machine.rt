@@ -7,7 +7,7 @@ ghost use Rattle.mu_step.specs.declared.line.Note.TheVariants.{Returned};
 ghost use Rattle.mu_step.specs.declared.line.Ending.TheVariants.{Done};
 
 use crate::acts::{Act, decide};
-use crate::constants::constants;
+use crate::constants::Constants;
 use crate::line::{Line, Lines, Note};
 use bundle_check::{BlockCode, Checked};
 use code_check::Code;
@@ -17,7 +17,7 @@ use text_forms::Listing;
 /// What code returns.
 fn value_returned(
     alloc: Global,
-    constants: &[Option<u64>],
+    constants: &Constants,
     code: &[Code],
 ) -> Result<u64, AllocError>
     requires { IsSome (value_returned constants.now [] code.now) }
@@ -63,8 +63,8 @@ pub fn run_block(alloc: Global, code: &Checked, entry: u32) -> Result<Lines, All
     requires { IsSome (run code.now entry) }
     ensures { IfOk result (λ lines. run code.now entry ≡ Some (record { lines = lines; ending = Done })) }
 {
-    let constants = constants(alloc, code.items())?;
+    let constants = Constants::new(alloc, code.items())?;
     let block = first_block(code, entry);
-    let value = value_returned(alloc, constants.as_slice(), block.code.as_slice())?;
+    let value = value_returned(alloc, &constants, block.code.as_slice())?;
     returned(alloc, value)
 }

@@ -1,17 +1,17 @@
 use Rattle.std.proofs.Common.{◌≡◌, ◌∙◌, [], List, Some, IsSome, ap, sym, subst, arith}
-use Rattle.mu_step.specs.Acts.{values_of, value_returned}
+use Rattle.mu_step.specs.Acts.{value_returned}
 use Rattle.mu_step.specs.Run.{run}
 use Rattle.mu_step.proofs.Running.{returning, run_is, some_returned, lines_are}
 use Rattle.mu_step.proofs.machine.run_block.Goals as goal
 
 pub value_returned-requires : goal.value_returned-requires
 value_returned-requires c =
-    let there : IsSome (returning (value_returned (values_of c.args.code.now) [] c.first_block-block.result.now.code)) = subst (λ o. IsSome o) (run_is c.args.code.now c.args.entry c.first_block-block.result.now c.first_block-block.ensures) c.requires in
-    let same : value_returned (values_of c.args.code.now) [] c.first_block-block.result.now.code ≡ value_returned c.as_slice.result.now [] c.as_slice-2.result.now = grind arith in
+    let there : IsSome (returning (value_returned c.args.code.now [] c.first_block-block.result.now.code)) = subst (λ o. IsSome o) (run_is c.args.code.now c.args.entry c.first_block-block.result.now c.first_block-block.ensures) c.requires in
+    let same : value_returned c.args.code.now [] c.first_block-block.result.now.code ≡ value_returned c.in_ok-constants.constants [] c.as_slice.result.now = grind arith in
     subst (λ o. IsSome o) same (some_returned _ there)
 
 pub returns : goal.returns
 returns c =
     let whole = run_is c.args.code.now c.args.entry c.first_block-block.result.now c.first_block-block.ensures in
-    let same : value_returned (values_of c.args.code.now) [] c.first_block-block.result.now.code ≡ value_returned c.as_slice.result.now [] c.as_slice-2.result.now = grind arith in
+    let same : value_returned c.args.code.now [] c.first_block-block.result.now.code ≡ value_returned c.in_ok-constants.constants [] c.as_slice.result.now = grind arith in
     lines_are c.returned.result c.in_ok-value.value _ c.returned.ensures (whole ∙ ap returning (same ∙ c.in_ok-value.ensures))

@@ -1,6 +1,6 @@
 use Rattle.std.proofs.Common.{◌≡◌, ◌++◌, length}
 use Rattle.mu_step.specs.Acts.{values_of}
-use Rattle.mu_step.proofs.constants.constants.Given as goal
+use Rattle.mu_step.proofs.constants.values.Given as goal
 
 abbrev pub invariant-each : goal.invariant-each
 invariant-each l = l.values ++ values_of l.left ≡ values_of l.items
