@@ -1,2 +1,4 @@
 pub mod Listed
 pub mod Running
+pub mod Widths
+pub mod Bundles

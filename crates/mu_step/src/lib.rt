@@ -4,9 +4,10 @@
 mod acts;
 mod built;
 mod constants;
+mod int64;
 mod line;
 mod machine;
 
-pub use built::{RunFault, RunKind};
+pub use built::{RunFault, RunKind, are_built};
 pub use line::{Ending, Line, Lines, Note};
 pub use machine::run_block;
