@@ -182,6 +182,13 @@ impl Checked {
         self.tables.types.classes()
     }
 
+    /// What the items say, each sort of item by number.
+    pub fn tables(&self) -> &Tables
+        ensures { result.now ≡ bundle_tables self.now }
+    {
+        &self.tables
+    }
+
     /// The class of a constant that is there.
     pub fn constant_type(&self, n: u32) -> u32
         requires { n < length (bundle_tables self.now).constants }

@@ -48,6 +48,13 @@ impl TypeTable {
         &self.classes
     }
 
+    /// How many types and signatures are written.
+    pub fn written(&self) -> u32
+        ensures { result ≡ self.now.written }
+    {
+        self.written
+    }
+
     /// What is written under a number, where something is.
     pub fn definition(&self, t: u32) -> Option<&TypeDef>
         ensures { option_map bare (option_copied result) ≡ definition_at self.now t }

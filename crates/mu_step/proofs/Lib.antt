@@ -1,3 +1,4 @@
-pub mod Lookups
-pub mod Holding
+pub mod Listed
 pub mod Running
+pub mod Widths
+pub mod Bundles

@@ -1,5 +1,7 @@
 pub mod Values
+pub mod Built
 pub mod Step
 pub mod Run
-pub mod Slots
-pub mod Examples
+pub mod Acts
+pub mod Whole
+pub mod Counted

@@ -1,14 +1,16 @@
--- The run of a function of a bundle: steps up to an ending.
-use Rattle.std.specs.Prelude.{◌≡◌, ℕ, zero, suc, ◌<◌, List, ◌++◌, Option, Some, None, IsSome, length}
-use Rattle.built_forms.specs.declared.tree.Block.{Block}
-use Rattle.built_forms.specs.declared.tree.Item.{Item}
-use Rattle.built_check.specs.Demands.{first_unmet}
-use Rattle.built_check.specs.Checking.{check_demands}
-use Rattle.built_check.specs.Functions.{functions_of, function_numbered}
+-- To believe: the run of a function of a bundle: steps up to an ending.
+use Rattle.std.specs.Prelude.{◌≡◌, ℕ, zero, suc, List, ◌++◌, Option, Some, None, Ok, IsSome, length, slice_get}
+use Rattle.demands.specs.Demands.{first_unmet}
+use Rattle.ir_tree.specs.declared.items.Item.{Item}
+use Rattle.bundle_check.specs.declared.code.BlockCode.{BlockCode}
+use Rattle.bundle_check.specs.declared.code.Function.{Function}
+use Rattle.bundle_check.specs.Answers.{entry}
+use Rattle.bundle_check.specs.Checking.{bundle_functions, bundle_blocks}
 use Rattle.mu_step.specs.declared.line.Line.{Line}
 use Rattle.mu_step.specs.declared.line.Ending.{Ending}
 use Rattle.mu_step.specs.Values.{with_some}
 use Rattle.mu_step.specs.Step.{Config, start, Outcome, Next, End, Stuck, step}
+use Rattle.mu_step.specs.Built.{built_demands}
 
 -- what a run wrote, and how it ended
 pub record Run : Type 0 where
@@ -27,18 +29,22 @@ continued (End lines ending) more = Some (record { lines = lines; ending = endin
 continued Stuck more = None
 
 -- the run from a configuration on, if it ends within so many steps
-abbrev pub run_from : List Item → Block → ℕ → Config → Option Run
+abbrev pub run_from : List Item → BlockCode → ℕ → Config → Option Run
 run_from bundle b zero c = None
 run_from bundle b (suc steps) c = continued (step bundle b c) (run_from bundle b steps)
 
--- a block is run with a step for each instruction, and one for RET
-abbrev pub run_of_block : List Item → Block → Option Run
-run_of_block bundle b = run_from bundle b (suc (length b.insts)) start
+-- a block that goes nowhere else is run with a step for each instruction
+abbrev pub run_of_block : List Item → BlockCode → Option Run
+run_of_block bundle b = run_from bundle b (length b.code) start
 
--- the run of the function with that number; none where there is no such function, or a step is stuck
+-- the first block of a function
+abbrev pub first_block : List Item → ℕ → Option BlockCode
+first_block bundle n = with_some (slice_get (bundle_functions bundle) n) (λ f. with_some f.first (λ k. slice_get (bundle_blocks bundle) k))
+
+-- the run of the function with that number; none where there is no such function, it has no body, or a step is stuck
 abbrev pub run : List Item → ℕ → Option Run
-run bundle entry = with_some (function_numbered bundle entry) (λ f. run_of_block bundle f.block)
+run bundle n = with_some (first_block bundle n) (run_of_block bundle)
 
--- the run of a function of a checked bundle is never stuck: it comes to its ending
+-- the run of an entry of a bundle whose functions are built is never stuck: it comes to its ending
 abbrev pub NeverStuck : Type 0
-NeverStuck = (bundle : List Item) (entry : ℕ) → first_unmet (check_demands bundle) ≡ None → entry < length (functions_of bundle) → IsSome (run bundle entry)
+NeverStuck = (bundle : List Item) (name : List ℕ) (n : ℕ) → first_unmet (built_demands bundle) ≡ None → entry bundle name ≡ Ok n → IsSome (run bundle n)

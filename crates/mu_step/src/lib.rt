@@ -1,13 +1,13 @@
 //! The machine.
 #![tactic(auto)]
 
-mod laws;
+mod acts;
+mod built;
+mod constants;
+mod int64;
 mod line;
 mod machine;
 
-pub use laws::never_stuck;
+pub use built::{RunFault, RunKind, are_built};
 pub use line::{Ending, Line, Lines, Note};
 pub use machine::run_block;
-
-#[cfg(test)]
-mod tests;
