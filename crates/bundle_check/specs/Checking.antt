@@ -15,7 +15,7 @@ abbrev pub bundle_tables : List Item → Tables
 bundle_tables bundle = tables_of (globals_of bundle) bundle
 
 -- types, constants, signatures and globals, then functions
-abbrev pub check_demands : List Item → Demands CheckKind
+unfoldable pub check_demands : List Item → Demands CheckKind
 check_demands bundle = item_demands (globals_of bundle) bundle ⨾ functions_demands (bundle_tables bundle) 0 bundle
 
 -- its functions by number, and its blocks

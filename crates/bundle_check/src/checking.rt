@@ -33,6 +33,7 @@ fn judged(
     Ok((tables, blocks))
 }
 
+#[tactic(auto, unfolding(crate::specs::Checking::check_demands))]
 /// Judges a bundle whose names are all defined. The fault is the first demand that is not met: of types in three passes over the text
 /// (arguments, types that contain themselves, types with too many leaves), of constants, of signatures, of globals, then function by
 /// function. Want of memory is also answered where numbers do not fit: more than 2^32 - 1 blocks, say. The bundle is taken in each

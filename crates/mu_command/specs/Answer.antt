@@ -3,18 +3,19 @@ use Rattle.std.specs.Prelude.{ℕ, List, [], ◌∷◌, ◌++◌, map, Option, N
 use Rattle.mu_base.specs.declared.status.Status.{Status}
 use Rattle.mu_base.specs.declared.status.Status.TheVariants.{Done as Finished, Usage, ReadFault, Refused, TooLong, Memory}
 use Rattle.mu_base.specs.Outcome.{Outcome, got, failed, too_long}
-use Rattle.built_forms.specs.declared.tree.Item.{Item}
 use Rattle.ir_text.specs.declared.fault.TextFault.{TextFault}
 use Rattle.ir_text.specs.declared.fault.TextFault.TheVariants as text_faults
 use Rattle.ir_text.specs.TextAnswers.{text_answer}
-use Rattle.ir_tree.specs.declared.items.Item.{Item as WrittenItem}
+use Rattle.ir_tree.specs.declared.items.Item.{Item}
 use Rattle.ir_print.specs.Items.{bundle_text}
-use Rattle.built_forms.specs.Built.{built_items}
-use Rattle.built_check.specs.declared.fault.CheckFault.{CheckFault}
-use Rattle.built_check.specs.declared.fault.CheckFault.TheVariants as check_faults
-use Rattle.built_check.specs.Bundles.{bundle_demands}
-use Rattle.built_check.specs.Demands.{first_unmet}
-use Rattle.built_check.specs.Functions.{function_number}
+use Rattle.demands.specs.declared.fault.Fault.{Fault}
+use Rattle.demands.specs.declared.fault.Fault.TheVariants as faults
+use Rattle.demands.specs.Demands.{first_unmet}
+use Rattle.bundle_names.specs.Naming.{name_demands}
+use Rattle.bundle_check.specs.declared.fault.EntryFault.{EntryFault}
+use Rattle.bundle_check.specs.Checking.{check_demands}
+use Rattle.bundle_check.specs.Answers.{entry}
+use Rattle.mu_step.specs.Built.{built_demands}
 use Rattle.mu_step.specs.Run.{Run as RunOfMachine, run}
 use Rattle.mu_command.specs.declared.job.Job.{Job}
 use Rattle.mu_command.specs.declared.job.Job.TheVariants.{Check, Print, Run}
@@ -24,7 +25,7 @@ use Rattle.mu_command.specs.declared.ready.Ready.{Ready}
 use Rattle.mu_command.specs.declared.ready.Ready.TheVariants as ready
 use Rattle.mu_command.specs.Job.{name_of, word}
 use Rattle.mu_command.specs.Lines.{line_text, ending_text, ending_status}
-use Rattle.mu_command.specs.Refusals.{text_fault_name, check_fault_name}
+use Rattle.mu_command.specs.Refusals.{text_fault_name, name_fault_name, check_fault_name, run_fault_name, entry_fault_name}
 
 -- What is to be written, in the pieces that are put one by one, and the status that goes with it.
 pub record Answer : Type 0 where
@@ -59,44 +60,54 @@ abbrev pub refused : What → ℕ → List ℕ → Answer
 refused what place fault = line (codes "refused " ++ name_of what ++ codes " " ++ decimal place ++ codes " " ++ fault) Refused
 
 -- a text is a bundle, or has a first fault
-abbrev pub read_part : Result (List WrittenItem) TextFault → Part (List WrittenItem)
+abbrev pub read_part : Result (List Item) TextFault → Part (List Item)
 read_part (Ok bundle) = Ok bundle
 read_part (Err (text_faults.At kind place)) = Err (refused Bundle place (text_fault_name kind))
 read_part (Err text_faults.Memory) = Err no_answer
 
--- a bundle meets its demands, and then this is what is run of it, or there is a first one that it does not
-abbrev pub check_part : List Item → Option CheckFault → Part (List Item)
-check_part bundle None = Ok bundle
-check_part bundle (Some (check_faults.At kind place)) = Err (refused Bundle place (check_fault_name kind))
-check_part bundle (Some check_faults.Memory) = Err no_answer
+-- a bundle meets demands, or there is a first one that it does not, of a kind that has a name
+abbrev pub met_part : {K : Type 0} → (K → List ℕ) → List Item → Option (Fault K) → Part (List Item)
+met_part name bundle None = Ok bundle
+met_part name bundle (Some (faults.At kind place)) = Err (refused Bundle place (name kind))
+met_part name bundle (Some faults.Memory) = Err no_answer
+
+-- all its names are defined, each once; it meets all other demands; and all its functions are built
+abbrev pub named : List Item → Part (List Item)
+named bundle = met_part name_fault_name bundle (first_unmet (name_demands bundle))
+
+abbrev pub checked : List Item → Part (List Item)
+checked bundle = met_part check_fault_name bundle (first_unmet (check_demands bundle))
+
+abbrev pub built : List Item → Part (List Item)
+built bundle = met_part run_fault_name bundle (first_unmet (built_demands bundle))
 
 -- the bundle that a text is
-abbrev pub as_written : List ℕ → Part (List WrittenItem)
+abbrev pub as_written : List ℕ → Part (List Item)
 as_written bytes = read_part (text_answer bytes)
 
--- the bundle that a text is, where it meets its demands, in the forms that are run
+-- the bundle that a text is, where it meets its demands
 abbrev pub accepted : List ℕ → Part (List Item)
-accepted bytes = as_written bytes >>= λ bundle. check_part (built_items bundle) (first_unmet (bundle_demands bundle))
+accepted bytes = as_written bytes >>= named >>= checked
 
 -- the function that the run begins with
-abbrev pub entry_part : Option ℕ → Part ℕ
-entry_part (Some n) = Ok n
-entry_part None = Err (line (codes "refused entry Unknown") Refused)
+abbrev pub entry_part : Result ℕ EntryFault → Part ℕ
+entry_part (Ok n) = Ok n
+entry_part (Err fault) = Err (line (codes "refused entry " ++ entry_fault_name fault) Refused)
 
 abbrev pub entered : List Item → List ℕ → Part ℕ
-entered bundle name = entry_part (function_number bundle name)
+entered bundle name = entry_part (entry bundle name)
 
 -- the lines of the run, a piece each, and then its ending; a run that is stuck would have no answer
 abbrev pub run_answer : Option RunOfMachine → Answer
 run_answer (Some r) = record { pieces = map line_text r.lines ++ ending_text r.ending ∷ []; status = ending_status r.ending }
 run_answer None = no_answer
 
--- what a job asks of the bundle's text: that it is accepted; the bundle as it is written; or a bundle that is accepted, and a
--- function of it
+-- what a job asks of the bundle's text: that it is accepted; the bundle as it is written; or a bundle that is accepted and built, and
+-- a function of it
 abbrev pub asked : List (List ℕ) → Job → List ℕ → Part Ready
 asked words (Check file) bytes = accepted bytes >>= λ code. Ok ready.Accepted
 asked words (Print file) bytes = as_written bytes >>= λ bundle. Ok (ready.Canonical bundle)
-asked words (Run file entry) bytes = accepted bytes >>= λ code. entered code (word words entry) >>= λ n. Ok (ready.Entered code n)
+asked words (Run file name) bytes = accepted bytes >>= built >>= λ code. entered code (word words name) >>= λ n. Ok (ready.Entered code n)
 
 -- what is written then: `ok`, the canonical text in one piece, or the run
 abbrev pub ready_answer : Ready → Answer

@@ -3,8 +3,9 @@ use Rattle.std.specs.Prelude.{◌≡◌, ℕ, List, [], ◌∷◌, Some, None, c
 use Rattle.std.specs.Fmt.{digits}
 use Rattle.mu_base.specs.declared.status.Status.TheVariants.{Done, Usage, ReadFault, Refused, TooLong}
 use Rattle.mu_base.specs.Outcome.{got, failed, too_long}
-use Rattle.built_check.specs.Samples.{adds}
-use Rattle.mu_step.specs.Run.{run}
+use Rattle.mu_step.specs.declared.line.Line.TheVariants as lines
+use Rattle.mu_step.specs.declared.line.Note.TheVariants.{Returned}
+use Rattle.mu_step.specs.declared.line.Ending.TheVariants.{Done as Ended}
 use Rattle.mu_command.specs.declared.job.Job.TheVariants.{Run}
 use Rattle.mu_command.specs.declared.what.What.TheVariants.{Bundle}
 use Rattle.mu_command.specs.Job.{job_of}
@@ -23,11 +24,10 @@ no_entry = refl
 another_command : job_of (codes "judge" ∷ codes "b" ∷ codes "--entry" ∷ codes "@main" ∷ []) ≡ None
 another_command = refl
 
--- .typedef @i64 = int<64> .funcsig @mi = () -> (@i64) .const @a <@i64> = 40 .const @b <@i64> = 2
--- .funcdef @main VERSION %v <@mi> { %e(): %c = ADD <@i64> @a @b RET (%c) }
-adds_40_and_2 : run_answer (run adds 0) ≡ record { pieces = codes "returned t0 42\n" ∷ codes "done\n" ∷ []; status = Done }
+-- the run of a function that returns 42
+returns_42 : run_answer (Some (record { lines = lines.Note (Returned 0 (42 ∷ [])) ∷ []; ending = Ended })) ≡ record { pieces = codes "returned t0 42\n" ∷ codes "done\n" ∷ []; status = Done }
 unfolding digits
-adds_40_and_2 = refl
+returns_42 = refl
 
 ends_too_early : refused Bundle 39 (codes "Unexpected") ≡ record { pieces = codes "refused bundle 39 Unexpected\n" ∷ []; status = Refused }
 unfolding digits

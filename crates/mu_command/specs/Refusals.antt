@@ -4,8 +4,18 @@ use Rattle.ir_lex.specs.declared.token.LexKind.{LexKind}
 use Rattle.ir_lex.specs.declared.token.LexKind.TheVariants.{BadByte, BadName, NumberTooLarge, TooLong}
 use Rattle.ir_text.specs.declared.fault.TextKind.{TextKind}
 use Rattle.ir_text.specs.declared.fault.TextKind.TheVariants as text_kinds
-use Rattle.built_check.specs.declared.fault.CheckKind.{CheckKind}
-use Rattle.built_check.specs.declared.fault.CheckKind.TheVariants as check_kinds
+use Rattle.mu_types.specs.declared.faults.TypeKind.{TypeKind}
+use Rattle.mu_types.specs.declared.faults.TypeKind.TheVariants as type_kinds
+use Rattle.mu_values.specs.declared.literals.ConstKind.{ConstKind}
+use Rattle.mu_values.specs.declared.literals.ConstKind.TheVariants as const_kinds
+use Rattle.bundle_names.specs.declared.fault.NameKind.{NameKind}
+use Rattle.bundle_names.specs.declared.fault.NameKind.TheVariants as name_kinds
+use Rattle.check_tables.specs.declared.fault.CheckKind.{CheckKind}
+use Rattle.check_tables.specs.declared.fault.CheckKind.TheVariants as check_kinds
+use Rattle.bundle_check.specs.declared.fault.EntryFault.{EntryFault}
+use Rattle.bundle_check.specs.declared.fault.EntryFault.TheVariants as entry_faults
+use Rattle.mu_step.specs.declared.built.RunKind.{RunKind}
+use Rattle.mu_step.specs.declared.built.RunKind.TheVariants as run_kinds
 
 abbrev pub lex_fault_name : LexKind → List ℕ
 lex_fault_name BadByte = codes "BadByte"
@@ -19,5 +29,43 @@ text_fault_name text_kinds.Unexpected = codes "Unexpected"
 text_fault_name text_kinds.NotInProfile = codes "NotInProfile"
 text_fault_name text_kinds.TooMany = codes "TooMany"
 
+abbrev pub name_fault_name : NameKind → List ℕ
+name_fault_name name_kinds.Duplicate = codes "Duplicate"
+name_fault_name name_kinds.Unknown = codes "Unknown"
+name_fault_name name_kinds.WrongKind = codes "WrongKind"
+
+-- want of memory is no fault of a type, so its name is never written
+abbrev pub type_fault_name : TypeKind → List ℕ
+type_fault_name type_kinds.EndlessType = codes "EndlessType"
+type_fault_name type_kinds.WrongArgument = codes "WrongArgument"
+type_fault_name type_kinds.TooManyLeaves = codes "TooManyLeaves"
+type_fault_name type_kinds.Memory = codes "Memory"
+
+abbrev pub const_fault_name : ConstKind → List ℕ
+const_fault_name const_kinds.OutOfWidth = codes "OutOfWidth"
+const_fault_name const_kinds.WrongShape = codes "WrongShape"
+const_fault_name const_kinds.NotNullable = codes "NotNullable"
+
 abbrev pub check_fault_name : CheckKind → List ℕ
-check_fault_name check_kinds.NotBuilt = codes "NotBuilt"
+check_fault_name (check_kinds.Types kind) = type_fault_name kind
+check_fault_name (check_kinds.Const kind) = const_fault_name kind
+check_fault_name check_kinds.OperandType = codes "OperandType"
+check_fault_name check_kinds.ResultCount = codes "ResultCount"
+check_fault_name check_kinds.ArgumentCount = codes "ArgumentCount"
+check_fault_name check_kinds.ArgumentType = codes "ArgumentType"
+check_fault_name check_kinds.NotLocal = codes "NotLocal"
+check_fault_name check_kinds.NoEnding = codes "NoEnding"
+check_fault_name check_kinds.AfterEnding = codes "AfterEnding"
+check_fault_name check_kinds.BadOrder = codes "BadOrder"
+check_fault_name check_kinds.BadDestination = codes "BadDestination"
+check_fault_name check_kinds.BadIndex = codes "BadIndex"
+check_fault_name check_kinds.BadSignature = codes "BadSignature"
+check_fault_name check_kinds.EntryParameters = codes "EntryParameters"
+
+abbrev pub run_fault_name : RunKind → List ℕ
+run_fault_name run_kinds.NotBuilt = codes "NotBuilt"
+
+abbrev pub entry_fault_name : EntryFault → List ℕ
+entry_fault_name entry_faults.Unknown = codes "Unknown"
+entry_fault_name entry_faults.BadSignature = codes "BadSignature"
+entry_fault_name entry_faults.NoBody = codes "NoBody"

@@ -1,22 +1,37 @@
 // The first half of the program: finds what is to be written.
-ghost use Rattle.std.specs.Prelude.{◌≡◌, ◌<◌, ◌≤◌, ℕ, Some, length, IfOk};
-ghost use Rattle.built_check.specs.Functions.{functions_of};
-ghost use Rattle.mu_command.specs.Answer.{as_written, accepted, entered, asked};
+ghost use Rattle.std.specs.Prelude.{◌≡◌, ◌≤◌, ℕ, Some, None, IfOk, IsSome};
+ghost use Rattle.demands.specs.Demands.{first_unmet};
+ghost use Rattle.mu_step.specs.Built.{built_demands};
+ghost use Rattle.mu_step.specs.Run.{run};
+ghost use Rattle.mu_command.specs.Answer.{as_written, named, checked, built, accepted, entered, asked};
 ghost use Rattle.mu_command.specs.Job.{job_of, AreThere};
-ghost use Rattle.mu_command.specs.Parts.{Comes, IsFound, CanRun};
+ghost use Rattle.mu_command.specs.Parts.{Comes, IsFound, CanRun, IsRefusal};
 
 use crate::job::Job;
 use crate::loading::load;
 use crate::ready::Ready;
-use crate::refusals::{check_fault_name, refusal, text_fault_name};
+use crate::refusals::{
+    check_fault_name, entry_fault_name, name_fault_name, refusal, run_fault_name, text_fault_name,
+};
 use crate::stop::Stop;
 use crate::what::What;
 use crate::words::read_words;
-use built_check::{CheckFault, Checked, EntryFault, check};
+use bundle_check::{Checked, check};
+use bundle_names::{Resolved, resolve};
+use demands::Fault;
 use ir_text::{TextFault, read_bundle};
 use ir_tree::Bundle;
 use mu_base::{Inputs, Status, Words};
-use std::alloc::Global;
+use mu_step::are_built;
+use std::alloc::{AllocError, Global};
+
+// The line of a refusal of the bundle.
+fn refused(alloc: Global, place: usize, fault: &str) -> Result<Stop, AllocError>
+    ensures { IfOk result (λ stop. IsRefusal stop place fault.now) }
+{
+    let text = refusal(alloc, What::Bundle, place, fault)?;
+    Ok(Stop::Line(text, Status::Refused))
+}
 
 // Reads a bundle.
 fn read(alloc: Global, bytes: &[u8]) -> Result<Bundle, Stop>
@@ -25,39 +40,67 @@ fn read(alloc: Global, bytes: &[u8]) -> Result<Bundle, Stop>
     match read_bundle(alloc, bytes) {
         Ok(bundle) => Ok(bundle),
         Err(TextFault::Memory) => Err(Stop::Memory),
-        Err(TextFault::At { kind, place }) => Err(Stop::Line(
-            refusal(alloc, What::Bundle, place, text_fault_name(kind))?,
-            Status::Refused,
-        )),
+        Err(TextFault::At { kind, place }) => Err(refused(alloc, place, text_fault_name(kind))?),
     }
 }
 
-// Reads a bundle and checks it.
+// Judges the names of a bundle.
+fn name(alloc: Global, bundle: Bundle) -> Result<Resolved, Stop>
+    ensures { Comes (named bundle) result }
+{
+    match resolve(alloc, bundle) {
+        Ok(names) => Ok(names),
+        Err(Fault::Memory) => Err(Stop::Memory),
+        Err(Fault::At { kind, place }) => Err(refused(alloc, place, name_fault_name(kind))?),
+    }
+}
+
+// Judges all else of a bundle.
+fn judge_named(alloc: Global, names: Resolved) -> Result<Checked, Stop>
+    ensures { Comes (checked names) result }
+{
+    match check(alloc, names) {
+        Ok(code) => Ok(code),
+        Err(Fault::Memory) => Err(Stop::Memory),
+        Err(Fault::At { kind, place }) => Err(refused(alloc, place, check_fault_name(kind))?),
+    }
+}
+
+// Reads a bundle and judges it.
 fn accept(alloc: Global, bytes: &[u8]) -> Result<Checked, Stop>
     ensures { Comes (accepted bytes.now) result }
 {
     let bundle = read(alloc, bytes)?;
-    match check(alloc, bundle) {
-        Ok(code) => Ok(code),
-        Err(CheckFault::Memory) => Err(Stop::Memory),
-        Err(CheckFault::At { kind, place }) => Err(Stop::Line(
-            refusal(alloc, What::Bundle, place, check_fault_name(kind))?,
-            Status::Refused,
-        )),
+    let names = name(alloc, bundle)?;
+    judge_named(alloc, names)
+}
+
+// A bundle whose functions are built.
+fn judge_built(alloc: Global, code: Checked) -> Result<Checked, Stop>
+    ensures built { Comes (built code) result }
+    ensures met { IfOk result (λ c. first_unmet (built_demands c) ≡ None) }
+{
+    match are_built(&code) {
+        Ok(()) => Ok(code),
+        Err(Fault::Memory) => Err(Stop::Memory),
+        Err(Fault::At { kind, place }) => Err(refused(alloc, place, run_fault_name(kind))?),
     }
 }
 
 // The number of the function with that name.
+#[tactic(auto, using(mu_step::proofs::Never::never_stuck))]
 fn enter(alloc: Global, code: &Checked, name: &str) -> Result<u32, Stop>
+    requires { first_unmet (built_demands code.now) ≡ None }
     ensures number { Comes (entered code.now name.now) result }
-    ensures there { IfOk result (λ n. n < length (functions_of code.now)) }
+    ensures there { IfOk result (λ n. IsSome (run code.now n)) }
 {
     match code.entry(name) {
         Ok(number) => Ok(number),
-        Err(EntryFault::Unknown) => Err(Stop::Line(
-            Vec::from_slice(alloc, b"refused entry Unknown")?,
-            Status::Refused,
-        )),
+        Err(fault) => {
+            let mut text = Vec::from_slice(alloc, b"refused entry ")?;
+            text.extend_from_slice(entry_fault_name(fault).as_bytes())?;
+            Err(Stop::Line(text, Status::Refused))
+        }
     }
 }
 
@@ -77,7 +120,7 @@ fn judge(alloc: Global, words: &Words, job: Job, bytes: &[u8]) -> Result<Ready, 
             Ok(Ready::Canonical(bundle))
         }
         Job::Run { entry, .. } => {
-            let code = accept(alloc, bytes)?;
+            let code = judge_built(alloc, accept(alloc, bytes)?)?;
             let entry = enter(alloc, &code, words.word(entry))?;
             Ok(Ready::Entered { code, entry })
         }

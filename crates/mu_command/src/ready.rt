@@ -1,5 +1,5 @@
 // What is to be written.
-use built_check::Checked;
+use bundle_check::Checked;
 use ir_tree::Bundle;
 
 /// What the judging of a job's files leaves to be written.

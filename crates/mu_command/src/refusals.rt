@@ -1,13 +1,18 @@
 // The lines of refusals.
 ghost use Rattle.std.specs.Prelude.{◌≡◌, ◌++◌, IfOk, codes, decimal};
 ghost use Rattle.mu_command.specs.Job.{name_of};
-ghost use Rattle.mu_command.specs.Refusals.{lex_fault_name, text_fault_name, check_fault_name};
+ghost use Rattle.mu_command.specs.Refusals.{lex_fault_name, text_fault_name, name_fault_name, type_fault_name, const_fault_name, check_fault_name, run_fault_name, entry_fault_name};
 
 use crate::what::What;
-use built_check::CheckKind;
+use bundle_check::EntryFault;
+use bundle_names::NameKind;
+use check_tables::CheckKind;
 use ir_lex::LexKind;
 use ir_text::TextKind;
 use itoa::Buffer;
+use mu_step::RunKind;
+use mu_types::TypeKind;
+use mu_values::ConstKind;
 use std::alloc::{AllocError, Global};
 
 // The name of a lexical fault in refusals.
@@ -34,12 +39,77 @@ pub fn text_fault_name(kind: TextKind) -> &'static str
     }
 }
 
-/// The name of an unmet demand in refusals.
+/// The name of a fault of names in refusals.
+pub fn name_fault_name(kind: NameKind) -> &'static str
+    ensures { result.now ≡ name_fault_name kind }
+{
+    match kind {
+        NameKind::Duplicate => "Duplicate",
+        NameKind::Unknown => "Unknown",
+        NameKind::WrongKind => "WrongKind",
+    }
+}
+
+fn type_fault_name(kind: TypeKind) -> &'static str
+    ensures { result.now ≡ type_fault_name kind }
+{
+    match kind {
+        TypeKind::EndlessType => "EndlessType",
+        TypeKind::WrongArgument => "WrongArgument",
+        TypeKind::TooManyLeaves => "TooManyLeaves",
+        TypeKind::Memory => "Memory",
+    }
+}
+
+fn const_fault_name(kind: ConstKind) -> &'static str
+    ensures { result.now ≡ const_fault_name kind }
+{
+    match kind {
+        ConstKind::OutOfWidth => "OutOfWidth",
+        ConstKind::WrongShape => "WrongShape",
+        ConstKind::NotNullable => "NotNullable",
+    }
+}
+
+/// The name of an unmet demand on a bundle whose names are defined, in refusals.
 pub fn check_fault_name(kind: CheckKind) -> &'static str
     ensures { result.now ≡ check_fault_name kind }
 {
     match kind {
-        CheckKind::NotBuilt => "NotBuilt",
+        CheckKind::Types(kind) => type_fault_name(kind),
+        CheckKind::Const(kind) => const_fault_name(kind),
+        CheckKind::OperandType => "OperandType",
+        CheckKind::ResultCount => "ResultCount",
+        CheckKind::ArgumentCount => "ArgumentCount",
+        CheckKind::ArgumentType => "ArgumentType",
+        CheckKind::NotLocal => "NotLocal",
+        CheckKind::NoEnding => "NoEnding",
+        CheckKind::AfterEnding => "AfterEnding",
+        CheckKind::BadOrder => "BadOrder",
+        CheckKind::BadDestination => "BadDestination",
+        CheckKind::BadIndex => "BadIndex",
+        CheckKind::BadSignature => "BadSignature",
+        CheckKind::EntryParameters => "EntryParameters",
+    }
+}
+
+/// The name of what keeps a bundle from being run, in refusals.
+pub fn run_fault_name(kind: RunKind) -> &'static str
+    ensures { result.now ≡ run_fault_name kind }
+{
+    match kind {
+        RunKind::NotBuilt => "NotBuilt",
+    }
+}
+
+/// The name of what keeps a function from being entered, in refusals.
+pub fn entry_fault_name(fault: EntryFault) -> &'static str
+    ensures { result.now ≡ entry_fault_name fault }
+{
+    match fault {
+        EntryFault::Unknown => "Unknown",
+        EntryFault::BadSignature => "BadSignature",
+        EntryFault::NoBody => "NoBody",
     }
 }
 

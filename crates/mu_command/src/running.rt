@@ -1,6 +1,5 @@
 // The second half of the program: writes what was found.
-ghost use Rattle.std.specs.Prelude.{◌≡◌, ◌<◌, ◌≤◌, ◌++◌, ◌∷◌, [], length, map, OnOk, OnErr, IfErr};
-ghost use Rattle.built_check.specs.Functions.{functions_of};
+ghost use Rattle.std.specs.Prelude.{◌≡◌, ◌≤◌, ◌++◌, ◌∷◌, [], map, OnOk, OnErr, IfErr, IsSome};
 ghost use Rattle.mu_base.specs.Faults.{Rose};
 ghost use Rattle.mu_step.specs.Run.{run};
 ghost use Rattle.mu_command.specs.Answer.{run_answer, ready_answer};
@@ -13,7 +12,7 @@ ghost use Rattle.mu_command.specs.Written.{Writes, IsWhole};
 use crate::lines::{ending_status, ending_text, line_text};
 use crate::ready::Ready;
 use crate::writing::{put_line, put_text};
-use built_check::Checked;
+use bundle_check::Checked;
 use ir_print::print_bundle;
 use ir_tree::Bundle;
 use mu_base::{PutFault, Sink, Status};
@@ -73,7 +72,7 @@ fn put_run<S: Sink>(alloc: Global, out: &mut S, lines: &[Line], ending: Ending) 
 
 // Runs a function, and writes the lines of the run and its ending.
 fn write_run<S: Sink>(alloc: Global, code: &Checked, entry: u32, out: &mut S) -> Status
-    requires { entry < length (functions_of code.now) }
+    requires { IsSome (run code.now entry) }
     ensures writes { Writes (run_answer (run code.now entry)) (S.written out.old) (S.written out.new) (S.ends out.old) (S.ends out.new) result }
     ensures never_falls { S.faults out.old ≤ S.faults out.new }
     ensures fault { result ≡ Status.SinkFault → Rose (S.faults out.old) (S.faults out.new) }

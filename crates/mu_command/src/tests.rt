@@ -86,7 +86,7 @@ fn runs(rt: HostRuntime) -> Result<(), Fail> {
         ),
         run(
             ".global @g <@t>",
-            "refused bundle 0 NotBuilt\n",
+            "refused bundle 12 Unknown\n",
             Status::Refused,
         ),
         run("@", "refused bundle 0 BadName\n", Status::Refused),
@@ -102,12 +102,12 @@ fn runs(rt: HostRuntime) -> Result<(), Fail> {
         ),
         run(
             ".typedef @i32 = int<32>",
-            "refused bundle 0 NotBuilt\n",
+            "refused entry Unknown\n",
             Status::Refused,
         ),
         run(
             ".typedef @a = int<64> .typedef @a = int<64>",
-            "refused bundle 31 NotBuilt\n",
+            "refused bundle 31 Duplicate\n",
             Status::Refused,
         ),
     ];
@@ -137,10 +137,10 @@ fn checks(rt: HostRuntime) -> Result<(), Fail> {
             "refused bundle 14 NotInProfile\n",
             Status::Refused,
         ),
-        // The first item that has no form that is run comes before a name that is defined twice.
+        // A name that is defined twice comes before one that is not defined.
         check(
-            ".typedef @a = int<64> .typedef @a = int<64> .global @g <@a>",
-            "refused bundle 44 NotBuilt\n",
+            ".global @g <@b> .typedef @a = int<64> .typedef @a = int<64>",
+            "refused bundle 47 Duplicate\n",
             Status::Refused,
         ),
     ];
@@ -343,8 +343,8 @@ fn refuses_hostile_bundles(rt: HostRuntime) -> Result<(), Fail> {
             "refused bundle 18 NumberTooLarge\n",
         ),
         (b".typedef @a = int<09>", "refused bundle 18 BadByte\n"),
-        // A number in octal, of a width that is not run.
-        (b".typedef @a = int<012>", "refused bundle 0 NotBuilt\n"),
+        // A number in octal, which is no width.
+        (b".typedef @a = int<012>", "refused bundle 18 WrongArgument\n"),
     ];
     for (bundle, text) in rows {
         let bytes = Vec::from_slice(rt.alloc(), bundle)?;
@@ -385,11 +385,13 @@ fn repeated(
     Ok(text)
 }
 
-// Where the pieces of a limited list begin, a piece, how many may stand, what is behind them, and what is answered to one more.
+// Where the pieces of a limited list begin, a piece, how many may stand, what is behind them, what is answered to so many, whose
+// names and types are at fault, and what to one more.
 type Limit = (
     &'static str,
     &'static str,
     usize,
+    &'static str,
     &'static str,
     &'static str,
 );
@@ -400,6 +402,7 @@ const LIMITS: [Limit; 14] = [
         ".global @g <@t> ",
         16_384,
         "",
+        "refused bundle 24 Duplicate\n",
         "refused bundle 262144 TooMany\n",
     ),
     (
@@ -407,6 +410,7 @@ const LIMITS: [Limit; 14] = [
         "%b: ",
         4096,
         "}",
+        "refused bundle 34 Duplicate\n",
         "refused bundle 16414 TooMany\n",
     ),
     (
@@ -414,6 +418,7 @@ const LIMITS: [Limit; 14] = [
         "RET () ",
         4096,
         "}",
+        "refused bundle 24 Unknown\n",
         "refused bundle 28706 TooMany\n",
     ),
     (
@@ -421,6 +426,7 @@ const LIMITS: [Limit; 14] = [
         "@c %d() ",
         1024,
         "} }",
+        "refused bundle 24 Unknown\n",
         "refused bundle 8248 TooMany\n",
     ),
     (
@@ -428,6 +434,7 @@ const LIMITS: [Limit; 14] = [
         "@t ",
         256,
         ") -> ()",
+        "refused bundle 15 Unknown\n",
         "refused bundle 783 TooMany\n",
     ),
     (
@@ -435,6 +442,7 @@ const LIMITS: [Limit; 14] = [
         "@t ",
         256,
         ")",
+        "refused bundle 21 Unknown\n",
         "refused bundle 789 TooMany\n",
     ),
     (
@@ -442,6 +450,7 @@ const LIMITS: [Limit; 14] = [
         "@t ",
         256,
         ">",
+        "refused bundle 9 EndlessType\n",
         "refused bundle 789 TooMany\n",
     ),
     (
@@ -449,6 +458,7 @@ const LIMITS: [Limit; 14] = [
         "@t ",
         256,
         ">",
+        "refused bundle 21 WrongArgument\n",
         "refused bundle 789 TooMany\n",
     ),
     (
@@ -456,6 +466,7 @@ const LIMITS: [Limit; 14] = [
         "@c ",
         256,
         "}",
+        "refused bundle 11 Unknown\n",
         "refused bundle 786 TooMany\n",
     ),
     (
@@ -463,6 +474,7 @@ const LIMITS: [Limit; 14] = [
         "<@t> %x ",
         256,
         "): }",
+        "refused bundle 46 Duplicate\n",
         "refused bundle 2081 TooMany\n",
     ),
     (
@@ -470,6 +482,7 @@ const LIMITS: [Limit; 14] = [
         "%x ",
         256,
         ") = RET () }",
+        "refused bundle 38 Duplicate\n",
         "refused bundle 803 TooMany\n",
     ),
     (
@@ -477,6 +490,7 @@ const LIMITS: [Limit; 14] = [
         "%x ",
         256,
         ") }",
+        "refused bundle 24 Unknown\n",
         "refused bundle 807 TooMany\n",
     ),
     (
@@ -484,6 +498,7 @@ const LIMITS: [Limit; 14] = [
         "@t ",
         256,
         "> }",
+        "refused bundle 24 Unknown\n",
         "refused bundle 808 TooMany\n",
     ),
     (
@@ -491,20 +506,21 @@ const LIMITS: [Limit; 14] = [
         "%x ",
         256,
         ") }",
+        "refused bundle 24 Unknown\n",
         "refused bundle 821 TooMany\n",
     ),
 ];
 
 #[test]
 fn refuses_one_past_each_limit(rt: HostRuntime) -> Result<(), Fail> {
-    for (front, piece, limit, back, refusal) in LIMITS {
+    for (front, piece, limit, back, at_limit, refusal) in LIMITS {
         let most = repeated(rt.alloc(), front, piece, limit, back)?;
         answers(
             &rt,
             rt.alloc(),
             &["check", "b"],
             most,
-            "refused bundle 0 NotBuilt\n",
+            at_limit,
             Status::Refused,
         )?;
         let mut past = repeated(rt.alloc(), front, piece, limit, piece)?;
