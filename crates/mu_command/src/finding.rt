@@ -80,7 +80,7 @@ fn judge_built(alloc: Global, code: Checked) -> Result<Checked, Stop>
     ensures built { Comes (built code) result }
     ensures met { IfOk result (λ c. first_unmet (built_demands c) ≡ None) }
 {
-    match are_built(&code) {
+    match are_built(alloc, &code) {
         Ok(()) => Ok(code),
         Err(Fault::Memory) => Err(Stop::Memory),
         Err(Fault::At { kind, place }) => Err(refused(alloc, place, run_fault_name(kind))?),
