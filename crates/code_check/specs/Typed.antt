@@ -1,7 +1,7 @@
 -- To believe: well typed code, as a machine needs it, in terms of numbers and classes alone. p are the tables of a bundle, of which only
 -- what is known by number is used; blocks says what the block with a number takes; ks are the classes of a block's variables so far, by
 -- number; returns are the classes of what the function gives; gs are the classes of what an instruction gives.
-use Rattle.std.specs.Prelude.{◌≡◌, ℕ, ◌+◌, ◌^◌, ◌<◌, Bool, true, false, List, [], ◌∷◌, ◌++◌, Option, Some, None, IsSomeAnd, IfSome, is_some, slice_get, length, take, nat_lt, ◌||◌}
+use Rattle.std.specs.Prelude.{◌≡◌, ℕ, ◌^◌, Bool, true, false, List, [], ◌∷◌, ◌++◌, Option, Some, None, IsSomeAnd, is_some, slice_get, take, nat_lt, ◌||◌}
 use Rattle.demands.specs.Names.{found}
 use Rattle.mu_base.specs.declared.order.Order.{Order as MuOrder}
 use Rattle.mu_base.specs.declared.order.Order.TheVariants as mu_orders
