@@ -17,6 +17,7 @@ use Rattle.code_check.proofs.TypedObjects.{allocation_fits, addressing_fits}
 use Rattle.code_check.proofs.TypedAccesses.{access_fits}
 use Rattle.code_check.proofs.TypedStacks.{trapping_fits, switch_fits}
 use Rattle.code_check.proofs.TypedCommons.{common_fits}
+use Rattle.code_check.proofs.TypedExits.{told_as}
 use Rattle.code_check.proofs.TypedVariables.{results_fit, results_classes}
 
 pub op_fits : (p : Tables) (blocks : Blocks) (f : Body) (ls : Locals) (i : Op) → TablesFit p → BodyFits blocks f → LocalsFit ls →
@@ -43,6 +44,7 @@ pub inst_fits : (p : Tables) (blocks : Blocks) (f : Body) (ls : Locals) (ended :
 unfolding inst_demands
 inst_fits p blocks f ls ended i tables body fits m = record {
   form = op_fits p blocks f ls i.op tables body fits m.1.1.0;
+  told = told_as p f ls (after p ls i) i.op;
   normal =
       subst (λ (ks : List ℕ). OptionalNormalFits p blocks ks (optional_target p f (after p ls i) (normal_of i.op))) (after_classes p f ls ended i m)
       (optional_normal_fits p blocks f (after p ls i) (normal_of i.op) body (after_fits p ls i fits) m.1.1.1.0);
