@@ -15,7 +15,8 @@ use Rattle.code_check.specs.declared.scopes.Locals.{Locals}
 use Rattle.code_check.specs.declared.scopes.Body.{Body}
 use Rattle.code_check.specs.Destinations.{optional_target}
 use Rattle.code_check.specs.Instructions.{form_of, normal_of_exc, normal_of, computation_exc, allocation_exc, access_exc, is_ending, after, inst_demands, inst_code, insts_demands, insts_code, ends}
-use Rattle.code_check.specs.Typed.{Blocks, CodeFits, CodesFit, CodeAt, joined, form_ends, code_ends, EndsAtLast, BlockFits, all_gives, LocalsFit, BodyFits, TablesFit}
+use Rattle.code_check.specs.Typed.{Blocks, CodeFits, CodesFit, CodeAt, joined, form_ends, code_ends, EndsAtLast, BlockFits, LocalsFit, BodyFits, TablesFit}
+use Rattle.code_check.specs.TypedLaws.{all_gives}
 use Rattle.code_check.proofs.TypedOperands.{not_is}
 use Rattle.code_check.proofs.TypedInstructions.{insts_fit}
 

@@ -9,7 +9,8 @@ use Rattle.code_check.specs.declared.scopes.Locals.{Locals}
 use Rattle.code_check.specs.declared.scopes.Body.{Body}
 use Rattle.code_check.specs.Destinations.{optional_target}
 use Rattle.code_check.specs.Instructions.{op_demands, gives, form_of, normal_of, exceptional_of, keepalive_of, after, inst_demands, inst_code, insts_demands, insts_code, after_all, is_ending}
-use Rattle.code_check.specs.Typed.{Blocks, FormFits, OptionalNormalFits, CodeFits, CodesFit, joined, all_gives, LocalsFit, BodyFits, TablesFit}
+use Rattle.code_check.specs.Typed.{Blocks, FormFits, OptionalNormalFits, CodeFits, CodesFit, joined, LocalsFit, BodyFits, TablesFit}
+use Rattle.code_check.specs.TypedLaws.{all_gives}
 use Rattle.code_check.proofs.TypedOperands.{nat_eq_is, optional_normal_fits, optional_exceptional_fits, keepalive_fits}
 use Rattle.code_check.proofs.TypedComputations.{computation_fits}
 use Rattle.code_check.proofs.TypedControl.{control_fits}

@@ -1,13 +1,13 @@
 -- To believe: well typed code, as a machine needs it, in terms of numbers and classes alone. p are the tables of a bundle, of which only
--- what is known by number is used; blocks says what the block with a number takes; ks are the classes of a block's variables so far, by
--- number; returns are the classes of what the function gives; gs are the classes of what an instruction gives.
+-- what is known by number is used; blocks says which numbers are those of blocks of the function, and what each of these takes; returns
+-- are the classes of what the function gives; ks are the classes of a block's variables so far, by number; gs are the classes of what an
+-- instruction gives.
 use Rattle.std.specs.Prelude.{◌≡◌, ℕ, ◌^◌, Bool, true, false, List, [], ◌∷◌, ◌++◌, Option, Some, None, IsSomeAnd, is_some, slice_get, take, nat_lt, not, ◌&&◌, ◌||◌}
 use Rattle.demands.specs.Names.{found}
 use Rattle.mu_base.specs.declared.order.Order.{Order as MuOrder}
 use Rattle.mu_base.specs.declared.order.Order.TheVariants as mu_orders
 use Rattle.ir_tree.specs.declared.operators.MemoryOrder.{MemoryOrder}
 use Rattle.ir_tree.specs.declared.operators.MemoryOrder.TheVariants as orders
-use Rattle.ir_tree.specs.declared.code.Inst.{Inst}
 use Rattle.ir_tree.specs.declared.operators.CompareOp.{CompareOp}
 use Rattle.ir_tree.specs.declared.operators.CompareOp.TheVariants as compare_ops
 use Rattle.ir_tree.specs.declared.operators.ConvertOp.{ConvertOp}
@@ -55,7 +55,6 @@ use Rattle.code_check.specs.declared.scopes.Variable.{Variable}
 use Rattle.code_check.specs.declared.scopes.Body.{Body}
 use Rattle.code_check.specs.Computations.{compares, converts}
 use Rattle.code_check.specs.Accesses.{may_load, may_store, may_update, may_fail, may_fence, updates_type}
-use Rattle.code_check.specs.Instructions.{gives}
 
 -- ---- where values come from
 
@@ -154,7 +153,7 @@ pub record HasSignature (p : Tables) (c : ℕ) : Type 0 where
 
 -- ---- destinations
 
--- what the block with a number takes
+-- what the block with a number takes; nothing where the function has no such block
 abbrev pub Blocks : Type 0
 Blocks = ℕ → Option BlockEntry
 
@@ -431,11 +430,6 @@ pub record CodeAt (p : Tables) (blocks : Blocks) (returns : List ℕ) (ks : List
   pub given : List ℕ
   pub there : slice_get gss at ≡ Some given
   pub fits : CodeFits p blocks returns (ks ++ joined (take at gss)) code given
-
--- what each of some instructions gives
-abbrev pub all_gives : Tables → List Inst → List (List ℕ)
-all_gives p [] = []
-all_gives p (i ∷ is) = gives p i.op ∷ all_gives p is
 
 -- ---- endings
 

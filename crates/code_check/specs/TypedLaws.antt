@@ -1,5 +1,5 @@
 -- Laws of demands on code: where they are met, the code is well typed.
-use Rattle.std.specs.Prelude.{◌≡◌, ℕ, ◌+◌, ◌<◌, Bool, true, false, List, ◌++◌, Option, Some, IsSomeAnd, slice_get, length}
+use Rattle.std.specs.Prelude.{◌≡◌, ℕ, ◌+◌, ◌<◌, Bool, true, false, List, [], ◌∷◌, ◌++◌, Option, Some, IsSomeAnd, slice_get, length}
 use Rattle.demands.specs.Demands.{AllMet}
 use Rattle.ir_lex.specs.declared.name.Name.{Name}
 use Rattle.ir_tree.specs.declared.operands.Operand.{Operand}
@@ -15,7 +15,7 @@ use Rattle.code_check.specs.declared.scopes.Body.{Body}
 use Rattle.code_check.specs.Operands.{operand_demands, argument_demands, source_of, sources_of}
 use Rattle.code_check.specs.Destinations.{exceptional_demands, normal_demands, target_of}
 use Rattle.code_check.specs.Instructions.{no_locals, bound, op_demands, gives, form_of, inst_demands, inst_code, after, insts_demands, insts_code, after_all, ends}
-use Rattle.code_check.specs.Typed.{SourceFits, SourcesFit, Blocks, TargetFits, NormalFits, FormFits, CodeFits, CodesFit, CodeAt, EndsAtLast, BlockFits, code_ends, joined, all_gives, LocalsFit, BodyFits, TablesFit}
+use Rattle.code_check.specs.Typed.{SourceFits, SourcesFit, Blocks, TargetFits, NormalFits, FormFits, CodeFits, CodesFit, CodeAt, EndsAtLast, BlockFits, code_ends, joined, LocalsFit, BodyFits, TablesFit}
 
 -- the class that is wanted of an operand is there, and the operand has it
 abbrev pub OperandsFit : Type 0
@@ -54,6 +54,11 @@ InstructionsFit = (p : Tables) (blocks : Blocks) (f : Body) (ls : Locals) (ended
 abbrev pub VariablesFit : Type 0
 VariablesFit = (p : Tables) (f : Body) (ls : Locals) (ended : Bool) (i : Inst) → LocalsFit ls →
     AllMet (inst_demands p f ls ended i) → LocalsFit (after p ls i) × ((after p ls i).classes ≡ ls.classes ++ gives p i.op)
+
+-- what each of some instructions gives: the classes of its results
+abbrev pub all_gives : Tables → List Inst → List (List ℕ)
+all_gives p [] = []
+all_gives p (i ∷ is) = gives p i.op ∷ all_gives p is
 
 -- each instruction of a list fits the variables before it, and those behind all of them are known
 abbrev pub ListsFit : Type 0
