@@ -7,5 +7,6 @@ pub mod TypedObjects
 pub mod TypedAccesses
 pub mod TypedStacks
 pub mod TypedCommons
+pub mod TypedExits
 pub mod TypedInstructions
 pub mod TypedEndings

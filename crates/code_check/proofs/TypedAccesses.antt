@@ -1,5 +1,5 @@
 -- Instructions that read or write memory, and that meet their demands, fit, one clause a form.
-use Rattle.std.proofs.Common.{◌≡◌, Bool, true, false, Option, None, refl}
+use Rattle.std.proofs.Common.{◌≡◌, Bool, true, false, None, refl}
 use Rattle.demands.specs.Demands.{AllMet}
 use Rattle.ir_tree.specs.declared.operators.MemoryOrder.{MemoryOrder}
 use Rattle.ir_tree.specs.declared.operators.MemoryOrder.TheVariants as orders
@@ -7,7 +7,6 @@ use Rattle.ir_tree.specs.declared.operators.UpdateOp.{UpdateOp}
 use Rattle.ir_tree.specs.declared.operators.UpdateOp.TheVariants as updates
 use Rattle.ir_tree.specs.declared.accessing.Access.{Access}
 use Rattle.ir_tree.specs.declared.accessing.Access.TheVariants as accesses
-use Rattle.type_laws.specs.declared.definition.TypeDef.{TypeDef}
 use Rattle.check_tables.specs.declared.tables.Tables.{Tables}
 use Rattle.check_tables.specs.Lookups.{type_named}
 use Rattle.check_tables.specs.TypeTests.{is_scalar}
@@ -44,16 +43,29 @@ access_fits p ls (accesses.Load o t l e) fits m =
     let type : TypeIn p (type_named p t) is_scalar = type_of p t is_scalar refl m.1.0 in
     (order_fits may_load o.order m.0, type.type, place_fits p ls l (type_named p t) type.type.number fits type.is m.1.1, refl)
 access_fits p ls (accesses.Store o t l a e) fits m =
-    let type : TypeIn p (type_named p t) is_scalar = type_of p t is_scalar refl m.1.0 in
-    (order_fits may_store o.order m.0, type.type, place_fits p ls l (type_named p t) type.type.number fits type.is m.1.1.0,
-      of_type_fits p ls a t fits m.1.1.1, refl)
+    let type : TypeIn p (type_named p t) is_scalar = type_of p t is_scalar refl m.1.0 in (
+      order_fits may_store o.order m.0,
+      type.type,
+      place_fits p ls l (type_named p t) type.type.number fits type.is m.1.1.0,
+      of_type_fits p ls a t fits m.1.1.1,
+      refl,
+    )
 access_fits p ls (accesses.Cmpxchg w s o t l a b e) fits m =
-    let type : TypeIn p (type_named p t) is_scalar = type_of p t is_scalar refl m.1.1.0 in
-    (order_fits may_update s.order m.0, order_fits may_fail o.order m.1.0, type.type,
+    let type : TypeIn p (type_named p t) is_scalar = type_of p t is_scalar refl m.1.1.0 in (
+      order_fits may_update s.order m.0,
+      order_fits may_fail o.order m.1.0,
+      type.type,
       place_fits p ls l (type_named p t) type.type.number fits type.is m.1.1.1.0,
-      of_type_fits p ls a t fits m.1.1.1.1.0, of_type_fits p ls b t fits m.1.1.1.1.1, refl)
+      of_type_fits p ls a t fits m.1.1.1.1.0,
+      of_type_fits p ls b t fits m.1.1.1.1.1,
+      refl,
+    )
 access_fits p ls (accesses.Atomicrmw o op t l a e) fits m =
-    let type : TypeIn p (type_named p t) (updates_type op) = type_of p t (updates_type op) (nothing_is_updated op) m.1.0 in
-    (order_fits may_update o.order m.0, type.type, place_fits p ls l (type_named p t) type.type.number fits type.is m.1.1.0,
-      of_type_fits p ls a t fits m.1.1.1, refl)
+    let type : TypeIn p (type_named p t) (updates_type op) = type_of p t (updates_type op) (nothing_is_updated op) m.1.0 in (
+      order_fits may_update o.order m.0,
+      type.type,
+      place_fits p ls l (type_named p t) type.type.number fits type.is m.1.1.0,
+      of_type_fits p ls a t fits m.1.1.1,
+      refl,
+    )
 access_fits p ls (accesses.Fence o) fits m = (order_fits may_fence o.order m, refl)

@@ -1,5 +1,5 @@
 -- Instructions under names that meet their demands fit, one clause a form.
-use Rattle.std.proofs.Common.{◌≡◌, Option, Some, IsSomeAnd, refl, subst}
+use Rattle.std.proofs.Common.{Option, Some, IsSomeAnd, refl, subst}
 use Rattle.demands.specs.Demands.{AllMet}
 use Rattle.ir_tree.specs.declared.common.CommonInst.{CommonInst}
 use Rattle.ir_tree.specs.declared.common.CommonInst.TheVariants as commons
@@ -19,7 +19,7 @@ pub common_fits : (p : Tables) (ls : Locals) (c : CommonInst) → LocalsFit ls �
     CommonFits p ls.classes (common_code p ls c) (common_gives p c)
 common_fits p ls (commons.NewStack s f) fits m =
     let function : IsSomeAnd (funcref_of (signature_named p s)) (λ c. SourceFits p ls.classes (source_of p ls f) c) =
-      operand_fits p ls OperandType f (funcref_of (signature_named p s)) fits m in
+    operand_fits p ls OperandType f (funcref_of (signature_named p s)) fits m in
     let z : SignatureIn p (signature_named p s) = signature_of p s (λ c. SourceFits p ls.classes (source_of p ls f) c) function in
     (z.signature, subst (λ (x : Option Signature). IsSomeAnd (funcref_of x) (λ c. SourceFits p ls.classes (source_of p ls f) c)) z.is function, refl)
 common_fits p ls (commons.KillStack s) fits m = (operand_fits p ls OperandType s (Some (stackref p.types)) fits m, refl)
@@ -31,6 +31,9 @@ common_fits p ls (commons.FutexWait t l v) fits m =
     let type : TypeIn p (type_named p t) is_int = type_of p t is_int refl m.0 in
     (type.type, place_fits p ls l (type_named p t) type.type.number fits type.is m.1.0, of_type_fits p ls v t fits m.1.1, refl)
 common_fits p ls (commons.FutexWake t l n) fits m =
-    let type : TypeIn p (type_named p t) is_int = type_of p t is_int refl m.0 in
-    (type.type, place_fits p ls l (type_named p t) type.type.number fits type.is m.1.0,
-      operand_fits p ls OperandType n (Some (int32 p.types)) fits m.1.1, refl)
+    let type : TypeIn p (type_named p t) is_int = type_of p t is_int refl m.0 in (
+      type.type,
+      place_fits p ls l (type_named p t) type.type.number fits type.is m.1.0,
+      operand_fits p ls OperandType n (Some (int32 p.types)) fits m.1.1,
+      refl,
+    )

@@ -1,10 +1,6 @@
 -- Computations that meet their demands fit, one clause a form.
-use Rattle.std.proofs.Common.{◌≡◌, ℕ, ◌^◌, Bool, true, false, List, [], ◌∷◌, Option, Some, None, IsSomeAnd, is_some, map, not, nat_lt, ◌&&◌, slice_get, if◌then◌else◌, refl, sym, ◌∙◌, ap, subst}
+use Rattle.std.proofs.Common.{◌≡◌, ℕ, true, false, List, [], ◌∷◌, Option, Some, None, IsSomeAnd, is_some, refl, sym, ◌∙◌, ap, subst}
 use Rattle.demands.specs.Demands.{AllMet}
-use Rattle.ir_lex.specs.declared.name.Name.{Name}
-use Rattle.ir_lex.specs.declared.name.Numeral.{Numeral}
-use Rattle.ir_lex.specs.declared.token.Number.{Number}
-use Rattle.ir_tree.specs.declared.operands.Operand.{Operand}
 use Rattle.ir_tree.specs.declared.operators.CompareOp.{CompareOp}
 use Rattle.ir_tree.specs.declared.operators.CompareOp.TheVariants as compare_ops
 use Rattle.ir_tree.specs.declared.operators.ConvertOp.{ConvertOp}
@@ -16,11 +12,11 @@ use Rattle.type_laws.specs.declared.definition.TypeDef.TheVariants.{Int, Struct,
 use Rattle.check_tables.specs.declared.fault.CheckKind.TheVariants.{OperandType}
 use Rattle.check_tables.specs.declared.tables.Tables.{Tables}
 use Rattle.check_tables.specs.Types.{definition_at, definition_in, class_in, int1}
-use Rattle.check_tables.specs.Lookups.{or_zero, type_named, class_named, noted_class, definition_named, leaves_named}
-use Rattle.check_tables.specs.TypeTests.{is_int, is_scalar, is_castable, are_cast, is_struct, is_value_type, fields_of, field_at}
+use Rattle.check_tables.specs.Lookups.{or_zero, type_named, class_named, definition_named, leaves_named}
+use Rattle.check_tables.specs.TypeTests.{is_int, is_scalar, is_castable, are_cast, is_struct, is_value_type, fields_of}
 use Rattle.code_check.specs.declared.code.Source.{Source}
 use Rattle.code_check.specs.declared.scopes.Locals.{Locals}
-use Rattle.code_check.specs.Operands.{operand_demands, of_type, source_of}
+use Rattle.code_check.specs.Operands.{source_of}
 use Rattle.code_check.specs.Computations.{compare_op, convert_op, compares, converts, field_named, computation_demands, computation_gives, computation_code}
 use Rattle.code_check.specs.Typed.{SourceFits, TypeFits, HasType, nth_field, written_comparison, written_conversion, ComputationFits, LocalsFit, TablesFit}
 use Rattle.code_check.proofs.TypedTables.{part_gives_type, field_is_there}
@@ -75,39 +71,50 @@ computation_fits p ls (computations.Binary op t a b e) tables fits m =
 computation_fits p ls (computations.Compare op t a b) tables fits m =
     (compared p (type_named p t) op m.0, of_type_fits p ls a t fits m.1.0, of_type_fits p ls b t fits m.1.1, refl)
 computation_fits p ls (computations.Convert op s t a) tables fits m =
-    let from : TypeIn p (type_named p s) is_int = type_of p s is_int refl m.0 in
-    (from.type,
+    let from : TypeIn p (type_named p s) is_int = type_of p s is_int refl m.0 in (
+      from.type,
       converted p (type_named p t) (definition_at p.types from.type.number) op
-        (subst (λ (x : Option ℕ). converts op (definition_in p.types x) (definition_named p t) ≡ true) from.is m.1.0),
-      of_type_fits p ls a s fits m.1.1, refl)
+          (subst (λ (x : Option ℕ). converts op (definition_in p.types x) (definition_named p t) ≡ true) from.is m.1.0),
+      of_type_fits p ls a s fits m.1.1,
+      refl,
+    )
 computation_fits p ls (computations.Refcast s t a) tables fits m =
-    let from : TypeIn p (type_named p s) is_castable = type_of p s is_castable refl m.0 in
-    (from.type,
+    let from : TypeIn p (type_named p s) is_castable = type_of p s is_castable refl m.0 in (
+      from.type,
       (type_of p t (are_cast (definition_at p.types from.type.number)) (nothing_is_cast (definition_at p.types from.type.number))
-        (subst (λ (x : Option ℕ). are_cast (definition_in p.types x) (definition_named p t) ≡ true) from.is m.1.0)).type,
-      of_type_fits p ls a s fits m.1.1, refl)
-computation_fits p ls (computations.Select s t c a b) tables fits m =
-    ((value_type_in p (type_named p t) m.1.0).type,
-      subst (λ (x : Option ℕ). IsSomeAnd x (λ k. SourceFits p ls.classes (source_of p ls c) k)) (same_class (class_named p s) (Some (int1 p.types)) m.0)
-        (operand_fits p ls OperandType c (class_named p s) fits m.1.1.0),
-      of_type_fits p ls a t fits m.1.1.1.0, of_type_fits p ls b t fits m.1.1.1.1, refl)
+          (subst (λ (x : Option ℕ). are_cast (definition_in p.types x) (definition_named p t) ≡ true) from.is m.1.0)).type,
+      of_type_fits p ls a s fits m.1.1,
+      refl,
+    )
+computation_fits p ls (computations.Select s t c a b) tables fits m = (
+  (value_type_in p (type_named p t) m.1.0).type,
+  subst (λ (x : Option ℕ). IsSomeAnd x (λ k. SourceFits p ls.classes (source_of p ls c) k)) (same_class (class_named p s) (Some (int1 p.types)) m.0)
+      (operand_fits p ls OperandType c (class_named p s) fits m.1.1.0),
+  of_type_fits p ls a t fits m.1.1.1.0,
+  of_type_fits p ls b t fits m.1.1.1.1,
+  refl,
+)
 computation_fits p ls (computations.Extractvalue t n a) tables fits m =
     let type : ValueTypeIn p (type_named p t) =
-      value_type_in p (type_named p t) (both_are (is_struct (definition_named p t)) (is_value_type (definition_named p t) (leaves_named p t)) m.0.0).1 in
+    value_type_in p (type_named p t) (both_are (is_struct (definition_named p t)) (is_value_type (definition_named p t) (leaves_named p t)) m.0.0).1 in
     let field : field_named p t n ≡ nth_field n.number.magnitude (definition_at p.types type.type.number) =
-      field_is (fields_of (definition_named p t)) n.number m.0.1 ∙ ap (λ o. nth_field n.number.magnitude (definition_in p.types o)) type.is in
-    (type.type, of_type_fits p ls a t fits m.1,
+    field_is (fields_of (definition_named p t)) n.number m.0.1 ∙ ap (λ o. nth_field n.number.magnitude (definition_in p.types o)) type.is in (
+      type.type,
+      of_type_fits p ls a t fits m.1,
       part_gives_type p (nth_field n.number.magnitude (definition_at p.types type.type.number)) (computation_gives p (computations.Extractvalue t n a))
-        (λ k e. field_is_there p type.type.number n.number.magnitude k tables e)
-        (sym (ap is_some field) ∙ m.0.1)
-        (ap (λ x. or_zero (class_in p.types x) ∷ []) field))
+          (λ k e. field_is_there p type.type.number n.number.magnitude k tables e)
+          (sym (ap is_some field) ∙ m.0.1)
+          (ap (λ x. or_zero (class_in p.types x) ∷ []) field),
+    )
 computation_fits p ls (computations.Insertvalue t n a b) tables fits m =
     let type : ValueTypeIn p (type_named p t) =
-      value_type_in p (type_named p t) (both_are (is_struct (definition_named p t)) (is_value_type (definition_named p t) (leaves_named p t)) m.0.0).1 in
+    value_type_in p (type_named p t) (both_are (is_struct (definition_named p t)) (is_value_type (definition_named p t) (leaves_named p t)) m.0.0).1 in
     let field : field_named p t n ≡ nth_field n.number.magnitude (definition_at p.types type.type.number) =
-      field_is (fields_of (definition_named p t)) n.number m.0.1 ∙ ap (λ o. nth_field n.number.magnitude (definition_in p.types o)) type.is in
-    (type.type, of_type_fits p ls a t fits m.1.0,
+    field_is (fields_of (definition_named p t)) n.number m.0.1 ∙ ap (λ o. nth_field n.number.magnitude (definition_in p.types o)) type.is in (
+      type.type,
+      of_type_fits p ls a t fits m.1.0,
       part_fits p ls.classes (source_of p ls b) (nth_field n.number.magnitude (definition_at p.types type.type.number))
-        (subst (λ (x : Option ℕ). IsSomeAnd (class_in p.types x) (λ k. SourceFits p ls.classes (source_of p ls b) k)) field
+          (subst (λ (x : Option ℕ). IsSomeAnd (class_in p.types x) (λ k. SourceFits p ls.classes (source_of p ls b) k)) field
           (operand_fits p ls OperandType b (class_in p.types (field_named p t n)) fits m.1.1)),
-      refl)
+      refl,
+    )

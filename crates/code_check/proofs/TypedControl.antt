@@ -1,9 +1,8 @@
 -- Instructions that say where the function goes on, and that meet their demands, fit, one clause a form.
-use Rattle.std.proofs.Common.{◌≡◌, ℕ, Bool, true, false, List, [], ◌∷◌, Option, Some, None, IsSomeAnd, nat_eq, ◌&&◌, slice_get, refl, sym, ◌∙◌, ap, subst}
+use Rattle.std.proofs.Common.{◌≡◌, ℕ, true, List, [], ◌∷◌, Option, Some, None, IsSomeAnd, nat_eq, slice_get, refl, ap, subst}
 use Rattle.demands.specs.Demands.{AllMet}
 use Rattle.demands.specs.Names.{found}
 use Rattle.ir_lex.specs.declared.name.Name.{Name}
-use Rattle.ir_tree.specs.declared.operands.Arguments.{Arguments}
 use Rattle.ir_tree.specs.declared.flow.Case.{Case}
 use Rattle.ir_tree.specs.declared.flow.ControlFlow.{ControlFlow}
 use Rattle.ir_tree.specs.declared.flow.ControlFlow.TheVariants as flows
@@ -37,11 +36,14 @@ constant_is p (Some (sorts.Function n)) c tables int h = absurd (function_is_no_
 cases_fit : (p : Tables) (blocks : Blocks) (f : Body) (ls : Locals) (t : Name) (cs : List Case) → TablesFit p → BodyFits blocks f → LocalsFit ls →
     HasType p is_int (noted_class p t) → AllMet (case_demands p f ls t cs) → CasesFit p blocks ls.classes (noted_class p t) (cases_code p f ls cs)
 cases_fit p blocks f ls t [] tables body fits int m = tt
-cases_fit p blocks f ls t (c ∷ cs) tables body fits int m =
-    ((constant_is p (found p.globals.names c.constant.text) (noted_class p t) tables int
+cases_fit p blocks f ls t (c ∷ cs) tables body fits int m = (
+  (
+    constant_is p (found p.globals.names c.constant.text) (noted_class p t) tables int
         (noted (λ k. class_of_global p c.constant ≡ Some k) (class_named p t) (same_class (class_of_global p c.constant) (class_named p t) m.0.0)),
-      normal_fits p blocks f ls c.destination body fits m.0.1),
-    cases_fit p blocks f ls t cs tables body fits int m.1)
+    normal_fits p blocks f ls c.destination body fits m.0.1,
+  ),
+  cases_fit p blocks f ls t cs tables body fits int m.1,
+)
 
 -- ---- signatures
 
@@ -66,22 +68,24 @@ control_fits p blocks f ls (flows.Switch t a d cs) tables body fits m =
     (int, of_type_fits p ls a t fits m.1.0, normal_fits p blocks f ls d body fits m.1.1.0, cases_fit p blocks f ls t cs tables body fits int m.1.1.1, refl)
 control_fits p blocks f ls (flows.Call s c a e k) tables body fits m =
     let callee : IsSomeAnd (funcref_of (signature_named p s)) (λ x. SourceFits p ls.classes (source_of p ls c) x) =
-      operand_fits p ls OperandType c (funcref_of (signature_named p s)) fits m.0 in
-    let z : SignatureIn p (signature_named p s) = signature_of p s (λ x. SourceFits p ls.classes (source_of p ls c) x) callee in
-    (z.signature,
+    operand_fits p ls OperandType c (funcref_of (signature_named p s)) fits m.0 in
+    let z : SignatureIn p (signature_named p s) = signature_of p s (λ x. SourceFits p ls.classes (source_of p ls c) x) callee in (
+      z.signature,
       subst (λ (x : Option Signature). IsSomeAnd (funcref_of x) (λ k. SourceFits p ls.classes (source_of p ls c) k)) z.is callee,
       subst (λ (x : Option Signature). IsSomeAnd (takes_of x) (λ ks. SourcesFit p ls.classes (sources_of p ls a.values) ks)) z.is
-        (arguments_fit p ls a (takes_of (signature_named p s)) fits m.1),
-      ap (λ x. noted_classes (gives_of x)) z.is)
+          (arguments_fit p ls a (takes_of (signature_named p s)) fits m.1),
+      ap (λ x. noted_classes (gives_of x)) z.is,
+    )
 control_fits p blocks f ls (flows.Tailcall s c a) tables body fits m =
     let callee : IsSomeAnd (funcref_of (signature_named p s)) (λ x. SourceFits p ls.classes (source_of p ls c) x) =
-      operand_fits p ls OperandType c (funcref_of (signature_named p s)) fits m.1.0 in
-    let z : SignatureIn p (signature_named p s) = signature_of p s (λ x. SourceFits p ls.classes (source_of p ls c) x) callee in
-    (z.signature,
+    operand_fits p ls OperandType c (funcref_of (signature_named p s)) fits m.1.0 in
+    let z : SignatureIn p (signature_named p s) = signature_of p s (λ x. SourceFits p ls.classes (source_of p ls c) x) callee in (
+      z.signature,
       are_same z.signature.entry.gives f.gives (subst (λ (x : Option Signature). gives_these (gives_of x) f.gives ≡ true) z.is m.0),
       subst (λ (x : Option Signature). IsSomeAnd (funcref_of x) (λ k. SourceFits p ls.classes (source_of p ls c) k)) z.is callee,
       subst (λ (x : Option Signature). IsSomeAnd (takes_of x) (λ ks. SourcesFit p ls.classes (sources_of p ls a.values) ks)) z.is
-        (arguments_fit p ls a (takes_of (signature_named p s)) fits m.1.1),
-      refl)
+          (arguments_fit p ls a (takes_of (signature_named p s)) fits m.1.1),
+      refl,
+    )
 control_fits p blocks f ls (flows.Ret a) tables body fits m = (arguments_fit p ls a (Some f.gives) fits m, refl)
 control_fits p blocks f ls (flows.Throw e) tables body fits m = (operand_fits p ls OperandType e (Some (ref_void p.types)) fits m, refl)

@@ -1,8 +1,7 @@
 -- The last instruction of a block ends it, and no other does; and what a machine at a place of a block knows.
-use Rattle.std.proofs.Common.{◌≡◌, ℕ, ◌+◌, ◌<◌, zero, suc, Bool, true, false, List, [], ◌∷◌, ◌++◌, Option, Some, None, slice_get, length, take, is_some, not, ◌||◌, refl, sym, ◌∙◌, ap, subst, arith, append_assoc, append-nil}
+use Rattle.std.proofs.Common.{◌≡◌, ℕ, ◌+◌, ◌<◌, zero, suc, Bool, true, false, List, [], ◌∷◌, ◌++◌, Option, Some, None, slice_get, length, take, is_some, ◌||◌, refl, sym, ◌∙◌, ap, subst, arith, append_assoc, append-nil}
 use Rattle.demands.specs.Demands.{AllMet}
 use Rattle.ir_tree.specs.declared.operands.ExceptionClause.{ExceptionClause}
-use Rattle.ir_tree.specs.declared.computing.Computation.{Computation}
 use Rattle.ir_tree.specs.declared.flow.ControlFlow.TheVariants as flows
 use Rattle.ir_tree.specs.declared.trapping.Trapping.TheVariants as trappings
 use Rattle.ir_tree.specs.declared.switching.StackSwitch.TheVariants as switches
@@ -16,7 +15,8 @@ use Rattle.code_check.specs.declared.scopes.Locals.{Locals}
 use Rattle.code_check.specs.declared.scopes.Body.{Body}
 use Rattle.code_check.specs.Destinations.{optional_target}
 use Rattle.code_check.specs.Instructions.{form_of, normal_of_exc, normal_of, computation_exc, allocation_exc, access_exc, is_ending, after, inst_demands, inst_code, insts_demands, insts_code, ends}
-use Rattle.code_check.specs.Typed.{Blocks, CodeFits, CodesFit, CodeAt, joined, form_ends, code_ends, EndsAtLast, BlockFits, all_gives, LocalsFit, BodyFits, TablesFit}
+use Rattle.code_check.specs.Typed.{Blocks, CodeFits, CodesFit, CodeAt, joined, form_ends, code_ends, EndsAtLast, BlockFits, LocalsFit, BodyFits, TablesFit}
+use Rattle.code_check.specs.TypedLaws.{all_gives}
 use Rattle.code_check.proofs.TypedOperands.{not_is}
 use Rattle.code_check.proofs.TypedInstructions.{insts_fit}
 
@@ -91,7 +91,7 @@ code_at p blocks returns ks (j ∷ is) (gs ∷ gss) zero i fits there = record {
   given = gs;
   there = refl;
   fits =
-    subst (λ (x : List ℕ). CodeFits p blocks returns x i gs) (sym (append-nil ks))
+      subst (λ (x : List ℕ). CodeFits p blocks returns x i gs) (sym (append-nil ks))
       (subst (λ (x : Code). CodeFits p blocks returns ks x gs) (some_is j i there) fits.0);
 }
 code_at p blocks returns ks (j ∷ is) (gs ∷ gss) (suc at) i fits there =

@@ -1,5 +1,5 @@
 -- Instructions that meet their demands are well typed code.
-use Rattle.std.proofs.Common.{◌≡◌, ℕ, Bool, List, [], ◌∷◌, ◌++◌, length, refl, sym, ◌∙◌, ap, subst, append_assoc, append-nil}
+use Rattle.std.proofs.Common.{◌≡◌, ℕ, Bool, List, [], ◌∷◌, ◌++◌, length, sym, ◌∙◌, ap, subst, append_assoc, append-nil}
 use Rattle.demands.specs.Demands.{AllMet}
 use Rattle.ir_tree.specs.declared.code.Op.{Op}
 use Rattle.ir_tree.specs.declared.code.Op.TheVariants as ops
@@ -9,7 +9,8 @@ use Rattle.code_check.specs.declared.scopes.Locals.{Locals}
 use Rattle.code_check.specs.declared.scopes.Body.{Body}
 use Rattle.code_check.specs.Destinations.{optional_target}
 use Rattle.code_check.specs.Instructions.{op_demands, gives, form_of, normal_of, exceptional_of, keepalive_of, after, inst_demands, inst_code, insts_demands, insts_code, after_all, is_ending}
-use Rattle.code_check.specs.Typed.{Blocks, FormFits, OptionalNormalFits, CodeFits, CodesFit, joined, all_gives, LocalsFit, BodyFits, TablesFit}
+use Rattle.code_check.specs.Typed.{Blocks, FormFits, OptionalNormalFits, CodeFits, CodesFit, joined, LocalsFit, BodyFits, TablesFit}
+use Rattle.code_check.specs.TypedLaws.{all_gives}
 use Rattle.code_check.proofs.TypedOperands.{nat_eq_is, optional_normal_fits, optional_exceptional_fits, keepalive_fits}
 use Rattle.code_check.proofs.TypedComputations.{computation_fits}
 use Rattle.code_check.proofs.TypedControl.{control_fits}
@@ -17,6 +18,7 @@ use Rattle.code_check.proofs.TypedObjects.{allocation_fits, addressing_fits}
 use Rattle.code_check.proofs.TypedAccesses.{access_fits}
 use Rattle.code_check.proofs.TypedStacks.{trapping_fits, switch_fits}
 use Rattle.code_check.proofs.TypedCommons.{common_fits}
+use Rattle.code_check.proofs.TypedExits.{told_as}
 use Rattle.code_check.proofs.TypedVariables.{results_fit, results_classes}
 
 pub op_fits : (p : Tables) (blocks : Blocks) (f : Body) (ls : Locals) (i : Op) → TablesFit p → BodyFits blocks f → LocalsFit ls →
@@ -43,8 +45,9 @@ pub inst_fits : (p : Tables) (blocks : Blocks) (f : Body) (ls : Locals) (ended :
 unfolding inst_demands
 inst_fits p blocks f ls ended i tables body fits m = record {
   form = op_fits p blocks f ls i.op tables body fits m.1.1.0;
+  told = told_as p f ls (after p ls i) i.op;
   normal =
-    subst (λ (ks : List ℕ). OptionalNormalFits p blocks ks (optional_target p f (after p ls i) (normal_of i.op))) (after_classes p f ls ended i m)
+      subst (λ (ks : List ℕ). OptionalNormalFits p blocks ks (optional_target p f (after p ls i) (normal_of i.op))) (after_classes p f ls ended i m)
       (optional_normal_fits p blocks f (after p ls i) (normal_of i.op) body (after_fits p ls i fits) m.1.1.1.0);
   exceptional = optional_exceptional_fits p blocks f ls (exceptional_of i.op) body fits m.1.1.1.1.0;
   keepalive = keepalive_fits ls (keepalive_of i.op) fits m.1.1.1.1.1;
@@ -53,10 +56,11 @@ inst_fits p blocks f ls ended i tables body fits m = record {
 pub insts_fit : (p : Tables) (blocks : Blocks) (f : Body) (ls : Locals) (ended : Bool) (is : List Inst) → TablesFit p → BodyFits blocks f → LocalsFit ls →
     AllMet (insts_demands p f ls ended is) → CodesFit p blocks f.gives ls.classes (insts_code p f ls is) (all_gives p is)
 insts_fit p blocks f ls ended [] tables body fits m = tt
-insts_fit p blocks f ls ended (i ∷ is) tables body fits m =
-    (inst_fits p blocks f ls ended i tables body fits m.0,
-      subst (λ (ks : List ℕ). CodesFit p blocks f.gives ks (insts_code p f (after p ls i) is) (all_gives p is)) (after_classes p f ls ended i m.0)
-        (insts_fit p blocks f (after p ls i) (is_ending i.op) is tables body (after_fits p ls i fits) m.1))
+insts_fit p blocks f ls ended (i ∷ is) tables body fits m = (
+  inst_fits p blocks f ls ended i tables body fits m.0,
+  subst (λ (ks : List ℕ). CodesFit p blocks f.gives ks (insts_code p f (after p ls i) is) (all_gives p is)) (after_classes p f ls ended i m.0)
+      (insts_fit p blocks f (after p ls i) (is_ending i.op) is tables body (after_fits p ls i fits) m.1),
+)
 
 -- the variables behind all of them
 pub all_fit : (p : Tables) (ls : Locals) (is : List Inst) → LocalsFit ls → LocalsFit (after_all p ls is)
@@ -68,5 +72,5 @@ pub all_classes : (p : Tables) (f : Body) (ls : Locals) (ended : Bool) (is : Lis
 all_classes p f ls ended [] m = sym (append-nil ls.classes)
 all_classes p f ls ended (i ∷ is) m =
     all_classes p f (after p ls i) (is_ending i.op) is m.1
-      ∙ ap (λ ks. ks ++ joined (all_gives p is)) (after_classes p f ls ended i m.0)
-      ∙ append_assoc ls.classes (gives p i.op) (joined (all_gives p is))
+    ∙ ap (λ ks. ks ++ joined (all_gives p is)) (after_classes p f ls ended i m.0)
+    ∙ append_assoc ls.classes (gives p i.op) (joined (all_gives p is))

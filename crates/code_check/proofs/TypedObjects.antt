@@ -1,5 +1,5 @@
 -- Instructions that make objects or find places in them, and that meet their demands, fit, one clause a form.
-use Rattle.std.proofs.Common.{◌≡◌, ℕ, Bool, true, false, List, [], ◌∷◌, Option, Some, None, IsSomeAnd, is_some, if◌then◌else◌, refl, sym, ◌∙◌, ap, subst}
+use Rattle.std.proofs.Common.{◌≡◌, ℕ, Bool, true, false, [], ◌∷◌, Option, Some, None, IsSomeAnd, is_some, if◌then◌else◌, refl, sym, ◌∙◌, ap, subst}
 use Rattle.demands.specs.Demands.{AllMet}
 use Rattle.ir_tree.specs.declared.allocating.Allocation.{Allocation}
 use Rattle.ir_tree.specs.declared.allocating.Allocation.TheVariants as allocations
@@ -33,20 +33,25 @@ sized_is_there d h = is_there_by is_sized d refl (λ takes gives. refl) h
 pub allocation_fits : (p : Tables) (ls : Locals) (a : Allocation) → LocalsFit ls → AllMet (allocation_demands p ls a) →
     AllocationFits p ls.classes (allocation_code p ls a) (allocation_gives p a)
 allocation_fits p ls (allocations.New t e) fits m =
-    let type : TypeIn p (type_named p t) is_no_hybrid = type_of p t is_no_hybrid refl m in
-    (type.type,
+    let type : TypeIn p (type_named p t) is_no_hybrid = type_of p t is_no_hybrid refl m in (
+      type.type,
       gives_object p type.type.number (allocation_gives p (allocations.New t e)) (no_hybrid_is_there (definition_at p.types type.type.number) type.type.passes)
-        (ap (λ o. or_zero (ref_in p.types o) ∷ []) type.is))
+          (ap (λ o. or_zero (ref_in p.types o) ∷ []) type.is),
+    )
 allocation_fits p ls (allocations.Newhybrid h i n e) fits m =
-    let type : TypeIn p (type_named p h) is_hybrid = type_of p h is_hybrid refl m.0 in
-    (type.type, (type_of p i is_int refl m.1.0).type, of_type_fits p ls n i fits m.1.1,
+    let type : TypeIn p (type_named p h) is_hybrid = type_of p h is_hybrid refl m.0 in (
+      type.type,
+      (type_of p i is_int refl m.1.0).type,
+      of_type_fits p ls n i fits m.1.1,
       gives_object p type.type.number (allocation_gives p (allocations.Newhybrid h i n e)) (hybrid_is_there (definition_at p.types type.type.number) type.type.passes)
-        (ap (λ o. or_zero (ref_in p.types o) ∷ []) type.is))
+          (ap (λ o. or_zero (ref_in p.types o) ∷ []) type.is),
+    )
 allocation_fits p ls (allocations.Alloca t e) fits m =
-    let type : TypeIn p (type_named p t) is_no_hybrid = type_of p t is_no_hybrid refl m in
-    (type.type,
+    let type : TypeIn p (type_named p t) is_no_hybrid = type_of p t is_no_hybrid refl m in (
+      type.type,
       gives_place p type.type.number (allocation_gives p (allocations.Alloca t e)) (no_hybrid_is_there (definition_at p.types type.type.number) type.type.passes)
-        (ap (λ o. or_zero (iref_in p.types o) ∷ []) type.is))
+          (ap (λ o. or_zero (iref_in p.types o) ∷ []) type.is),
+    )
 
 -- ---- finding
 
@@ -78,35 +83,46 @@ pub addressing_fits : (p : Tables) (ls : Locals) (a : Addressing) → TablesFit 
 addressing_fits p ls (addressings.Getiref t r) tables fits m =
     let object : IsSomeAnd (ref_named p t) (λ c. SourceFits p ls.classes (source_of p ls r) c) = operand_fits p ls OperandType r (ref_named p t) fits m in
     let type : TypeIn p (type_named p t) is_type_there =
-      type_of p t is_type_there refl (type_is_there p (type_named p t) (λ c. SourceFits p ls.classes (source_of p ls r) c) object) in
-    (type.type,
+    type_of p t is_type_there refl (type_is_there p (type_named p t) (λ c. SourceFits p ls.classes (source_of p ls r) c) object) in (
+      type.type,
       subst (λ (x : Option ℕ). IsSomeAnd (ref_in p.types x) (λ c. SourceFits p ls.classes (source_of p ls r) c)) type.is object,
-      gives_place p type.type.number (addressing_gives p (addressings.Getiref t r)) type.type.passes (ap (λ o. or_zero (iref_in p.types o) ∷ []) type.is))
+      gives_place p type.type.number (addressing_gives p (addressings.Getiref t r)) type.type.passes (ap (λ o. or_zero (iref_in p.types o) ∷ []) type.is),
+    )
 addressing_fits p ls (addressings.Getfieldiref t n l) tables fits m =
     let field : fixed_field_named p t n ≡ nth_fixed_field n.number.magnitude (definition_named p t) =
-      field_is (fixed_fields_of (definition_named p t)) n.number m.1.0 in
+    field_is (fixed_fields_of (definition_named p t)) n.number m.1.0 in
     let type : TypeIn p (type_named p t) (has_fixed_field n.number.magnitude) =
-      type_of p t (has_fixed_field n.number.magnitude) refl (sym (ap is_some field) ∙ m.1.0) in
-    (type.type, place_fits p ls l (type_named p t) type.type.number fits type.is m.1.1,
+    type_of p t (has_fixed_field n.number.magnitude) refl (sym (ap is_some field) ∙ m.1.0) in (
+      type.type,
+      place_fits p ls l (type_named p t) type.type.number fits type.is m.1.1,
       part_gives_place p (nth_fixed_field n.number.magnitude (definition_at p.types type.type.number)) (addressing_gives p (addressings.Getfieldiref t n l))
-        (λ k e. fixed_field_is_there p type.type.number n.number.magnitude k tables e) type.type.passes
-        (ap (λ x. or_zero (iref_in p.types x) ∷ []) (field ∙ ap (λ o. nth_fixed_field n.number.magnitude (definition_in p.types o)) type.is)))
+          (λ k e. fixed_field_is_there p type.type.number n.number.magnitude k tables e) type.type.passes
+          (ap (λ x. or_zero (iref_in p.types x) ∷ []) (field ∙ ap (λ o. nth_fixed_field n.number.magnitude (definition_in p.types o)) type.is)),
+    )
 addressing_fits p ls (addressings.Getelemiref t i l x) tables fits m =
-    let type : TypeIn p (type_named p t) has_element = type_of p t has_element refl m.0 in
-    (type.type, (type_of p i is_int refl m.1.0).type, place_fits p ls l (type_named p t) type.type.number fits type.is m.1.1.0,
+    let type : TypeIn p (type_named p t) has_element = type_of p t has_element refl m.0 in (
+      type.type,
+      (type_of p i is_int refl m.1.0).type,
+      place_fits p ls l (type_named p t) type.type.number fits type.is m.1.1.0,
       of_type_fits p ls x i fits m.1.1.1,
       part_gives_place p (element_of (definition_at p.types type.type.number)) (addressing_gives p (addressings.Getelemiref t i l x))
-        (λ k e. element_is_there p type.type.number k tables e) type.type.passes
-        (ap (λ o. or_zero (iref_in p.types (element_of (definition_in p.types o))) ∷ []) type.is))
+          (λ k e. element_is_there p type.type.number k tables e) type.type.passes
+          (ap (λ o. or_zero (iref_in p.types (element_of (definition_in p.types o))) ∷ []) type.is),
+    )
 addressing_fits p ls (addressings.Shiftiref t i l x) tables fits m =
-    let type : TypeIn p (type_named p t) is_sized = type_of p t is_sized refl m.0 in
-    (type.type, (type_of p i is_int refl m.1.0).type, place_fits p ls l (type_named p t) type.type.number fits type.is m.1.1.0,
+    let type : TypeIn p (type_named p t) is_sized = type_of p t is_sized refl m.0 in (
+      type.type,
+      (type_of p i is_int refl m.1.0).type,
+      place_fits p ls l (type_named p t) type.type.number fits type.is m.1.1.0,
       of_type_fits p ls x i fits m.1.1.1,
       gives_place p type.type.number (addressing_gives p (addressings.Shiftiref t i l x)) (sized_is_there (definition_at p.types type.type.number) type.type.passes)
-        (ap (λ o. or_zero (iref_in p.types o) ∷ []) type.is))
+          (ap (λ o. or_zero (iref_in p.types o) ∷ []) type.is),
+    )
 addressing_fits p ls (addressings.Getvarpartiref h l) tables fits m =
-    let type : TypeIn p (type_named p h) is_hybrid = type_of p h is_hybrid refl m.0 in
-    (type.type, place_fits p ls l (type_named p h) type.type.number fits type.is m.1,
+    let type : TypeIn p (type_named p h) is_hybrid = type_of p h is_hybrid refl m.0 in (
+      type.type,
+      place_fits p ls l (type_named p h) type.type.number fits type.is m.1,
       part_gives_place p (repeated_of (definition_at p.types type.type.number)) (addressing_gives p (addressings.Getvarpartiref h l))
-        (λ k e. repeated_is_there p type.type.number k tables e) (has_repeated (definition_at p.types type.type.number) type.type.passes)
-        (ap (λ o. or_zero (iref_in p.types (repeated_of (definition_in p.types o))) ∷ []) type.is))
+          (λ k e. repeated_is_there p type.type.number k tables e) (has_repeated (definition_at p.types type.type.number) type.type.passes)
+          (ap (λ o. or_zero (iref_in p.types (repeated_of (definition_in p.types o))) ∷ []) type.is),
+    )

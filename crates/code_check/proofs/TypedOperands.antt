@@ -1,5 +1,5 @@
 -- Met demands on operands, types, arguments and destinations: what stands for them fits.
-use Rattle.std.proofs.Common.{◌≡◌, ℕ, Bool, true, false, List, [], ◌∷◌, Option, Some, None, IsSomeAnd, is_some, map, not, nat_eq, nat_lt, ◌&&◌, slice_get, length, if◌then◌else◌, refl, sym, ◌∙◌, ap, subst, arith}
+use Rattle.std.proofs.Common.{◌≡◌, ℕ, Bool, true, false, List, [], ◌∷◌, Option, Some, None, IsSomeAnd, is_some, not, nat_eq, nat_lt, ◌&&◌, slice_get, length, if◌then◌else◌, refl, sym, ◌∙◌, ap, subst, arith}
 use Rattle.demands.specs.Demands.{AllMet}
 use Rattle.demands.specs.Names.{found}
 use Rattle.ir_lex.specs.declared.name.Name.{Name}
@@ -15,8 +15,8 @@ use Rattle.check_tables.specs.declared.fault.CheckKind.{CheckKind}
 use Rattle.check_tables.specs.declared.fault.CheckKind.TheVariants.{OperandType, ArgumentType}
 use Rattle.check_tables.specs.declared.tables.Signature.{Signature}
 use Rattle.check_tables.specs.declared.tables.Tables.{Tables}
-use Rattle.check_tables.specs.Types.{definition_at, definition_in, class_at, class_in, leaves_in, iref_in}
-use Rattle.check_tables.specs.Lookups.{or_zero, type_named, class_named, noted_class, noted_classes, signature_number, signature_in, signature_named, noted_signature, funcref_of, global_class, class_of_global}
+use Rattle.check_tables.specs.Types.{definition_in, class_in, leaves_in, iref_in}
+use Rattle.check_tables.specs.Lookups.{or_zero, type_named, class_named, noted_class, signature_number, signature_in, signature_named, noted_signature, funcref_of, global_class}
 use Rattle.check_tables.specs.TypeTests.{is_value_type, field_at}
 use Rattle.code_check.specs.declared.code.Source.{Source}
 use Rattle.code_check.specs.declared.scopes.BlockEntry.{BlockEntry}
@@ -149,7 +149,7 @@ pub place_fits : (p : Tables) (ls : Locals) (l : Operand) (o : Option ℕ) (t : 
     AllMet (operand_demands p ls OperandType l (iref_in p.types o)) → PlaceFits p ls.classes (source_of p ls l) t
 place_fits p ls l o t fits is m =
     subst (λ (x : Option ℕ). IsSomeAnd (iref_in p.types x) (λ c. SourceFits p ls.classes (source_of p ls l) c)) is
-      (operand_fits p ls OperandType l (iref_in p.types o) fits m)
+    (operand_fits p ls OperandType l (iref_in p.types o) fits m)
 
 -- ---- signatures
 
@@ -185,14 +185,14 @@ pub exceptional_fits : (p : Tables) (blocks : Blocks) (f : Body) (ls : Locals) (
     AllMet (exceptional_demands p f ls d) → TargetFits p blocks ls.classes (target_of p f ls d)
 exceptional_fits p blocks f ls d body fits m =
     target_fits p blocks f ls.classes d.block.text (block_named f d.block) (sources_of p ls d.arguments.values) body refl
-      (arguments_fit p ls d.arguments (entry_takes (block_named f d.block)) fits m)
+    (arguments_fit p ls d.arguments (entry_takes (block_named f d.block)) fits m)
 
 -- every other destination
 pub normal_fits : (p : Tables) (blocks : Blocks) (f : Body) (ls : Locals) (d : Destination) → BodyFits blocks f → LocalsFit ls →
     AllMet (normal_demands p f ls d) → NormalFits p blocks ls.classes (target_of p f ls d)
 normal_fits p blocks f ls d body fits m =
     normal_fits_by p blocks f ls.classes d.block.text (block_named f d.block) (sources_of p ls d.arguments.values) body refl m.0
-      (arguments_fit p ls d.arguments (entry_takes (block_named f d.block)) fits m.1)
+    (arguments_fit p ls d.arguments (entry_takes (block_named f d.block)) fits m.1)
 
 pub optional_normal_fits : (p : Tables) (blocks : Blocks) (f : Body) (ls : Locals) (d : Option Destination) → BodyFits blocks f → LocalsFit ls →
     AllMet (optional_normal_demands p f ls d) → OptionalNormalFits p blocks ls.classes (optional_target p f ls d)

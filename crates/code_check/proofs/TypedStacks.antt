@@ -1,5 +1,5 @@
 -- Instructions that ask the client or enter another stack, and that meet their demands, fit, one clause a form.
-use Rattle.std.proofs.Common.{◌≡◌, ℕ, ◌^◌, Bool, true, List, Option, Some, None, not, nat_lt, ◌&&◌, refl}
+use Rattle.std.proofs.Common.{◌≡◌, ◌^◌, true, Option, Some, None, not, nat_lt, refl}
 use Rattle.demands.specs.Demands.{AllMet}
 use Rattle.ir_lex.specs.declared.name.Numeral.{Numeral}
 use Rattle.ir_tree.specs.declared.operands.Operand.{Operand}

@@ -1,5 +1,5 @@
 -- What is known of the tables of a bundle: what is given has a class, and no int type has the class of a reference.
-use Rattle.std.proofs.Common.{◌≡◌, ℕ, zero, suc, ◌<◌, Bool, true, false, cond, List, [], ◌∷◌, Option, Some, None, IsSomeAnd, is_some, nat_eq, nat_lt, ◌&&◌, slice_get, length, if◌then◌else◌, refl, sym, ◌∙◌, ap, subst, arith}
+use Rattle.std.proofs.Common.{◌≡◌, ℕ, zero, suc, ◌<◌, Bool, true, false, List, [], ◌∷◌, Option, Some, None, IsSomeAnd, is_some, nat_eq, nat_lt, ◌&&◌, slice_get, length, if◌then◌else◌, refl, sym, ◌∙◌, subst, arith}
 use Rattle.std.proofs.lemmas.Option.{slice_get_within}
 use Rattle.mu_base.specs.Lists.{Roomy}
 use Rattle.type_laws.specs.declared.definition.TypeDef.{TypeDef}
@@ -12,7 +12,7 @@ use Rattle.type_laws.specs.Laws.{ClassesDecide}
 use Rattle.type_laws.proofs.Proved.{congruence, decided}
 use Rattle.check_tables.specs.declared.tables.Signature.{Signature}
 use Rattle.check_tables.specs.declared.tables.Tables.{Tables}
-use Rattle.check_tables.specs.Types.{class_like, definition_at, class_at, class_in, is_type_there, is_sig, ref_at, iref_at, iref_in, funcref_at}
+use Rattle.check_tables.specs.Types.{class_like, definition_at, class_at, class_in, is_type_there, is_sig, ref_at, iref_at, iref_in}
 use Rattle.check_tables.specs.Lookups.{or_zero, signature_in, funcref_of}
 use Rattle.check_tables.specs.TypeTests.{is_int, element_of, repeated_of}
 use Rattle.code_check.specs.Typed.{HasType, GivesType, GivesPlace, GivesObject, nth_field, nth_fixed_field, TablesFit}
@@ -160,7 +160,7 @@ least_passes test (suc n) l = by (test 0) refl (least_passes (λ k. test (suc k)
 one_constructor : (r : ℕ → ℕ → Bool) (a b : TypeDef) → agree r a b ≡ true → constructor a ≡ constructor b
 one_constructor r a b h =
     let heads : (nat_eq (constructor a) (constructor b) && nat_eq (number a) (number b)) ≡ true =
-      (both_are (nat_eq (constructor a) (constructor b) && nat_eq (number a) (number b)) (pairs r (arguments a) (arguments b)) h).0 in
+    (both_are (nat_eq (constructor a) (constructor b) && nat_eq (number a) (number b)) (pairs r (arguments a) (arguments b)) h).0 in
     nat_eq_is (constructor a) (constructor b) (both_are (nat_eq (constructor a) (constructor b)) (nat_eq (number a) (number b)) heads).0
 
 constructors_agree : (r : ℕ → ℕ → Bool) (o : Option TypeDef) (a b : TypeDef) → agree_at r o (Some a) ≡ true → agree_at r o (Some b) ≡ true → constructor a ≡ constructor b
@@ -174,11 +174,11 @@ same_constructor g a b u graph there e =
     let inside : u < length g = slice_get_within g u b there in
     let low : class_of g u < length g = omega (arith, decides.no_later u inside) in
     let first : agree_at (same g) (slice_get g (class_of g u)) (Some a) ≡ true =
-      subst (λ (x : ℕ). agree_at (same g) (slice_get g x) (Some a) ≡ true) e
-        (least_passes (λ k. agree_at (same g) (slice_get g k) (Some a)) (length g) (subst (λ (x : ℕ). x < length g) (sym e) low)) in
+    subst (λ (x : ℕ). agree_at (same g) (slice_get g x) (Some a) ≡ true) e
+    (least_passes (λ k. agree_at (same g) (slice_get g k) (Some a)) (length g) (subst (λ (x : ℕ). x < length g) (sym e) low)) in
     let second : agree_at (same g) (slice_get g (class_of g u)) (Some b) ≡ true =
-      subst (λ (o : Option TypeDef). agree_at (same g) (slice_get g (class_of g u)) o ≡ true) there
-        ((congruence g graph (class_of g u) u low inside).0 (decides.of_it u inside)) in
+    subst (λ (o : Option TypeDef). agree_at (same g) (slice_get g (class_of g u)) o ≡ true) there
+    ((congruence g graph (class_of g u) u low inside).0 (decides.of_it u inside)) in
     constructors_agree (same g) (slice_get g (class_of g u)) a b first second
 
 int_constructor : (d : TypeDef) → is_int (Some d) ≡ true → constructor d ≡ 0
@@ -229,6 +229,6 @@ function_is_no_int p (Some n) c tables h int = by (slice_get p.signatures n) ref
         let k : ℕ = (tables.signatures n s e).0 in
         let same : s.funcref ≡ c = cc in
         let e : s.funcref ≡ class_like p.types.definitions (FuncRef k) =
-          known_is (is_sig (definition_at p.types k)) (class_like p.types.definitions (FuncRef k)) s.funcref (tables.signatures n s e).1 in
+        known_is (is_sig (definition_at p.types k)) (class_like p.types.definitions (FuncRef k)) s.funcref (tables.signatures n s e).1 in
         let z : constructor (FuncRef k) ≡ 0 = like_an_int p (FuncRef k) tables.graph (subst (λ (x : ℕ). HasType p is_int x) (sym same ∙ e) int) in
         omega (arith, z)

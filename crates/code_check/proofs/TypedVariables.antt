@@ -1,11 +1,10 @@
 -- The variables behind an instruction: the number of each finds its class.
-use Rattle.std.proofs.Common.{◌≡◌, ℕ, ◌+◌, Bool, true, false, List, [], ◌∷◌, ◌++◌, ◌⊎◌, inl, inr, Option, Some, None, slice_get, length, is_some, if◌then◌else◌, refl, sym, ◌∙◌, ap, arith, append_assoc, append-nil}
+use Rattle.std.proofs.Common.{◌≡◌, ℕ, Bool, true, false, List, [], ◌∷◌, ◌++◌, ◌⊎◌, inl, inr, Option, Some, None, slice_get, length, is_some, if◌then◌else◌, refl, sym, ◌∙◌, arith, append_assoc, append-nil}
 use Rattle.std.specs.Str.{bytes_eq}
 use Rattle.demands.specs.Names.{Names, found, added}
 use Rattle.ir_lex.specs.declared.name.Name.{Name}
-use Rattle.code_check.specs.declared.scopes.Variable.{Variable}
 use Rattle.code_check.specs.declared.scopes.Locals.{Locals}
-use Rattle.code_check.specs.Instructions.{bound, bound_results}
+use Rattle.code_check.specs.Instructions.{no_locals, bound, bound_results}
 use Rattle.code_check.specs.Typed.{LocalsFit}
 
 some_is : {T : Type 0} (x y : T) → Some x ≡ Some y → x ≡ y
@@ -39,6 +38,9 @@ get_more (x ∷ xs) ys i a h = grind (arith, get_more xs ys)
 pub get_last : {T : Type 0} (xs : List T) (a : T) → slice_get (xs ++ a ∷ []) (length xs) ≡ Some a
 get_last [] a = refl
 get_last (x ∷ xs) a = grind (arith, get_last xs a)
+
+pub no_locals_fit : LocalsFit no_locals
+no_locals_fit = record { each = λ name v e. cc }
 
 pub bound_fits : (ls : Locals) (n : Name) (c : ℕ) → LocalsFit ls → LocalsFit (bound ls n c)
 bound_fits ls n c fits = record {

@@ -1,13 +1,13 @@
 -- To believe: well typed code, as a machine needs it, in terms of numbers and classes alone. p are the tables of a bundle, of which only
--- what is known by number is used; blocks says what the block with a number takes; ks are the classes of a block's variables so far, by
--- number; returns are the classes of what the function gives; gs are the classes of what an instruction gives.
-use Rattle.std.specs.Prelude.{◌≡◌, ℕ, ◌+◌, ◌^◌, ◌<◌, Bool, true, false, List, [], ◌∷◌, ◌++◌, Option, Some, None, IsSomeAnd, IfSome, is_some, slice_get, length, take, nat_lt, ◌||◌}
+-- what is known by number is used; blocks says which numbers are those of blocks of the function, and what each of these takes; returns
+-- are the classes of what the function gives; ks are the classes of a block's variables so far, by number; gs are the classes of what an
+-- instruction gives.
+use Rattle.std.specs.Prelude.{◌≡◌, ℕ, ◌^◌, Bool, true, false, List, [], ◌∷◌, ◌++◌, Option, Some, None, IsSomeAnd, is_some, slice_get, take, nat_lt, not, ◌&&◌, ◌||◌}
 use Rattle.demands.specs.Names.{found}
 use Rattle.mu_base.specs.declared.order.Order.{Order as MuOrder}
 use Rattle.mu_base.specs.declared.order.Order.TheVariants as mu_orders
 use Rattle.ir_tree.specs.declared.operators.MemoryOrder.{MemoryOrder}
 use Rattle.ir_tree.specs.declared.operators.MemoryOrder.TheVariants as orders
-use Rattle.ir_tree.specs.declared.code.Inst.{Inst}
 use Rattle.ir_tree.specs.declared.operators.CompareOp.{CompareOp}
 use Rattle.ir_tree.specs.declared.operators.CompareOp.TheVariants as compare_ops
 use Rattle.ir_tree.specs.declared.operators.ConvertOp.{ConvertOp}
@@ -55,7 +55,6 @@ use Rattle.code_check.specs.declared.scopes.Variable.{Variable}
 use Rattle.code_check.specs.declared.scopes.Body.{Body}
 use Rattle.code_check.specs.Computations.{compares, converts}
 use Rattle.code_check.specs.Accesses.{may_load, may_store, may_update, may_fail, may_fence, updates_type}
-use Rattle.code_check.specs.Instructions.{gives}
 
 -- ---- where values come from
 
@@ -154,7 +153,7 @@ pub record HasSignature (p : Tables) (c : ℕ) : Type 0 where
 
 -- ---- destinations
 
--- what the block with a number takes
+-- what the block with a number takes; nothing where the function has no such block
 abbrev pub Blocks : Type 0
 Blocks = ℕ → Option BlockEntry
 
@@ -345,12 +344,71 @@ FormFits p blocks returns ks (forms.Trapping f) gs = TrappingFits p blocks ks f 
 FormFits p blocks returns ks (forms.Switch f) gs = SwitchFits p ks f gs
 FormFits p blocks returns ks (forms.Common f) gs = CommonFits p ks f gs
 
+-- ---- where it goes on
+
+-- whether an instruction of this form may be told so: each of the tests gets whether it is told where it goes on with its results, and
+-- whether it is told where it goes on with an exception; EXC tells both
+abbrev pub both_or_none : Bool → Bool → Bool
+both_or_none true exceptional = exceptional
+both_or_none false exceptional = not exceptional
+
+abbrev pub neither : Bool → Bool → Bool
+neither normal exceptional = not normal && not exceptional
+
+abbrev pub computation_exits : ComputationForm → Bool → Bool → Bool
+computation_exits (computing.Binary op c a b) = both_or_none
+computation_exits (computing.Compare op c a b) = neither
+computation_exits (computing.Convert op c d a) = neither
+computation_exits (computing.Refcast c d a) = neither
+computation_exits (computing.Select c s a b) = neither
+computation_exits (computing.Extractvalue c n a) = neither
+computation_exits (computing.Insertvalue c n a b) = neither
+
+abbrev pub control_exits : ControlForm → Bool → Bool → Bool
+control_exits (going.Branch t) = neither
+control_exits (going.Branch2 s t u) = neither
+control_exits (going.Switch c a t cases) = neither
+control_exits (going.Call s f vs) = both_or_none
+control_exits (going.Tailcall s f vs) = neither
+control_exits (going.Ret vs) = neither
+control_exits (going.Throw s) = neither
+
+abbrev pub access_exits : AccessForm → Bool → Bool → Bool
+access_exits (accessing.Load o c l) = both_or_none
+access_exits (accessing.Store o c l v) = both_or_none
+access_exits (accessing.Cmpxchg w s f c l v u) = both_or_none
+access_exits (accessing.Atomicrmw o op c l v) = both_or_none
+access_exits (accessing.Fence o) = neither
+
+-- a WATCHPOINT is always told where it goes on with its results, and may be told the other
+abbrev pub trapping_exits : TrappingForm → Bool → Bool → Bool
+trapping_exits (asking.Trap cs) normal exceptional = both_or_none normal exceptional
+trapping_exits (asking.Watchpoint n cs t) normal exceptional = normal
+trapping_exits (asking.Wpbranch n t u) normal exceptional = neither normal exceptional
+
+abbrev pub switch_exits : SwitchForm → Bool → Bool → Bool
+switch_exits (switching.SwapReturning s cs e) = both_or_none
+switch_exits (switching.SwapKilling s e) = neither
+switch_exits (switching.Newthread s tl e) = both_or_none
+
+abbrev pub exits : Form → Bool → Bool → Bool
+exits (forms.Computation f) = computation_exits f
+exits (forms.Control f) = control_exits f
+exits (forms.Allocation f) = both_or_none
+exits (forms.Addressing f) = neither
+exits (forms.Access f) = access_exits f
+exits (forms.Trapping f) = trapping_exits f
+exits (forms.Switch f) = switch_exits f
+exits (forms.Common f) = neither
+
 -- ---- an instruction
 
--- its form fits the variables before it; where it goes on with its results fits the variables behind it, which are those before it and
--- its results; where it goes on with an exception fits those before it, and so do the variables of KEEPALIVE
+-- its form fits the variables before it, and may be told where it goes on as it is; where it goes on with its results fits the variables
+-- behind it, which are those before it and its results; where it goes on with an exception fits those before it, and so do the variables
+-- of KEEPALIVE
 pub record CodeFits (p : Tables) (blocks : Blocks) (returns : List ℕ) (ks : List ℕ) (code : Code) (gs : List ℕ) : Type 0 where
   pub form : FormFits p blocks returns ks code.form gs
+  pub told : exits code.form (is_some code.normal) (is_some code.exceptional) ≡ true
   pub normal : OptionalNormalFits p blocks (ks ++ gs) code.normal
   pub exceptional : OptionalTargetFits p blocks ks code.exceptional
   pub keepalive : AreVariables ks code.keepalive
@@ -372,11 +430,6 @@ pub record CodeAt (p : Tables) (blocks : Blocks) (returns : List ℕ) (ks : List
   pub given : List ℕ
   pub there : slice_get gss at ≡ Some given
   pub fits : CodeFits p blocks returns (ks ++ joined (take at gss)) code given
-
--- what each of some instructions gives
-abbrev pub all_gives : Tables → List Inst → List (List ℕ)
-all_gives p [] = []
-all_gives p (i ∷ is) = gives p i.op ∷ all_gives p is
 
 -- ---- endings
 

@@ -1,6 +1,7 @@
 -- Laws of demands on code: where they are met, the code is well typed.
-use Rattle.std.specs.Prelude.{◌≡◌, ℕ, ◌+◌, ◌<◌, Bool, true, false, List, ◌++◌, Option, Some, IsSomeAnd, slice_get, length}
+use Rattle.std.specs.Prelude.{◌≡◌, ℕ, ◌+◌, ◌<◌, Bool, true, false, List, [], ◌∷◌, ◌++◌, Option, Some, IsSomeAnd, slice_get, length}
 use Rattle.demands.specs.Demands.{AllMet}
+use Rattle.ir_lex.specs.declared.name.Name.{Name}
 use Rattle.ir_tree.specs.declared.operands.Operand.{Operand}
 use Rattle.ir_tree.specs.declared.operands.Arguments.{Arguments}
 use Rattle.ir_tree.specs.declared.operands.Destination.{Destination}
@@ -13,8 +14,8 @@ use Rattle.code_check.specs.declared.scopes.Locals.{Locals}
 use Rattle.code_check.specs.declared.scopes.Body.{Body}
 use Rattle.code_check.specs.Operands.{operand_demands, argument_demands, source_of, sources_of}
 use Rattle.code_check.specs.Destinations.{exceptional_demands, normal_demands, target_of}
-use Rattle.code_check.specs.Instructions.{op_demands, gives, form_of, inst_demands, inst_code, after, insts_demands, insts_code, after_all, ends}
-use Rattle.code_check.specs.Typed.{SourceFits, SourcesFit, Blocks, TargetFits, NormalFits, FormFits, CodeFits, CodesFit, CodeAt, EndsAtLast, BlockFits, code_ends, joined, all_gives, LocalsFit, BodyFits, TablesFit}
+use Rattle.code_check.specs.Instructions.{no_locals, bound, op_demands, gives, form_of, inst_demands, inst_code, after, insts_demands, insts_code, after_all, ends}
+use Rattle.code_check.specs.Typed.{SourceFits, SourcesFit, Blocks, TargetFits, NormalFits, FormFits, CodeFits, CodesFit, CodeAt, EndsAtLast, BlockFits, code_ends, joined, LocalsFit, BodyFits, TablesFit}
 
 -- the class that is wanted of an operand is there, and the operand has it
 abbrev pub OperandsFit : Type 0
@@ -32,6 +33,13 @@ DestinationsFit = (p : Tables) (blocks : Blocks) (f : Body) (ls : Locals) (d : D
     (AllMet (exceptional_demands p f ls d) → TargetFits p blocks ls.classes (target_of p f ls d))
     × (AllMet (normal_demands p f ls d) → NormalFits p blocks ls.classes (target_of p f ls d))
 
+-- a block without variables is known, and so is one with one more, which has the class that it was given
+abbrev pub NoLocalsFit : Type 0
+NoLocalsFit = LocalsFit no_locals
+
+abbrev pub BoundFits : Type 0
+BoundFits = (ls : Locals) (n : Name) (c : ℕ) → LocalsFit ls → LocalsFit (bound ls n c)
+
 -- the form of an instruction fits the variables before it, and gives what the instruction gives
 abbrev pub FormsFit : Type 0
 FormsFit = (p : Tables) (blocks : Blocks) (f : Body) (ls : Locals) (i : Op) → TablesFit p → BodyFits blocks f → LocalsFit ls →
@@ -47,12 +55,17 @@ abbrev pub VariablesFit : Type 0
 VariablesFit = (p : Tables) (f : Body) (ls : Locals) (ended : Bool) (i : Inst) → LocalsFit ls →
     AllMet (inst_demands p f ls ended i) → LocalsFit (after p ls i) × ((after p ls i).classes ≡ ls.classes ++ gives p i.op)
 
+-- what each of some instructions gives: the classes of its results
+abbrev pub all_gives : Tables → List Inst → List (List ℕ)
+all_gives p [] = []
+all_gives p (i ∷ is) = gives p i.op ∷ all_gives p is
+
 -- each instruction of a list fits the variables before it, and those behind all of them are known
 abbrev pub ListsFit : Type 0
 ListsFit = (p : Tables) (blocks : Blocks) (f : Body) (ls : Locals) (ended : Bool) (is : List Inst) → TablesFit p → BodyFits blocks f → LocalsFit ls →
     AllMet (insts_demands p f ls ended is) →
     CodesFit p blocks f.gives ls.classes (insts_code p f ls is) (all_gives p is) × LocalsFit (after_all p ls is)
-      × ((after_all p ls is).classes ≡ ls.classes ++ joined (all_gives p is))
+    × ((after_all p ls is).classes ≡ ls.classes ++ joined (all_gives p is))
 
 -- a block that ends is well typed code: each instruction fits the variables before it, the last ends the block, and no other does
 abbrev pub BlocksFit : Type 0

@@ -1,5 +1,5 @@
 // Laws of demands on code: each function is proved, and does nothing.
-ghost use Rattle.code_check.specs.TypedLaws.{OperandsFit, ArgumentsFit, DestinationsFit, FormsFit, InstructionsFit, VariablesFit, ListsFit, BlocksFit, FitsAtItsPlace, GoesOn};
+ghost use Rattle.code_check.specs.TypedLaws.{OperandsFit, ArgumentsFit, DestinationsFit, NoLocalsFit, BoundFits, FormsFit, InstructionsFit, VariablesFit, ListsFit, BlocksFit, FitsAtItsPlace, GoesOn};
 
 /// An operand that meets its demands has the class that is wanted.
 pub fn operands_fit()
@@ -14,6 +14,16 @@ pub fn arguments_fit()
 /// A destination that meets its demands is there, and its arguments are of the block's parameters.
 pub fn destinations_fit()
     ensures { DestinationsFit }
+{}
+
+/// A block without variables is known.
+pub fn no_locals_fit()
+    ensures { NoLocalsFit }
+{}
+
+/// So is one with one more variable.
+pub fn bound_fits()
+    ensures { BoundFits }
 {}
 
 /// Each form that meets its demands is well typed.
