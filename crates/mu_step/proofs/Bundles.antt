@@ -1,5 +1,5 @@
 -- The types of a bundle are a whole graph, and its blocks are those of its functions.
-use Rattle.std.proofs.Common.{◌≡◌, ℕ, suc, ◌+◌, List, [], ◌∷◌, ◌++◌, length, take, refl, sym, ap, ◌∙◌, arith, length-append}
+use Rattle.std.proofs.Common.{◌≡◌, ℕ, suc, ◌+◌, List, [], ◌∷◌, length, take, refl, sym, ap, ◌∙◌, arith, length-append}
 use Rattle.std.proofs.Math.Seq.{take-append_seam}
 use Rattle.ir_tree.specs.declared.code.Block.{Block}
 use Rattle.ir_tree.specs.declared.items.Item.{Item}
@@ -13,7 +13,7 @@ use Rattle.bundle_tables.specs.Entries.{tables_of}
 use Rattle.bundle_check.specs.Blocks.{blocks_code}
 use Rattle.bundle_check.specs.Functions.{body_of, all_blocks}
 use Rattle.bundle_check.specs.Checking.{bundle_tables, bundle_blocks}
-use Rattle.mu_step.specs.Whole.{own, IsWhole}
+use Rattle.mu_step.specs.Whole.{IsWhole}
 use Rattle.mu_step.specs.Counted.{blocks_in}
 use Rattle.mu_step.proofs.Widths.{implied, complete_is}
 

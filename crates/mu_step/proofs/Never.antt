@@ -1,9 +1,8 @@
 -- Functions that are built are never stuck.
-use Rattle.std.proofs.Common.{◌≡◌, ℕ, ◌+◌, zero, suc, ◌<◌, Bool, true, false, ◌&&◌, List, [], ◌∷◌, ◌++◌, length, Option, Some, None, Result, Ok, Err, IsSome, is_some, not, slice_get, get_or, refl, sym, ap, subst, ◌∙◌, arith, length-append, if◌then◌else◌}
-use Rattle.std.specs.Prelude.{nat_eq, nat_lt}
+use Rattle.std.proofs.Common.{◌≡◌, ℕ, ◌+◌, zero, suc, Bool, true, false, ◌&&◌, List, [], ◌∷◌, ◌++◌, length, Option, Some, None, Ok, Err, IsSome, is_some, not, slice_get, get_or, refl, sym, ap, subst, ◌∙◌, length-append, if◌then◌else◌}
+use Rattle.std.specs.Prelude.{nat_eq}
 use Rattle.std.proofs.lemmas.Bool.{ltb-true}
 use Rattle.std.proofs.lemmas.Option.{slice_get-get_or}
-use Rattle.demands.specs.declared.fault.Fault.{Fault}
 use Rattle.demands.specs.declared.fault.Fault.TheVariants.{At}
 use Rattle.demands.specs.Demands.{first_unmet, or_else}
 use Rattle.demands.specs.Names.{found}
@@ -25,19 +24,16 @@ use Rattle.code_check.specs.declared.code.Code.{Code}
 use Rattle.bundle_tables.specs.Entries.{is_function}
 use Rattle.bundle_check.specs.declared.code.BlockCode.{BlockCode}
 use Rattle.bundle_check.specs.declared.code.Function.{Function}
-use Rattle.bundle_check.specs.declared.fault.EntryFault.{EntryFault}
 use Rattle.bundle_check.specs.declared.fault.EntryFault.TheVariants.{BadSignature, NoBody}
 use Rattle.bundle_check.specs.Functions.{first_blocks, first_of, function_named, function_in, functions_behind, functions_from, name_of_function}
 use Rattle.bundle_check.specs.Answers.{find, function_number, first_in, takes_nothing, entry, entry_of}
 use Rattle.bundle_check.specs.Checking.{bundle_tables, bundle_functions, bundle_blocks}
-use Rattle.mu_step.specs.declared.built.RunKind.{RunKind}
 use Rattle.mu_step.specs.declared.built.RunKind.TheVariants.{NotBuilt}
-use Rattle.mu_step.specs.declared.acts.Act.{Act}
 use Rattle.mu_step.specs.declared.acts.Act.TheVariants.{Gives, Returns}
-use Rattle.mu_step.specs.Values.{with_some, constant_value, value_of, sum_of}
+use Rattle.mu_step.specs.Values.{constant_value, value_of, sum_of}
 use Rattle.mu_step.specs.Built.{int64, signature_is_built, blocks_are_built, source_is_built, is_add, is_return, stands_alone, codes_are_built, block_is_built, is_built, functions_are_built, built_demands}
 use Rattle.mu_step.specs.Run.{first_block, run}
-use Rattle.mu_step.specs.Acts.{act_of, after_act, value_returned}
+use Rattle.mu_step.specs.Acts.{act_of, value_returned}
 use Rattle.mu_step.proofs.Running.{returning, run_is}
 
 -- ---- code

@@ -1,10 +1,8 @@
 -- The run of a block, and what its code returns.
-use Rattle.std.proofs.Common.{◌≡◌, ℕ, ◌+◌, zero, suc, List, [], ◌∷◌, ◌++◌, length, map, Option, Some, None, Result, Ok, Err, IfOk, IsSome, slice_get, refl, sym, ap, subst, ◌∙◌, arith, append_assoc, length-append}
+use Rattle.std.proofs.Common.{◌≡◌, ℕ, ◌+◌, List, [], ◌∷◌, ◌++◌, length, Option, Some, None, Result, Ok, Err, IfOk, IsSome, slice_get, refl, sym, ap, subst, ◌∙◌, append_assoc, length-append}
 use Rattle.std.specs.declared.alloc.AllocError.{AllocError}
 use Rattle.ir_tree.specs.declared.items.Item.{Item}
 use Rattle.mu_values.specs.declared.operators.BinOp.TheVariants as bin_ops
-use Rattle.code_check.specs.declared.code.Source.{Source}
-use Rattle.code_check.specs.declared.code.Source.TheVariants as sources
 use Rattle.code_check.specs.declared.code.ComputationForm.{ComputationForm}
 use Rattle.code_check.specs.declared.code.ComputationForm.TheVariants as computations
 use Rattle.code_check.specs.declared.code.ControlForm.{ControlForm}
@@ -19,10 +17,10 @@ use Rattle.mu_step.specs.declared.line.Line.{Line}
 use Rattle.mu_step.specs.declared.line.Line.TheVariants as lines
 use Rattle.mu_step.specs.declared.line.Note.TheVariants.{Returned}
 use Rattle.mu_step.specs.declared.line.Ending.TheVariants.{Done}
-use Rattle.mu_step.specs.Values.{with_some, literals_of, literal_value, value_of, sum_of, sum_from}
-use Rattle.mu_step.specs.Step.{Config, Outcome, Stuck, start, given, returned, computed, controlled, by_form, stepped}
+use Rattle.mu_step.specs.Values.{with_some, value_of, sum_of}
+use Rattle.mu_step.specs.Step.{Config, Outcome, Stuck, given, returned, computed, controlled, by_form, stepped}
 use Rattle.mu_step.specs.Run.{Run, behind, continued, run_from, run_of_block, first_block, run}
-use Rattle.mu_step.specs.Acts.{sum_act, return_act, computation_act, control_act, act_of, after_act, value_returned}
+use Rattle.mu_step.specs.Acts.{computation_act, control_act, act_of, after_act, value_returned}
 
 -- ---- one instruction
 

@@ -1,12 +1,12 @@
 -- The class of int<64>, as it is looked for.
-use Rattle.std.proofs.Common.{◌≡◌, ℕ, zero, suc, ◌+◌, Bool, true, false, List, [], ◌∷◌, ◌++◌, length, take, drop, Option, Some, None, slice_get, refl, sym, ap, ◌∙◌, arith, append_assoc, length-append, if◌then◌else◌, ◌&&◌}
+use Rattle.std.proofs.Common.{◌≡◌, ℕ, zero, suc, ◌+◌, Bool, true, false, List, [], ◌∷◌, ◌++◌, length, drop, Some, slice_get, refl, sym, ap, ◌∙◌, arith, append_assoc, length-append, if◌then◌else◌, ◌&&◌}
 use Rattle.std.specs.Prelude.{nat_eq, cond}
 use Rattle.type_laws.specs.declared.definition.TypeDef.{TypeDef}
 use Rattle.type_laws.specs.declared.definition.TypeDef.TheVariants.{Int, Struct, Array, Hybrid, Void, Ref, Iref, FuncRef, StackRef, ThreadRef, Sig}
 use Rattle.type_laws.specs.Same.{same, agree, agree_at}
 use Rattle.type_laws.specs.Class.{least}
 use Rattle.mu_types.specs.Graph.{Table}
-use Rattle.mu_types.specs.Implied.{is_signature, references, references_from, complete}
+use Rattle.mu_types.specs.Implied.{references, references_from, complete}
 use Rattle.check_tables.specs.Types.{class_like}
 use Rattle.mu_step.specs.Whole.{own, IsWhole, is_int64, first_int64}
 

@@ -5,3 +5,5 @@ pub mod Run
 pub mod Acts
 pub mod Whole
 pub mod Counted
+pub mod Samples
+pub mod Examples

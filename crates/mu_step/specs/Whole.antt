@@ -23,4 +23,3 @@ is_int64 _ = false
 abbrev pub first_int64 : ℕ → ℕ → List TypeDef → ℕ
 first_int64 n many [] = n + many + 7
 first_int64 n many (d ∷ ds) = if is_int64 d then n else first_int64 (n + 1) (many + length (references 0 d)) ds
-

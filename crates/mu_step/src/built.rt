@@ -1,6 +1,7 @@
 // Which functions are run so far.
-ghost use Rattle.std.specs.Prelude.{◌≡◌, ◌+◌, ◌≤◌, Some, length, option_copied, IfOk};
+ghost use Rattle.std.specs.Prelude.{◌≡◌, ◌+◌, ◌≤◌, Some, length, is_some, option_copied, IfOk};
 ghost use Rattle.demands.specs.Demands.{Meets, IsMemory, demand};
+ghost use Rattle.demands.specs.Names.{found};
 ghost use Rattle.bundle_check.specs.Checking.{bundle_tables, bundle_blocks};
 ghost use Rattle.mu_step.specs.declared.built.RunKind.TheVariants.{NotBuilt};
 ghost use Rattle.mu_step.specs.Built.{int64, is_one, is_none, signature_is_built, have_no_labels, blocks_are_built, source_is_built, is_add, is_return, stands_alone, codes_are_built, block_is_built, is_built, functions_are_built, built_demands};
@@ -92,12 +93,14 @@ fn is_add(constants: &Constants, class: usize, many: usize, form: &Form) -> bool
     ensures { result ≡ is_add constants.now class many form.now }
 {
     match form {
-        Form::Computation(ComputationForm::Binary {
-            op: BinOp::Add,
-            class: of_class,
-            left,
-            right,
-        }) => {
+        Form::Computation(
+            ComputationForm::Binary {
+                op: BinOp::Add,
+                class: of_class,
+                left,
+                right,
+            },
+        ) => {
             *of_class as usize == class
                 && source_is_built(constants, many, *left)
                 && source_is_built(constants, many, *right)
@@ -152,6 +155,13 @@ fn block_is_built(constants: &Constants, class: usize, block: &BlockCode) -> boo
         && codes_are_built(constants, class, block.code.as_slice())
 }
 
+fn is_declared(code: &Checked, function: &Funcdef) -> bool
+    ensures { result ≡ is_some (found (bundle_tables code.now).globals.declared function.now.name.text) }
+{
+    let declared = &code.tables().globals.declared;
+    declared.find(function.name.text.as_slice()).is_some()
+}
+
 /// Whether the function is built whose first block has this number.
 fn is_built(
     code: &Checked,
@@ -165,9 +175,8 @@ fn is_built(
     requires room { first + length function.now.blocks ≤ length (bundle_blocks code.now) }
     ensures { result ≡ is_built code.now (bundle_tables code.now) first function.now }
 {
-    let tables = code.tables();
-    !tables.globals.declared.find(function.name.text.as_slice()).is_some()
-        && signature_is_built(class, tables.signature_named(&function.signature))
+    !is_declared(code, function)
+        && signature_is_built(class, code.tables().signature_named(&function.signature))
         && blocks_are_built(function.blocks.as_slice())
         && block_is_built(constants, class, code.block(first))
 }

@@ -19,7 +19,11 @@ fn is_int64(definition: &TypeDef) -> bool
 fn references(definition: &TypeDef) -> usize
     ensures { result ≡ length (references 0 (bare definition.now)) }
 {
-    if matches!(definition, TypeDef::Sig { .. }) { 1 } else { 2 }
+    if matches!(definition, TypeDef::Sig { .. }) {
+        1
+    } else {
+        2
+    }
 }
 
 /// A definition that is written.

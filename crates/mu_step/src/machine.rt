@@ -15,11 +15,7 @@ use std::alloc::{AllocError, Global};
 use text_forms::Listing;
 
 /// What code returns.
-fn value_returned(
-    alloc: Global,
-    constants: &Constants,
-    code: &[Code],
-) -> Result<u64, AllocError>
+fn value_returned(alloc: Global, constants: &Constants, code: &[Code]) -> Result<u64, AllocError>
     requires { IsSome (value_returned constants.now [] code.now) }
     ensures { IfOk result (λ v. value_returned constants.now [] code.now ≡ Some v) }
 {

@@ -1,6 +1,6 @@
-use Rattle.std.proofs.Common.{◌≡◌, ◌∙◌, ◌+◌, sym, arith, drop, length}
+use Rattle.std.proofs.Common.{◌∙◌, sym, arith}
 use Rattle.check_tables.specs.Bare.{bare}
-use Rattle.mu_step.specs.Whole.{own, first_int64, is_int64}
+use Rattle.mu_step.specs.Whole.{own}
 use Rattle.mu_step.proofs.Widths.{found_here, goes_past}
 use Rattle.mu_step.proofs.int64.first_int64.Goals as goal
 

@@ -1,6 +1,5 @@
-use Rattle.std.proofs.Common.{◌≡◌, ◌∙◌, [], List, Some, IsSome, ap, sym, subst, arith}
+use Rattle.std.proofs.Common.{◌≡◌, ◌∙◌, [], IsSome, ap, subst, arith}
 use Rattle.mu_step.specs.Acts.{value_returned}
-use Rattle.mu_step.specs.Run.{run}
 use Rattle.mu_step.proofs.Running.{returning, run_is, some_returned, lines_are}
 use Rattle.mu_step.proofs.machine.run_block.Goals as goal
 
