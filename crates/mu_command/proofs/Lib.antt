@@ -3,4 +3,5 @@ pub mod Puts
 pub mod InTurn
 pub mod Answering
 pub mod Completeness
+pub mod Accepting
 pub mod Causes

@@ -1,5 +1,5 @@
 -- What the functions that find an answer tell their callers.
-use Rattle.std.specs.Prelude.{◌≡◌, ◌<◌, ℕ, List, Vec, IsSome, length, Result, Ok, Err, ⊤}
+use Rattle.std.specs.Prelude.{◌≡◌, ℕ, List, Vec, IsSome, Result, Ok, Err, ⊤}
 use Rattle.std.specs.declared.alloc.Global.{Global}
 use Rattle.mu_base.specs.Outcome.{Outcome, got}
 use Rattle.mu_command.specs.declared.what.What.{What}

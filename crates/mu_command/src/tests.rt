@@ -344,7 +344,10 @@ fn refuses_hostile_bundles(rt: HostRuntime) -> Result<(), Fail> {
         ),
         (b".typedef @a = int<09>", "refused bundle 18 BadByte\n"),
         // A number in octal, which is no width.
-        (b".typedef @a = int<012>", "refused bundle 18 WrongArgument\n"),
+        (
+            b".typedef @a = int<012>",
+            "refused bundle 18 WrongArgument\n",
+        ),
     ];
     for (bundle, text) in rows {
         let bytes = Vec::from_slice(rt.alloc(), bundle)?;

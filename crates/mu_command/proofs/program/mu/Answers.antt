@@ -1,3 +1,4 @@
+use Rattle.mu_command.proofs.Accepting.{accepted_cause}
 use Rattle.mu_command.proofs.Causes.{refused_cause}
 use Rattle.mu_command.proofs.Completeness.{complete}
 use Rattle.mu_command.proofs.program.mu.Goals as goal
@@ -7,3 +8,6 @@ returns-clause-refused g c = λ s. refused_cause _ _ _ _ _ _ _ c.answer.ensures.
 
 pub returns-clause-complete : goal.returns-clause-complete
 returns-clause-complete g c = λ files told quiet. complete _ files _ _ _ _ _ _ c.answer.ensures.answered told quiet
+
+pub returns-clause-done : goal.returns-clause-done
+returns-clause-done g c = λ s. accepted_cause _ _ _ _ _ _ _ c.answer.ensures.answered s
