@@ -1,0 +1,1 @@
+.typedef @i8 = int<8> .const @a <@i8> = 256

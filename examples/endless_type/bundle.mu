@@ -1,0 +1,1 @@
+.typedef @a = struct<@a>

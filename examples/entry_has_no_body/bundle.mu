@@ -1,0 +1,2 @@
+.funcsig @m = () -> ()
+.funcdecl @main <@m>

@@ -1,1 +1,0 @@
-.global @counter <@i64>

@@ -1,0 +1,1 @@
+.typedef @i8 = int<8> .typedef @s = struct<@i8> .const @a <@s> = {@b} .const @b <@i8> = 1

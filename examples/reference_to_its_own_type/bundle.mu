@@ -1,0 +1,1 @@
+.typedef @a = struct<@r> .typedef @r = ref<@a>
