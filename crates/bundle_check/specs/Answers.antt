@@ -9,7 +9,9 @@ use Rattle.ir_tree.specs.declared.items.Item.TheVariants as items
 use Rattle.bundle_names.specs.declared.globals.Sort.{Sort}
 use Rattle.bundle_names.specs.declared.globals.Sort.TheVariants as sorts
 use Rattle.bundle_names.specs.Globals.{globals_of}
-use Rattle.check_tables.specs.Lookups.{signature_in, takes_of}
+use Rattle.check_tables.specs.declared.tables.Tables.{Tables}
+use Rattle.check_tables.specs.Lookups.{signature_in, takes_of, noted_class}
+use Rattle.code_check.specs.declared.code.Code.{Code}
 use Rattle.bundle_check.specs.declared.code.Function.{Function}
 use Rattle.bundle_check.specs.declared.code.BlockCode.{BlockCode}
 use Rattle.bundle_check.specs.declared.fault.EntryFault.{EntryFault}
@@ -51,6 +53,38 @@ entry_of bundle (Some n) =
 -- the number of the function with this name, or why it is no entry: there is none, it takes something, or it has no body
 abbrev pub entry : List Item → List ℕ → Result ℕ EntryFault
 entry bundle name = entry_of bundle (function_number (find bundle name))
+
+-- ---- by number
+
+abbrev pub class_in_block : Option BlockCode → ℕ → Option ℕ
+class_in_block None variable = None
+class_in_block (Some b) variable = slice_get b.classes variable
+
+-- the class of a variable of a block: the parameters, the handler and the results are counted from 0 in text order
+abbrev pub local_class : List Item → ℕ → ℕ → Option ℕ
+local_class bundle block variable = class_in_block (slice_get (bundle_blocks bundle) block) variable
+
+abbrev pub code_in_block : Option BlockCode → ℕ → Option Code
+code_in_block None at = None
+code_in_block (Some b) at = slice_get b.code at
+
+-- the instruction of a block with so many before it
+abbrev pub code_at : List Item → ℕ → ℕ → Option Code
+code_at bundle block at = code_in_block (slice_get (bundle_blocks bundle) block) at
+
+abbrev pub handler_of : Option BlockCode → Option ℕ
+handler_of None = None
+handler_of (Some b) = b.handler
+
+-- the types of the globals
+abbrev pub global_classes : Tables → List Item → List ℕ
+global_classes p [] = []
+global_classes p (items.Typedef d ∷ is) = global_classes p is
+global_classes p (items.Funcsig d ∷ is) = global_classes p is
+global_classes p (items.Const d ∷ is) = global_classes p is
+global_classes p (items.GlobalCell d ∷ is) = noted_class p d.of_type ∷ global_classes p is
+global_classes p (items.Funcdecl d ∷ is) = global_classes p is
+global_classes p (items.Funcdef d ∷ is) = global_classes p is
 
 -- ---- names by number
 

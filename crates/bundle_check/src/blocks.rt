@@ -75,13 +75,17 @@ fn parameters(tables: &Tables, parameters: &[Parameter]) -> Result<(), CheckFaul
     Ok(())
 }
 
-/// The number of the variable that is the handler.
-fn handler(head: &BlockHead) -> Option<usize>
-    ensures { result ≡ handler_number head.now head.now.handler }
+/// The number of the variable that is the handler. Want of memory is answered where it does not fit.
+fn handler(head: &BlockHead) -> Result<Option<u32>, CheckFault>
+    ensures ok { IfOk result (λ number. number ≡ handler_number head.now head.now.handler) }
+    ensures err { IsMemory result }
 {
     match &head.handler {
-        None => None,
-        Some(_) => Some(head.parameters.len()),
+        None => Ok(None),
+        Some(_) => match u32::try_from(head.parameters.len()) {
+            Ok(number) => Ok(Some(number)),
+            Err(_) => Err(CheckFault::Memory),
+        },
     }
 }
 
@@ -106,7 +110,7 @@ fn block(
         item,
         at,
         parameters: block.head.parameters.len(),
-        handler: handler(&block.head),
+        handler: handler(&block.head)?,
         classes: locals.classes,
         code,
     })

@@ -1,15 +1,16 @@
 // Bundles that are checked.
-ghost use Rattle.std.specs.Prelude.{◌≡◌, ◌<◌, ◌++◌, None, Some, codes, drop, length, slice_get, is_some, OnOk};
+ghost use Rattle.std.specs.Prelude.{◌≡◌, ◌<◌, ◌++◌, None, Some, codes, drop, length, slice_get, is_some, IsSome, OnOk};
 ghost use Rattle.type_laws.specs.Same.{IsGraph};
 ghost use Rattle.check_tables.specs.Bare.{bare_table};
 ghost use Rattle.bundle_check.specs.Checking.{bundle_tables, bundle_functions, bundle_blocks};
 ghost use Rattle.check_tables.specs.Lookups.{signature_in, takes_of};
-ghost use Rattle.bundle_check.specs.Answers.{find, entry, first_in, takes_nothing, part, full_name, full_name_at, item_name, block_name, function_name};
+ghost use Rattle.bundle_check.specs.Answers.{find, entry, first_in, takes_nothing, part, full_name, full_name_at, item_name, local_class, code_at, handler_of, global_classes, block_name, function_name};
 
 use crate::code::{BlockCode, Function};
 use crate::fault::EntryFault;
 use bundle_names::Sort;
 use check_tables::Tables;
+use code_check::Code;
 use ir_lex::Name;
 use ir_tree::{Block, Bundle, Funcdef, Item};
 use mu_types::Classes;
@@ -76,6 +77,7 @@ pub struct Checked {
     tables: Tables,
     functions: Listing<Function>,
     blocks: Listing<BlockCode>,
+    global_types: Listing<u32>,
 }
 
 impl Model for Checked {
@@ -84,12 +86,13 @@ impl Model for Checked {
     ghost use Rattle.demands.specs.Demands.{first_unmet};
     ghost use Rattle.bundle_names.specs.Naming.{name_demands};
     ghost use Rattle.bundle_check.specs.Checking.{check_demands, bundle_tables, bundle_functions, bundle_blocks};
+    ghost use Rattle.bundle_check.specs.Answers.{global_classes};
 
     ghost Value = { List Item };
 
     ghost view = { λ c. c.bundle };
 
-    ghost invariant = { λ c. (first_unmet (name_demands c.bundle) ≡ None) × (first_unmet (check_demands c.bundle) ≡ None) × (c.tables ≡ bundle_tables c.bundle) × (c.functions ≡ bundle_functions c.bundle) × (c.blocks ≡ bundle_blocks c.bundle) };
+    ghost invariant = { λ c. (first_unmet (name_demands c.bundle) ≡ None) × (first_unmet (check_demands c.bundle) ≡ None) × (c.tables ≡ bundle_tables c.bundle) × (c.functions ≡ bundle_functions c.bundle) × (c.blocks ≡ bundle_blocks c.bundle) × (c.global_types ≡ global_classes (bundle_tables c.bundle) c.bundle) };
 }
 
 impl Checked {
@@ -102,12 +105,14 @@ impl Checked {
         tables: Tables,
         functions: Listing<Function>,
         blocks: Listing<BlockCode>,
+        global_types: Listing<u32>,
     ) -> Checked
         requires named { first_unmet (name_demands bundle) ≡ None }
         requires met { first_unmet (check_demands bundle) ≡ None }
         requires tables { tables ≡ bundle_tables bundle }
         requires functions { functions ≡ bundle_functions bundle }
         requires blocks { blocks ≡ bundle_blocks bundle }
+        requires global_types { global_types ≡ global_classes (bundle_tables bundle) bundle }
         ensures { result ≡ bundle }
     {
         Checked {
@@ -115,6 +120,7 @@ impl Checked {
             tables,
             functions,
             blocks,
+            global_types,
         }
     }
 
@@ -204,6 +210,14 @@ impl Checked {
         self.tables.global_cells.len()
     }
 
+    /// The class of the type of a global that is there.
+    pub fn global_type(&self, n: u32) -> u32
+        requires { n < length (global_classes (bundle_tables self.now) self.now) }
+        ensures { slice_get (global_classes (bundle_tables self.now) self.now) n ≡ Some result }
+    {
+        self.global_types.as_slice()[n as usize]
+    }
+
     /// A function that is there.
     pub fn function(&self, n: u32) -> &Function
         requires { n < length (bundle_functions self.now) }
@@ -218,6 +232,31 @@ impl Checked {
         ensures { slice_get (bundle_blocks self.now) n ≡ Some result.now }
     {
         &self.blocks.as_slice()[n as usize]
+    }
+
+    /// The class of a variable that is there, of a block that is there: its parameters, its handler and its results are counted from 0
+    /// in text order.
+    pub fn local_type(&self, block: u32, variable: u32) -> u32
+        requires { IsSome (local_class self.now block variable) }
+        ensures { local_class self.now block variable ≡ Some result }
+    {
+        self.block(block).classes.as_slice()[variable as usize]
+    }
+
+    /// The variable that is the handler of a block that is there; None exactly where it has none.
+    pub fn handler(&self, block: u32) -> Option<u32>
+        requires { block < length (bundle_blocks self.now) }
+        ensures { result ≡ handler_of (slice_get (bundle_blocks self.now) block) }
+    {
+        self.block(block).handler
+    }
+
+    /// An instruction that is there, of a block that is there.
+    pub fn code(&self, block: u32, at: u32) -> &Code
+        requires { IsSome (code_at self.now block at) }
+        ensures { code_at self.now block at ≡ Some result.now }
+    {
+        &self.block(block).code.as_slice()[at as usize]
     }
 
     /// Writes the full name of a block that is there behind what `out` holds: that of its function, of the function's version and its

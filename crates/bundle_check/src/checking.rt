@@ -10,7 +10,7 @@ ghost use Rattle.bundle_check.specs.Checking.{check_demands};
 use crate::checked::Checked;
 use crate::code::BlockCode;
 use crate::functions::all_functions;
-use crate::numbering::{first_of_each, functions};
+use crate::numbering::{first_of_each, functions, global_types};
 use bundle_names::{Globals, Resolved};
 use bundle_tables::tables;
 use check_tables::{CheckFault, Tables};
@@ -45,5 +45,12 @@ pub fn check(alloc: Global, names: Resolved) -> Result<Checked, CheckFault>
     let (tables, blocks) = judged(alloc, bundle.as_slice(), globals)?;
     let firsts = first_of_each(alloc, bundle.as_slice())?;
     let functions = functions(alloc, &tables, firsts.as_slice(), bundle.as_slice())?;
-    Ok(Checked::new(bundle, tables, functions, blocks))
+    let global_types = global_types(alloc, &tables, bundle.as_slice())?;
+    Ok(Checked::new(
+        bundle,
+        tables,
+        functions,
+        blocks,
+        global_types,
+    ))
 }

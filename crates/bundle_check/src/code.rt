@@ -23,7 +23,7 @@ pub struct BlockCode {
     /// How many parameters it has: the first variables.
     pub parameters: usize,
     /// The variable that is its handler.
-    pub handler: Option<usize>,
+    pub handler: Option<u32>,
     /// The class of each variable: the parameters, the handler and the results, in text order.
     pub classes: Listing<u32>,
     pub code: Listing<Code>,

@@ -4,6 +4,7 @@ ghost use Rattle.demands.specs.Demands.{IsMemory};
 ghost use Rattle.demands.specs.Names.{found};
 ghost use Rattle.check_tables.specs.Lookups.{signature_in};
 ghost use Rattle.bundle_tables.specs.Entries.{is_function};
+ghost use Rattle.bundle_check.specs.Answers.{global_classes};
 ghost use Rattle.bundle_check.specs.Functions.{first_blocks, first_of, signature_class, function_named, functions_from, name_of_function, function_in};
 
 use crate::code::Function;
@@ -11,7 +12,7 @@ use bundle_names::Sort;
 use check_tables::{CheckFault, Tables};
 use ir_lex::Name;
 use ir_tree::{Block, Item};
-use std::alloc::Global;
+use std::alloc::{AllocError, Global};
 use text_forms::Listing;
 
 /// The number of the block behind these, of which the first has a number. Want of memory is answered where it does not fit.
@@ -154,4 +155,23 @@ pub fn functions(
         left = more;
     }
     Ok(all)
+}
+
+/// The classes of the types of the globals.
+pub fn global_types(
+    alloc: Global,
+    tables: &Tables,
+    items: &[Item],
+) -> Result<Listing<u32>, AllocError>
+    ensures { IfOk result (λ classes. classes ≡ global_classes tables.now items.now) }
+{
+    let mut classes = Listing::new(alloc);
+    let mut left = items;
+    'each: while let [item, more @ ..] = left {
+        if let Item::GlobalCell(item) = item {
+            classes.push(tables.noted_class(&item.of_type))?;
+        }
+        left = more;
+    }
+    Ok(classes)
 }
