@@ -10,3 +10,6 @@ pub mod Commons
 pub mod Instructions
 pub mod Typed
 pub mod TypedLaws
+pub mod Verdicts
+pub mod ComputationExamples
+pub mod MemoryExamples
