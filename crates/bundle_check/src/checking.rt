@@ -5,7 +5,7 @@ ghost use Rattle.bundle_names.specs.Globals.{globals_of};
 ghost use Rattle.bundle_tables.specs.Entries.{tables_of};
 ghost use Rattle.bundle_tables.specs.Rules.{item_demands};
 ghost use Rattle.bundle_check.specs.Functions.{functions_demands, all_blocks};
-ghost use Rattle.bundle_check.specs.Checking.{check_demands};
+ghost use Rattle.bundle_check.specs.Checking.{check_demands, bundle_tables, bundle_blocks};
 
 use crate::checked::Checked;
 use crate::code::BlockCode;
@@ -33,7 +33,19 @@ fn judged(
     Ok((tables, blocks))
 }
 
+/// The same for what the global names of the items stand for.
 #[tactic(auto, unfolding(crate::specs::Checking::check_demands))]
+fn judged_whole(
+    alloc: Global,
+    items: &[Item],
+    globals: Globals,
+) -> Result<(Tables, Listing<BlockCode>), CheckFault>
+    requires { globals ≡ globals_of items.now }
+    ensures { Judges (check_demands items.now) (bundle_tables items.now, bundle_blocks items.now) result }
+{
+    judged(alloc, items, globals)
+}
+
 /// Judges a bundle whose names are all defined. The fault is the first demand that is not met: of types in three passes over the text
 /// (arguments, types that contain themselves, types with too many leaves), of constants, of signatures, of globals, then function by
 /// function. Want of memory is also answered where numbers do not fit: more than 2^32 - 1 blocks, say. The bundle is taken in each
@@ -42,15 +54,9 @@ pub fn check(alloc: Global, names: Resolved) -> Result<Checked, CheckFault>
     ensures { Judges (check_demands names) names result }
 {
     let (bundle, globals) = names.into_parts();
-    let (tables, blocks) = judged(alloc, bundle.as_slice(), globals)?;
+    let (tables, blocks) = judged_whole(alloc, bundle.as_slice(), globals)?;
     let firsts = first_of_each(alloc, bundle.as_slice())?;
     let functions = functions(alloc, &tables, firsts.as_slice(), bundle.as_slice())?;
     let global_types = global_types(alloc, &tables, bundle.as_slice())?;
-    Ok(Checked::new(
-        bundle,
-        tables,
-        functions,
-        blocks,
-        global_types,
-    ))
+    Ok(Checked::new(bundle, tables, functions, blocks, global_types))
 }
