@@ -20,4 +20,6 @@ pub use what::What;
 pub use words::read_words;
 
 #[cfg(test)]
+mod refusal_tests;
+#[cfg(test)]
 mod tests;

@@ -269,7 +269,7 @@ fn other_words_and_faults(rt: HostRuntime) -> Result<(), Fail> {
 }
 
 // What the program writes of a bundle's bytes, and its status.
-fn answers(
+pub(crate) fn answers(
     rt: &impl Abort,
     alloc: Global,
     all: &[&str],
@@ -373,7 +373,7 @@ fn refuses_hostile_bundles(rt: HostRuntime) -> Result<(), Fail> {
 }
 
 // `front`, that many times `piece`, and `back`.
-fn repeated(
+pub(crate) fn repeated(
     alloc: Global,
     front: &str,
     piece: &str,
