@@ -1,0 +1,42 @@
+-- Each block of a bundle that meets its demands is well typed.
+use Rattle.std.proofs.Common.{◌≡◌, ℕ, ◌+◌, List, [], ◌∷◌, None, length, subst}
+use Rattle.demands.specs.Demands.{AllMet, first_unmet}
+use Rattle.demands.proofs.Meeting.{all_met}
+use Rattle.ir_tree.specs.declared.code.Block.{Block}
+use Rattle.ir_tree.specs.declared.items.Item.{Item}
+use Rattle.ir_tree.specs.declared.items.Item.TheVariants as items
+use Rattle.check_tables.specs.declared.tables.Tables.{Tables}
+use Rattle.code_check.specs.declared.scopes.Body.{Body}
+use Rattle.code_check.specs.Instructions.{insts_code}
+use Rattle.code_check.specs.Typed.{Blocks, BlockFits, BodyFits, TablesFit}
+use Rattle.code_check.proofs.TypedEndings.{block_fits}
+use Rattle.bundle_check.specs.Blocks.{head_locals, blocks_demands}
+use Rattle.bundle_check.specs.Functions.{body_of, functions_demands}
+use Rattle.bundle_check.specs.Checking.{bundle_tables, check_demands}
+use Rattle.bundle_laws.specs.Accepted.{blocks_from, EachFits, FunctionsFit}
+use Rattle.bundle_laws.proofs.Heads.{head_fits, head_has}
+use Rattle.bundle_laws.proofs.Bodies.{body_fits}
+
+each_fits : (p : Tables) (blocks : Blocks) (f : Body) (bs : List Block) → TablesFit p → BodyFits blocks f → AllMet (blocks_demands p f bs) → EachFits p blocks f bs
+each_fits p blocks f [] tables body m = tt
+each_fits p blocks f (b ∷ bs) tables body m = (
+  subst (λ (ks : List ℕ). BlockFits p blocks f.gives ks (insts_code p f (head_locals p b.head) b.insts)) (head_has p b.head)
+      (block_fits p blocks f (head_locals p b.head) b.insts tables body (head_fits p b.head) m.0.1.0 m.0.1.1),
+  each_fits p blocks f bs tables body m.1,
+)
+
+functions_fit : (p : Tables) (first : ℕ) (is : List Item) → TablesFit p → AllMet (functions_demands p first is) → FunctionsFit p first is
+functions_fit p first [] tables m = tt
+functions_fit p first (items.Typedef d ∷ is) tables m = functions_fit p first is tables m
+functions_fit p first (items.Funcsig d ∷ is) tables m = functions_fit p first is tables m
+functions_fit p first (items.Const d ∷ is) tables m = functions_fit p first is tables m
+functions_fit p first (items.GlobalCell d ∷ is) tables m = functions_fit p first is tables m
+functions_fit p first (items.Funcdecl d ∷ is) tables m = functions_fit p first is tables m
+functions_fit p first (items.Funcdef d ∷ is) tables m = (
+  each_fits p (blocks_from p first d.blocks) (body_of p first d) d.blocks tables (body_fits p first d) m.0.1.1,
+  functions_fit p (first + length d.blocks) is tables m.1,
+)
+
+pub bundle_fits : (bundle : List Item) → TablesFit (bundle_tables bundle) → first_unmet (check_demands bundle) ≡ None → FunctionsFit (bundle_tables bundle) 0 bundle
+unfolding check_demands
+bundle_fits bundle tables h = functions_fit (bundle_tables bundle) 0 bundle tables (all_met (check_demands bundle) h).1

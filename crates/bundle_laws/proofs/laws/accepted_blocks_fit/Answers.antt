@@ -1,0 +1,5 @@
+use Rattle.bundle_laws.proofs.Lifting.{bundle_fits}
+use Rattle.bundle_laws.proofs.laws.accepted_blocks_fit.Goals as goal
+
+pub returns : goal.returns
+returns c = bundle_fits

@@ -1,0 +1,11 @@
+-- The law of checked bundles.
+use Rattle.std.specs.Prelude.{◌≡◌, List, None}
+use Rattle.demands.specs.Demands.{first_unmet}
+use Rattle.ir_tree.specs.declared.items.Item.{Item}
+use Rattle.code_check.specs.Typed.{TablesFit}
+use Rattle.bundle_check.specs.Checking.{bundle_tables, check_demands}
+use Rattle.bundle_laws.specs.Accepted.{FunctionsFit}
+
+-- in a bundle that meets its demands, each block of each function is well typed code
+abbrev pub AcceptedBlocksFit : Type 0
+AcceptedBlocksFit = (bundle : List Item) → TablesFit (bundle_tables bundle) → first_unmet (check_demands bundle) ≡ None → FunctionsFit (bundle_tables bundle) 0 bundle

@@ -1,0 +1,6 @@
+//! The law of checked bundles: their code is well typed.
+#![tactic(auto)]
+
+mod laws;
+
+pub use laws::accepted_blocks_fit;
