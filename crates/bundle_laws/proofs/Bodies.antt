@@ -11,7 +11,7 @@ use Rattle.code_check.proofs.TypedOperands.{nat_eq_is}
 use Rattle.bundle_check.specs.Functions.{entry_of, entries_from, body_of}
 use Rattle.bundle_laws.specs.Accepted.{blocks_from}
 
-some_is : {T : Type 0} (x y : T) → Some x ≡ Some y → x ≡ y
+pub some_is : {T : Type 0} (x y : T) → Some x ≡ Some y → x ≡ y
 some_is x y e = cc
 
 if_some : {T : Type 0} (b : Bool) (x v : T) (r : Option T) → (if b then Some x else r) ≡ Some v → (v ≡ x) ⊎ (r ≡ Some v)
@@ -28,7 +28,7 @@ found_last (e ∷ es) n name x v h = by (bytes_eq name e.0) h (found_last es n n
     by false k ih = ih k
 
 -- what a name stands for is what was added, or what it stood for before
-found_added : {T : Type 0} (es : Names T) (n name : List ℕ) (x v : T) → found (added es n x) name ≡ Some v → (v ≡ x) ⊎ (found es name ≡ Some v)
+pub found_added : {T : Type 0} (es : Names T) (n name : List ℕ) (x v : T) → found (added es n x) name ≡ Some v → (v ≡ x) ⊎ (found es name ≡ Some v)
 found_added es n name x v h = by (is_some (found es n)) h
   where
     by : (b : Bool) → found (if b then es else es ++ (n, x) ∷ []) name ≡ Some v → (v ≡ x) ⊎ (found es name ≡ Some v)

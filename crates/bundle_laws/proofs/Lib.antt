@@ -1,3 +1,5 @@
 pub mod Heads
 pub mod Bodies
+pub mod Graph
+pub mod Tables
 pub mod Lifting

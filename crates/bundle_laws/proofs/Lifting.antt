@@ -10,12 +10,14 @@ use Rattle.code_check.specs.declared.scopes.Body.{Body}
 use Rattle.code_check.specs.Instructions.{insts_code}
 use Rattle.code_check.specs.Typed.{Blocks, BlockFits, BodyFits, TablesFit}
 use Rattle.code_check.proofs.TypedEndings.{block_fits}
+use Rattle.bundle_names.specs.Naming.{name_demands}
 use Rattle.bundle_check.specs.Blocks.{head_locals, blocks_demands}
 use Rattle.bundle_check.specs.Functions.{body_of, functions_demands}
 use Rattle.bundle_check.specs.Checking.{bundle_tables, check_demands}
 use Rattle.bundle_laws.specs.Accepted.{blocks_from, EachFits, FunctionsFit}
 use Rattle.bundle_laws.proofs.Heads.{head_fits, head_has}
 use Rattle.bundle_laws.proofs.Bodies.{body_fits}
+use Rattle.bundle_laws.proofs.Tables.{tables_fit}
 
 each_fits : (p : Tables) (blocks : Blocks) (f : Body) (bs : List Block) → TablesFit p → BodyFits blocks f → AllMet (blocks_demands p f bs) → EachFits p blocks f bs
 each_fits p blocks f [] tables body m = tt
@@ -37,6 +39,7 @@ functions_fit p first (items.Funcdef d ∷ is) tables m = (
   functions_fit p (first + length d.blocks) is tables m.1,
 )
 
-pub bundle_fits : (bundle : List Item) → TablesFit (bundle_tables bundle) → first_unmet (check_demands bundle) ≡ None → FunctionsFit (bundle_tables bundle) 0 bundle
+pub bundle_fits : (bundle : List Item) → first_unmet (name_demands bundle) ≡ None → first_unmet (check_demands bundle) ≡ None → FunctionsFit (bundle_tables bundle) 0 bundle
 unfolding check_demands
-bundle_fits bundle tables h = functions_fit (bundle_tables bundle) 0 bundle tables (all_met (check_demands bundle) h).1
+bundle_fits bundle named checked =
+    functions_fit (bundle_tables bundle) 0 bundle (tables_fit bundle named checked) (all_met (check_demands bundle) checked).1

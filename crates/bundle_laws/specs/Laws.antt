@@ -1,11 +1,16 @@
--- The law of checked bundles.
+-- Laws of checked bundles.
 use Rattle.std.specs.Prelude.{◌≡◌, List, None}
 use Rattle.demands.specs.Demands.{first_unmet}
 use Rattle.ir_tree.specs.declared.items.Item.{Item}
 use Rattle.code_check.specs.Typed.{TablesFit}
+use Rattle.bundle_names.specs.Naming.{name_demands}
 use Rattle.bundle_check.specs.Checking.{bundle_tables, check_demands}
 use Rattle.bundle_laws.specs.Accepted.{FunctionsFit}
 
+-- of the tables of a bundle that meets its demands is known what well typed code asks
+abbrev pub AcceptedTablesFit : Type 0
+AcceptedTablesFit = (bundle : List Item) → first_unmet (name_demands bundle) ≡ None → first_unmet (check_demands bundle) ≡ None → TablesFit (bundle_tables bundle)
+
 -- in a bundle that meets its demands, each block of each function is well typed code
 abbrev pub AcceptedBlocksFit : Type 0
-AcceptedBlocksFit = (bundle : List Item) → TablesFit (bundle_tables bundle) → first_unmet (check_demands bundle) ≡ None → FunctionsFit (bundle_tables bundle) 0 bundle
+AcceptedBlocksFit = (bundle : List Item) → first_unmet (name_demands bundle) ≡ None → first_unmet (check_demands bundle) ≡ None → FunctionsFit (bundle_tables bundle) 0 bundle

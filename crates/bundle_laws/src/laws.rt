@@ -1,5 +1,10 @@
-// The law of checked bundles: the function is proved, and does nothing.
-ghost use Rattle.bundle_laws.specs.Laws.{AcceptedBlocksFit};
+// Laws of checked bundles: each function is proved, and does nothing.
+ghost use Rattle.bundle_laws.specs.Laws.{AcceptedTablesFit, AcceptedBlocksFit};
+
+/// The tables of a bundle that meets its demands are such as well typed code asks.
+pub fn accepted_tables_fit()
+    ensures { AcceptedTablesFit }
+{}
 
 /// Each block of a bundle that meets its demands is well typed code.
 pub fn accepted_blocks_fit()
