@@ -36,7 +36,7 @@ get_left [] ys n l = absurd (omega (arith, l))
 get_left (x ∷ xs) ys zero l = refl
 get_left (x ∷ xs) ys (suc n) l = get_left xs ys n (omega (arith, l))
 
-get_right : {T : Type 0} (xs ys : List T) (n : ℕ) → slice_get (xs ++ ys) (length xs + n) ≡ slice_get ys n
+pub get_right : {T : Type 0} (xs ys : List T) (n : ℕ) → slice_get (xs ++ ys) (length xs + n) ≡ slice_get ys n
 get_right [] ys n = let e : 0 + n ≡ n = omega arith in ap (λ (k : ℕ). slice_get ys k) e
 get_right (x ∷ xs) ys n = let e : suc (length xs) + n ≡ suc (length xs + n) = omega arith in ap (λ (k : ℕ). slice_get (x ∷ (xs ++ ys)) k) e ∙ get_right xs ys n
 

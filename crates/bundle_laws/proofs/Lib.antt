@@ -3,3 +3,4 @@ pub mod Bodies
 pub mod Graph
 pub mod Tables
 pub mod Lifting
+pub mod Numbered

@@ -1,5 +1,5 @@
 -- Each block of a bundle that meets its demands is well typed.
-use Rattle.std.proofs.Common.{◌≡◌, ℕ, ◌+◌, List, [], ◌∷◌, None, length, subst}
+use Rattle.std.proofs.Common.{◌≡◌, ℕ, ◌+◌, false, List, [], ◌∷◌, ◌++◌, None, length, ◌∙◌, ap, subst}
 use Rattle.demands.specs.Demands.{AllMet, first_unmet}
 use Rattle.demands.proofs.Meeting.{all_met}
 use Rattle.ir_tree.specs.declared.code.Block.{Block}
@@ -8,24 +8,35 @@ use Rattle.ir_tree.specs.declared.items.Item.TheVariants as items
 use Rattle.check_tables.specs.declared.tables.Tables.{Tables}
 use Rattle.code_check.specs.declared.scopes.Body.{Body}
 use Rattle.code_check.specs.Instructions.{insts_code}
-use Rattle.code_check.specs.Typed.{Blocks, BlockFits, BodyFits, TablesFit}
-use Rattle.code_check.proofs.TypedEndings.{block_fits}
+use Rattle.code_check.specs.Typed.{Blocks, CodesFit, joined, BodyFits, TablesFit}
+use Rattle.code_check.specs.TypedLaws.{all_gives}
+use Rattle.code_check.proofs.TypedInstructions.{insts_fit, all_classes}
+use Rattle.code_check.proofs.TypedEndings.{ends_at_last}
 use Rattle.bundle_names.specs.Naming.{name_demands}
-use Rattle.bundle_check.specs.Blocks.{head_locals, blocks_demands}
+use Rattle.bundle_check.specs.Blocks.{head_locals, block_demands, blocks_demands}
 use Rattle.bundle_check.specs.Functions.{body_of, functions_demands}
 use Rattle.bundle_check.specs.Checking.{bundle_tables, check_demands}
-use Rattle.bundle_laws.specs.Accepted.{blocks_from, EachFits, FunctionsFit}
+use Rattle.bundle_laws.specs.Accepted.{blocks_from, BlockIsFit, EachFits, FunctionsFit}
 use Rattle.bundle_laws.proofs.Heads.{head_fits, head_has}
 use Rattle.bundle_laws.proofs.Bodies.{body_fits}
 use Rattle.bundle_laws.proofs.Tables.{tables_fit}
 
+block_is_fit : (p : Tables) (blocks : Blocks) (f : Body) (b : Block) → TablesFit p → BodyFits blocks f → AllMet (block_demands p f b) → BlockIsFit p blocks f b
+block_is_fit p blocks f b tables body m = record {
+  code = record {
+    given = all_gives p b.insts;
+    codes =
+        subst (λ (ks : List ℕ). CodesFit p blocks f.gives ks (insts_code p f (head_locals p b.head) b.insts) (all_gives p b.insts)) (head_has p b.head)
+        (insts_fit p blocks f (head_locals p b.head) false b.insts tables body (head_fits p b.head) m.1.0);
+    ending = ends_at_last p f (head_locals p b.head) false b.insts m.1.0 m.1.1;
+  };
+  classes =
+      all_classes p f (head_locals p b.head) false b.insts m.1.0 ∙ ap (λ (ks : List ℕ). ks ++ joined (all_gives p b.insts)) (head_has p b.head);
+}
+
 each_fits : (p : Tables) (blocks : Blocks) (f : Body) (bs : List Block) → TablesFit p → BodyFits blocks f → AllMet (blocks_demands p f bs) → EachFits p blocks f bs
 each_fits p blocks f [] tables body m = tt
-each_fits p blocks f (b ∷ bs) tables body m = (
-  subst (λ (ks : List ℕ). BlockFits p blocks f.gives ks (insts_code p f (head_locals p b.head) b.insts)) (head_has p b.head)
-      (block_fits p blocks f (head_locals p b.head) b.insts tables body (head_fits p b.head) m.0.1.0 m.0.1.1),
-  each_fits p blocks f bs tables body m.1,
-)
+each_fits p blocks f (b ∷ bs) tables body m = (block_is_fit p blocks f b tables body m.0, each_fits p blocks f bs tables body m.1)
 
 functions_fit : (p : Tables) (first : ℕ) (is : List Item) → TablesFit p → AllMet (functions_demands p first is) → FunctionsFit p first is
 functions_fit p first [] tables m = tt

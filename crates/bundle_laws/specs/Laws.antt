@@ -1,11 +1,12 @@
 -- Laws of checked bundles.
-use Rattle.std.specs.Prelude.{◌≡◌, List, None}
+use Rattle.std.specs.Prelude.{◌≡◌, ℕ, List, Some, None, slice_get}
 use Rattle.demands.specs.Demands.{first_unmet}
 use Rattle.ir_tree.specs.declared.items.Item.{Item}
 use Rattle.code_check.specs.Typed.{TablesFit}
 use Rattle.bundle_names.specs.Naming.{name_demands}
-use Rattle.bundle_check.specs.Checking.{bundle_tables, check_demands}
-use Rattle.bundle_laws.specs.Accepted.{FunctionsFit}
+use Rattle.bundle_check.specs.declared.code.BlockCode.{BlockCode}
+use Rattle.bundle_check.specs.Checking.{bundle_tables, bundle_blocks, check_demands}
+use Rattle.bundle_laws.specs.Accepted.{FunctionsFit, CodeOf}
 
 -- of the tables of a bundle that meets its demands is known what well typed code asks
 abbrev pub AcceptedTablesFit : Type 0
@@ -14,3 +15,8 @@ AcceptedTablesFit = (bundle : List Item) → first_unmet (name_demands bundle) �
 -- in a bundle that meets its demands, each block of each function is well typed code
 abbrev pub AcceptedBlocksFit : Type 0
 AcceptedBlocksFit = (bundle : List Item) → first_unmet (name_demands bundle) ≡ None → first_unmet (check_demands bundle) ≡ None → FunctionsFit (bundle_tables bundle) 0 bundle
+
+-- the same by number: the code of each block of the bundle is well typed, and goes to blocks of the bundle
+abbrev pub AcceptedCodeFits : Type 0
+AcceptedCodeFits = (bundle : List Item) → first_unmet (name_demands bundle) ≡ None → first_unmet (check_demands bundle) ≡ None →
+    (n : ℕ) (c : BlockCode) → slice_get (bundle_blocks bundle) n ≡ Some c → CodeOf (bundle_tables bundle) bundle (bundle_blocks bundle) n c

@@ -3,4 +3,4 @@
 
 mod laws;
 
-pub use laws::{accepted_blocks_fit, accepted_tables_fit};
+pub use laws::{accepted_blocks_fit, accepted_code_fits, accepted_tables_fit};

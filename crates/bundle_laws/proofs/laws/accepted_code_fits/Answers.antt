@@ -1,0 +1,5 @@
+use Rattle.bundle_laws.proofs.Numbered.{code_fits}
+use Rattle.bundle_laws.proofs.laws.accepted_code_fits.Goals as goal
+
+pub returns : goal.returns
+returns c = code_fits
