@@ -114,7 +114,7 @@ has_handler h (Some n) = refl
 
 definition_reached : (p : Tables) (all rest : List BlockCode) (item first : ℕ) (d : Funcdef) → FunctionFits p first d →
     ((m : ℕ) → slice_get all (first + m) ≡ slice_get (blocks_code p (body_of p first d) item 0 d.blocks ++ rest) m) →
-    (m : ℕ) (e : BlockEntry) → blocks_from p first d.blocks m ≡ Some e → Reached all m e
+    (m : ℕ) (e : BlockEntry) → blocks_from p first d.blocks m ≡ Some e → Reached all item first m e
 definition_reached p all rest item first d fits stand m e h =
     let at : Numbered p first d.blocks m e = numbered p first d.blocks m e h in
     let code : BlockCode = block_code p (body_of p first d) item (0 + at.at) at.block in
@@ -125,6 +125,8 @@ definition_reached p all rest item first d fits stand m e h =
       there =
           ap (λ (k : ℕ). slice_get all k) at.number ∙ stand at.at
           ∙ get_more (blocks_code p (body_of p first d) item 0 d.blocks) rest at.at code (code_of_block p (body_of p first d) item 0 d.blocks at.at at.block at.there);
+      same = refl;
+      number = omega (arith, at.number);
       takes = block_takes p (blocks_from p first d.blocks) (body_of p first d) at.block fit ∙ ap (λ (x : BlockEntry). x.takes) at.entry;
       handler = has_handler at.block.head at.block.head.handler ∙ ap (λ (x : BlockEntry). x.has_handler) at.entry;
     }

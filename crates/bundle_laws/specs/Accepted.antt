@@ -55,10 +55,12 @@ FunctionsFit p first (items.Funcdef d ∷ is) = FunctionFits p first d × Functi
 
 -- ---- by number
 
--- block number m is one that takes this
-pub record Reached (all : List BlockCode) (m : ℕ) (e : BlockEntry) : Type 0 where
+-- block number m is one of the function that is that item, whose first block has this number, and it takes what the entry says
+pub record Reached (all : List BlockCode) (item first : ℕ) (m : ℕ) (e : BlockEntry) : Type 0 where
   pub code : BlockCode
   pub there : slice_get all m ≡ Some code
+  pub same : code.item ≡ item
+  pub number : m ≡ first + code.at
   pub takes : take code.parameters code.classes ≡ e.takes
   pub handler : is_some code.handler ≡ e.has_handler
 
@@ -77,5 +79,5 @@ pub record CodeOf (p : Tables) (bundle : List Item) (all : List BlockCode) (n : 
   -- its code, and the classes of its variables
   pub code : BlockFits p (blocks_from p first definition.blocks) (body_of p first definition).gives (head_classes p block.head) c.code
   pub classes : c.classes ≡ head_classes p block.head ++ joined code.given
-  -- the blocks to which the code may go
-  pub reached : (m : ℕ) (e : BlockEntry) → blocks_from p first definition.blocks m ≡ Some e → Reached all m e
+  -- the blocks to which the code may go, which are those of the same function
+  pub reached : (m : ℕ) (e : BlockEntry) → blocks_from p first definition.blocks m ≡ Some e → Reached all c.item first m e
