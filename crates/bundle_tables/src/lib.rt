@@ -10,6 +10,3 @@ mod rules;
 mod types;
 
 pub use judging::tables;
-
-#[cfg(test)]
-mod tests;

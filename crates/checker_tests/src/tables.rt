@@ -1,6 +1,6 @@
 //! Bundles whose items are judged.
-use crate::tables;
 use bundle_names::resolve;
+use bundle_tables::tables;
 use check_tables::{CheckFault, CheckKind};
 use ir_text::read_bundle;
 use mu_types::TypeKind;

@@ -1,0 +1,5 @@
+//! Tests of the checker over texts: what its calls answer once each, from the bytes of a bundle up.
+#![tactic(auto)]
+
+#[cfg(test)]
+mod tables;
