@@ -195,6 +195,13 @@ impl Checked {
         &self.tables
     }
 
+    /// How many constants there are.
+    pub fn constants(&self) -> usize
+        ensures { result ≡ length (bundle_tables self.now).constants }
+    {
+        self.tables.constants.len()
+    }
+
     /// The class of a constant that is there.
     pub fn constant_type(&self, n: u32) -> u32
         requires { n < length (bundle_tables self.now).constants }
@@ -218,12 +225,26 @@ impl Checked {
         self.global_types.as_slice()[n as usize]
     }
 
+    /// How many functions there are, declared or defined.
+    pub fn functions(&self) -> usize
+        ensures { result ≡ length (bundle_functions self.now) }
+    {
+        self.functions.len()
+    }
+
     /// A function that is there.
     pub fn function(&self, n: u32) -> &Function
         requires { n < length (bundle_functions self.now) }
         ensures { slice_get (bundle_functions self.now) n ≡ Some result.now }
     {
         &self.functions.as_slice()[n as usize]
+    }
+
+    /// How many blocks there are, in all functions together.
+    pub fn blocks(&self) -> usize
+        ensures { result ≡ length (bundle_blocks self.now) }
+    {
+        self.blocks.len()
     }
 
     /// A block that is there.
