@@ -9,7 +9,9 @@ mod numbers;
 mod rules;
 mod types;
 
+pub use constants::literal;
 pub use judging::tables;
+pub use numbers::type_id;
 
 #[cfg(test)]
 mod tests;

@@ -1,0 +1,5 @@
+pub mod Walks
+pub mod Members
+pub mod Accepted
+pub mod Passes
+pub mod Fitting

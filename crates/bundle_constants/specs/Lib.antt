@@ -1,0 +1,5 @@
+pub mod Values
+pub mod Bundle
+pub mod Fits
+pub mod Laws
+pub mod Members
