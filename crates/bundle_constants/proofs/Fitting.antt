@@ -37,11 +37,11 @@ use Rattle.bundle_constants.proofs.Passes.{kind_fits}
 
 any_none : (f : ℕ → Bool) (xs : List ℕ) → list_any f xs ≡ false → All (λ x. f x ≡ false) xs
 any_none f [] h = All-nil (λ x. f x ≡ false)
-any_none f (x ∷ xs) h = go (f x) refl
+any_none f (x ∷ xs) h = go (f x) refl (λ (e : list_any f xs ≡ false). any_none f xs e)
   where
-    go : (b : Bool) → f x ≡ b → All (λ y. f y ≡ false) (x ∷ xs)
-    go true e = absurd (let t : true ≡ false = (rw e at h) in cc)
-    go false e = All-cons (λ y. f y ≡ false) x xs e (any_none f xs (rw e at h))
+    go : (b : Bool) → f x ≡ b → (list_any f xs ≡ false → All (λ y. f y ≡ false) xs) → All (λ y. f y ≡ false) (x ∷ xs)
+    go true e ih = absurd (false≢true (sym (rw e at h)))
+    go false e ih = All-cons (λ y. f y ≡ false) x xs e (ih (rw e at h))
 
 by_same_at : (of to : ℕ → List ℕ) (t : ℕ) (o : Option TypeDef) → All (λ p. of p ≡ to p) (parts_at o) → leaves_at of t o ≡ leaves_at to t o
 by_same_at of to t None a = refl
@@ -61,44 +61,40 @@ leaves_are g cs law t l = leaves_steady g (length g) t (goes_ends g law.graph la
 
 -- ---- the leaves of the same types ask the same scalars
 
+all_flat : (P : ℕ → Type 0) (of : ℕ → List ℕ) (xs : List ℕ) → All (λ x. All P (of x)) xs → All P (flat_map of xs)
+all_flat P of [] a = All-nil P
+all_flat P of (x ∷ xs) a = All-append P (of x) (flat_map of xs) (All-head (λ y. All P (of y)) x xs a) (all_flat P of xs (All-tail (λ y. All P (of y)) x xs a))
+
+all_times : (P : ℕ → Type 0) (n : ℕ) (xs : List ℕ) → All P xs → All P (times n xs)
+all_times P zero xs a = All-nil P
+all_times P (suc n) xs a = All-append P xs (times n xs) a (all_times P n xs a)
+
+all_one : (P : ℕ → Type 0) (t : ℕ) → P t → All P (t ∷ [])
+all_one P t p = All-cons P t [] p (All-nil P)
+
+all_leaves : (P : ℕ → Type 0) (of : ℕ → List ℕ) (t : ℕ) (d : TypeDef) → P t → All (λ x. All P (of x)) (parts d) → All P (leaves_by of t d)
+all_leaves P of t (Int w) p a = all_one P t p
+all_leaves P of t (Struct fields) p a = all_flat P of fields.members a
+all_leaves P of t (Array element size) p a = all_times P size (of element) (All-head (λ x. All P (of x)) element [] a)
+all_leaves P of t (Hybrid fixed element) p a = all_flat P of fixed.members (front_all (λ x. All P (of x)) fixed.members element a)
+all_leaves P of t Void p a = All-nil P
+all_leaves P of t (Ref x) p a = all_one P t p
+all_leaves P of t (Iref x) p a = all_one P t p
+all_leaves P of t (FuncRef s) p a = all_one P t p
+all_leaves P of t StackRef p a = all_one P t p
+all_leaves P of t ThreadRef p a = all_one P t p
+all_leaves P of t (Sig takes gives) p a = All-nil P
+
+all_leaves_at : (P : ℕ → Type 0) (of : ℕ → List ℕ) (t : ℕ) (o : Option TypeDef) → P t → All (λ x. All P (of x)) (parts_at o) → All P (leaves_at of t o)
+all_leaves_at P of t None p a = All-nil P
+all_leaves_at P of t (Some d) p a = all_leaves P of t d p a
+
 leaves_low : (g : List TypeDef) → IsGraph g → (k t : ℕ) → t < length g → All (λ l. l < length g) (leaves_to g k t)
 unfolding leaves_to
 leaves_low g i zero t l = All-nil (λ l. l < length g)
-leaves_low g i (suc k) t l = at (slice_get g t) (parts_within g i t)
-  where
-    P : ℕ → Type 0
-    P x = x < length g
-
-    low : (x : ℕ) → x < length g → All (λ l. l < length g) (leaves_to g k x)
-    low x m = leaves_low g i k x m
-
-    all_flat : (xs : List ℕ) → All (λ x. x < length g) xs → All (λ x. x < length g) (flat_map (leaves_to g k) xs)
-    all_flat [] a = All-nil (λ x. x < length g)
-    all_flat (x ∷ xs) a = All-append (λ x. x < length g) (leaves_to g k x) (flat_map (leaves_to g k) xs) (low x (All-head (λ x. x < length g) x xs a)) (all_flat xs (All-tail (λ x. x < length g) x xs a))
-
-    all_times : (n : ℕ) (xs : List ℕ) → All (λ x. x < length g) xs → All (λ x. x < length g) (times n xs)
-    all_times zero xs a = All-nil (λ x. x < length g)
-    all_times (suc n) xs a = All-append (λ x. x < length g) xs (times n xs) a (all_times n xs a)
-
-    one : All (λ x. x < length g) (t ∷ [])
-    one = All-cons (λ x. x < length g) t [] l (All-nil (λ x. x < length g))
-
-    by : (d : TypeDef) → All (λ x. x < length g) (parts d) → All (λ x. x < length g) (leaves_by (leaves_to g k) t d)
-    by (Int w) a = one
-    by (Struct fields) a = all_flat fields.members a
-    by (Array element size) a = all_times size (leaves_to g k element) (low element (All-head (λ x. x < length g) element [] a))
-    by (Hybrid fixed element) a = all_flat fixed.members (front_all (λ x. x < length g) fixed.members element a)
-    by Void a = All-nil (λ x. x < length g)
-    by (Ref x) a = one
-    by (Iref x) a = one
-    by (FuncRef s) a = one
-    by StackRef a = one
-    by ThreadRef a = one
-    by (Sig takes gives) a = All-nil (λ x. x < length g)
-
-    at : (o : Option TypeDef) → All (λ p. p < length g) (parts_at o) → All (λ x. x < length g) (leaves_at (leaves_to g k) t o)
-    at None a = All-nil (λ x. x < length g)
-    at (Some d) a = by d a
+leaves_low g i (suc k) t l =
+    all_leaves_at (λ x. x < length g) (leaves_to g k) t (slice_get g t) l
+    (All-weaker (λ x. x < length g) (λ x. All (λ l. l < length g) (leaves_to g k x)) (λ x m. leaves_low g i k x m) (parts_at (slice_get g t)) (parts_within g i t))
 
 leaf_by : (d e : TypeDef) → constructor d ≡ constructor e → number d ≡ number e → (s : Scalar) → FitsLeaf (Some d) s → FitsLeaf (Some e) s
 leaf_by (Int w) (Int v) k n s f = subst (λ (x : ℕ). IsOfWidth x s) n f

@@ -20,7 +20,7 @@ pub struct Constant {
     pub literal: Literal,
 }
 
-fn constant(alloc: Global, globals: &Globals, item: &Const) -> Result<Constant, AllocError>
+fn numbered(alloc: Global, globals: &Globals, item: &Const) -> Result<Constant, AllocError>
     ensures { IfOk result (λ made. bare_constant made ≡ record { of_type = type_id globals.now item.now.of_type; literal = literal_of globals.now item.now.literal }) }
 {
     Ok(Constant {
@@ -41,7 +41,7 @@ pub(crate) fn constants(
     let mut left = items;
     'each: while let [first, more @ ..] = left {
         if let Item::Const(item) = first {
-            all.push(constant(alloc, globals, item)?)?;
+            all.push(numbered(alloc, globals, item)?)?;
         }
         left = more;
     }

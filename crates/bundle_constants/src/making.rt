@@ -129,7 +129,7 @@ fn none_done(alloc: Global, many: u32) -> Result<Vec<bool>, AllocError>
     ensures none { IfOk result (λ v. (n : ℕ) → is_made v.items n ≡ false) }
 {
     let mut done = Vec::new(alloc);
-    for _n in 0..many {
+    for n in 0..many {
         done.push(false)?;
     }
     Ok(done)
