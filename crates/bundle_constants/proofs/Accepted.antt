@@ -1,5 +1,5 @@
 -- What is known of the types and the constants of a bundle whose items meet their demands.
-use Rattle.std.proofs.Common.{◌≡◌, ℕ, zero, suc, ◌+◌, ◌<◌, ◌≤◌, ◌==◌, Bool, true, false, not, List, [], ◌∷◌, ◌++◌, length, map, Option, Some, None, slice_get, nat_lt, cond, if◌then◌else◌, refl, sym, ◌∙◌, ap, subst, append_assoc, inl, inr, ◌⊎◌, arith}
+use Rattle.std.proofs.Common.{◌≡◌, ℕ, zero, suc, ◌+◌, ◌<◌, ◌≤◌, ◌==◌, Bool, true, false, not, List, [], ◌∷◌, ◌++◌, length, map, Option, Some, None, slice_get, nat_lt, cond, if◌then◌else◌, refl, sym, ◌∙◌, ap, subst, append_assoc, inl, inr, arith}
 use Rattle.std.specs.List.{All, list_any}
 use Rattle.std.proofs.lemmas.Bool.{false≢true, cases_lt, eqb-true}
 use Rattle.std.proofs.lemmas.List.{length-append, length-map}
@@ -26,12 +26,10 @@ use Rattle.type_laws.specs.Parts.{parts, parts_at, leads, contains_itself}
 use Rattle.mu_types.specs.declared.limits.TheConstants.{WIDTHS}
 use Rattle.mu_types.specs.Implied.{is_signature, references, references_from, complete}
 use Rattle.mu_types.specs.Tests.{Test, each, passes, wrong_arguments, argument_tests, endless_type, too_many_leaves}
-use Rattle.mu_values.specs.declared.literals.Literal.{Literal}
 use Rattle.mu_values.specs.declared.literals.ConstKind.{ConstKind}
 use Rattle.mu_values.specs.Constants.{width_of, constant_demands, HasMembers}
 use Rattle.bundle_names.specs.declared.globals.Globals.{Globals}
 use Rattle.bundle_names.specs.Globals.{globals_of}
-use Rattle.check_tables.specs.declared.fault.CheckKind.{CheckKind}
 use Rattle.check_tables.specs.declared.fault.CheckKind.TheVariants.{Types, Const}
 use Rattle.check_tables.specs.declared.tables.Tables.{Tables}
 use Rattle.check_tables.specs.Bare.{ids}

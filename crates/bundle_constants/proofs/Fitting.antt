@@ -1,6 +1,6 @@
 -- The value of a constant fits the leaves of its type.
-use Rattle.std.specs.Prelude.{slice_index, slice_index_or, nat_eq}
-use Rattle.std.proofs.Common.{◌≡◌, ℕ, zero, suc, ◌+◌, ◌-◌, ◌^◌, ◌<◌, ◌≤◌, Bool, true, false, ◌||◌, List, [], ◌∷◌, ◌++◌, length, map, Option, Some, None, slice_get, if◌then◌else◌, refl, sym, ◌∙◌, ap, subst, inl, inr, ◌⊎◌, arith}
+use Rattle.std.specs.Prelude.{slice_index}
+use Rattle.std.proofs.Common.{◌≡◌, ℕ, zero, suc, ◌+◌, ◌^◌, ◌<◌, Bool, true, false, List, [], ◌∷◌, ◌++◌, length, map, Option, Some, None, slice_get, if◌then◌else◌, refl, sym, subst, inl, inr, arith}
 use Rattle.std.specs.List.{All, list_any, flat_map}
 use Rattle.std.proofs.lemmas.Bool.{false≢true, cases_lt, eqb-true}
 use Rattle.std.proofs.lemmas.List.Elements.{All-nil, All-cons, All-head, All-tail, All-append, All-weaker}
@@ -22,12 +22,11 @@ use Rattle.mu_values.specs.declared.scalars.Scalar.{Scalar}
 use Rattle.mu_values.specs.declared.scalars.Scalar.TheVariants as scalars
 use Rattle.mu_values.specs.declared.literals.LiteralKind.{LiteralKind}
 use Rattle.mu_values.specs.declared.literals.LiteralKind.TheVariants as literals
-use Rattle.mu_values.specs.declared.literals.ConstKind.TheVariants.{OutOfWidth, WrongShape, NotNullable}
+use Rattle.mu_values.specs.declared.literals.ConstKind.TheVariants.{WrongShape, NotNullable}
 use Rattle.mu_values.specs.Constants.{width_of, is_reference, member_count, member_type, is_count, member_demands, number_demands, kind_demands, number_bits, kind_value, HasMembers, FitsWidth}
 use Rattle.mu_values.proofs.Signed.{bits_pos, bits_neg, bits_neg_zero, pow_up}
 use Rattle.bundle_constants.specs.declared.constants.Constant.{Constant}
-use Rattle.bundle_constants.specs.Values.{told, values_to}
-use Rattle.bundle_constants.specs.Fits.{IsOfWidth, IsNull, FitsLeaf, FitsLeaves}
+use Rattle.bundle_constants.specs.Fits.{IsOfWidth, FitsLeaf, FitsLeaves}
 use Rattle.bundle_constants.specs.Members.{types_of, members_of, value_of, Lawful}
 use Rattle.bundle_constants.proofs.Walks.{goes, goes_ends, parts_within}
 use Rattle.bundle_constants.proofs.Members.{met_is, members_met, member_all, type_low, type_at, constant_at, holds_at, members_end, settled_at, ends, kind_low}

@@ -3,3 +3,4 @@ pub mod Members
 pub mod Accepted
 pub mod Passes
 pub mod Fitting
+pub mod Answered

@@ -1,30 +1,28 @@
 -- Members of constants have types that are the same as parts of the constants' types. So values to the depth that is the number of
 -- types do not change any more, and where some constants are not made, one of them has only members that are.
-use Rattle.std.specs.Prelude.{option_map, slice_index, slice_index_or, nat_eq}
-use Rattle.std.proofs.Common.{◌≡◌, ℕ, zero, suc, ◌+◌, ◌<◌, ◌≤◌, Bool, true, false, ◌||◌, List, [], ◌∷◌, ◌++◌, length, map, Option, Some, None, slice_get, if◌then◌else◌, refl, sym, ◌∙◌, ap, subst, inl, inr, ◌⊎◌, arith}
+use Rattle.std.specs.Prelude.{option_map, slice_index, slice_index_or}
+use Rattle.std.proofs.Common.{◌≡◌, ℕ, zero, suc, ◌+◌, ◌<◌, ◌≤◌, Bool, true, false, List, [], ◌∷◌, length, map, Option, Some, None, slice_get, if◌then◌else◌, refl, sym, ◌∙◌, ap, subst, inl, inr, ◌⊎◌, arith}
 use Rattle.std.specs.List.{All, list_any, list_all, flat_map}
 use Rattle.std.proofs.lemmas.Bool.{false≢true, cases_lt, eqb-true}
 use Rattle.std.proofs.lemmas.List.Elements.{All-head, All-tail, All-weaker}
 use Rattle.std.proofs.lemmas.List.{length-map}
-use Rattle.std.proofs.lemmas.Option.{slice_get-map, slice_get_within, slice_get-get_or, slice_get_past, get_or_from_slice_get}
-use Rattle.demands.specs.declared.fault.Fault.{Fault}
+use Rattle.std.proofs.lemmas.Option.{slice_get-map, slice_get_within, get_or_from_slice_get}
 use Rattle.demands.specs.declared.fault.Fault.TheVariants.{At}
-use Rattle.demands.specs.Demands.{Demands, or_else, first_unmet}
+use Rattle.demands.specs.Demands.{first_unmet}
 use Rattle.demands.proofs.Meeting.{both_met}
 use Rattle.type_laws.specs.declared.definition.TypeDef.{TypeDef}
 use Rattle.type_laws.specs.declared.definition.TypeDef.TheVariants.{Int, Struct, Array, Hybrid, Void, Ref, Iref, FuncRef, StackRef, ThreadRef, Sig}
-use Rattle.type_laws.specs.Same.{same, IsGraph}
+use Rattle.type_laws.specs.Same.{same}
 use Rattle.type_laws.specs.Parts.{parts_at}
 use Rattle.type_laws.proofs.Walks.{or_left, or_right}
 use Rattle.mu_values.specs.declared.scalars.Scalar.{Scalar}
 use Rattle.mu_values.specs.declared.literals.LiteralKind.{LiteralKind}
 use Rattle.mu_values.specs.declared.literals.LiteralKind.TheVariants as literals
-use Rattle.mu_values.specs.declared.literals.ConstKind.{ConstKind}
 use Rattle.mu_values.specs.declared.literals.ConstKind.TheVariants.{WrongShape}
-use Rattle.mu_values.specs.Constants.{width_of, member_count, member_type, member_demands, is_count, kind_demands, constant_demands, kind_value, constant_value, HasMembers}
+use Rattle.mu_values.specs.Constants.{member_count, member_type, member_demands, is_count, kind_demands, kind_value, constant_value, HasMembers}
 use Rattle.bundle_constants.specs.declared.constants.Constant.{Constant}
 use Rattle.bundle_constants.specs.Values.{told, values_by, values_to}
-use Rattle.bundle_constants.specs.Members.{types_of, members_of, is_made, is_ready, NoneEndless, Lawful}
+use Rattle.bundle_constants.specs.Members.{types_of, members_of, is_made, is_ready, Lawful}
 use Rattle.bundle_constants.proofs.Walks.{goes, goes_same, goes_ends, parts_within}
 
 -- ---- a constant by its number

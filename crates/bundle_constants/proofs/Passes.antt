@@ -1,9 +1,9 @@
 -- Passes over the constants that are not made: each makes at least one.
 use Rattle.std.specs.Prelude.{option_map, slice_index, slice_index_or}
-use Rattle.std.proofs.Common.{◌≡◌, ◌≢◌, ℕ, zero, suc, ◌+◌, ◌-◌, ◌^◌, ◌<◌, ◌≤◌, Bool, true, false, List, [], ◌∷◌, ◌++◌, length, map, set, Option, Some, None, slice_get, nat_le, nat_lt, if◌then◌else◌, refl, sym, ◌∙◌, ap, subst, inl, inr, ◌⊎◌, arith, get_or-set_same, get_or-set_other}
-use Rattle.std.specs.List.{All, AllPass, Contains, list_all}
+use Rattle.std.proofs.Common.{◌≡◌, ◌≢◌, ℕ, zero, suc, ◌+◌, ◌-◌, ◌^◌, ◌<◌, ◌≤◌, Bool, true, false, List, [], ◌∷◌, ◌++◌, length, map, set, Option, Some, None, slice_get, refl, sym, ◌∙◌, ap, subst, inl, inr, ◌⊎◌, arith, get_or-set_same, get_or-set_other}
+use Rattle.std.specs.List.{All, Contains}
 use Rattle.std.proofs.lemmas.Bool.{false≢true, cases_lt, leb-true, ltb-true}
-use Rattle.std.proofs.lemmas.List.{length-append, length-map}
+use Rattle.std.proofs.lemmas.List.{length-append, length-map, length-set}
 use Rattle.std.proofs.lemmas.List.Elements.{All-nil, All-cons, All-append, All-contains, All-weaker, Contains-append_cases, Contains-append_left, Contains-append_right}
 use Rattle.std.proofs.lemmas.List.Sums.{AllPass-from_list_all}
 use Rattle.std.proofs.lemmas.Option.{slice_get-map}
@@ -17,13 +17,13 @@ use Rattle.mu_values.specs.declared.literals.Literal.{Literal}
 use Rattle.mu_values.specs.declared.literals.LiteralKind.{LiteralKind}
 use Rattle.mu_values.specs.declared.literals.LiteralKind.TheVariants as literals
 use Rattle.mu_values.specs.declared.literals.ConstKind.TheVariants.{OutOfWidth}
-use Rattle.mu_values.specs.Constants.{width_of, fits, number_demands, kind_value, constant_value, kind_demands, constant_demands, HasMembers, FitsWidth}
+use Rattle.mu_values.specs.Constants.{width_of, fits, number_demands, kind_value, constant_value, kind_demands, value_at, HasMembers, FitsWidth}
 use Rattle.check_tables.specs.Bare.{bare}
 use Rattle.bundle_tables.specs.Literals.{bare_kind, bare_literal}
 use Rattle.bundle_constants.specs.declared.constants.Constant.{Constant}
-use Rattle.bundle_constants.specs.Values.{told, values_to}
-use Rattle.bundle_constants.specs.Members.{types_of, bare_constant, members_of, is_made, is_ready, is_ready_at, value_of, Lawful, AreLeft}
-use Rattle.bundle_constants.proofs.Members.{AreStuck, none_stuck, constant_at, not_ready, kind_low, holds_at, value_same, settled_at, met_is}
+use Rattle.bundle_constants.specs.declared.making.Making.{Making}
+use Rattle.bundle_constants.specs.Members.{types_of, bare_constant, members_of, is_made, is_ready, is_ready_at, value_by, value_of, Lawful, IsMaking, AreLeft}
+use Rattle.bundle_constants.proofs.Members.{none_stuck, constant_at, not_ready, kind_low, holds_at, value_same, settled_at, met_is}
 
 -- ---- one pass, where so many were left: those that are still to be looked at, and those that are kept
 pub record IsPass (many total : ℕ) (cs : List Constant) (done : List Bool) (left kept : List ℕ) : Type 0 where
@@ -175,6 +175,36 @@ value_right g cs law done of right n c e h =
     (All-weaker (λ m. is_made done m ≡ true) (λ m. of m ≡ value_of g cs m) right (members_of c.literal.kind) (AllPass-from_list_all (is_made done) (members_of c.literal.kind) ready))
     ∙ sym (settled_at g cs law n c e)
 
+pub one_more : (g : List TypeDef) (cs : List Constant) → Lawful g cs → (was now : Making) (n : ℕ) (v : List Scalar) → n < length cs → IsMaking g cs was → is_ready_at was.done.items (slice_get cs n) ≡ true →
+    now.done.items ≡ set was.done.items n true → v ≡ value_by g (value_at was.made) (slice_get cs n) → value_at now.made n ≡ v → ((k : ℕ) → k ≢ n → value_at now.made k ≡ value_at was.made k) → IsMaking g cs now
+one_more g cs law was now n v l m ready d e added others = record {
+  count = ap (λ (xs : List Bool). length xs) d ∙ length-set was.done.items n true ∙ m.count;
+  told = λ k h. elim (same_or_not k n) [
+    | inl same ↦ subst (λ (x : ℕ). value_at now.made x ≡ value_of g cs x) (sym same) (added ∙ e ∙ right)
+    | inr ne ↦ others k ne ∙ m.told k (sym (made_more was.done.items n k ne) ∙ subst (λ (xs : List Bool). is_made xs k ≡ true) d h)
+  ];
+}
+  where
+    right : value_by g (value_at was.made) (slice_get cs n) ≡ value_of g cs n
+    right =
+        let c = constant_at cs n l in
+        ap (λ (o : Option Constant). value_by g (value_at was.made) o) c.1 ∙ value_right g cs law was.done.items (value_at was.made) m.told n c.0 c.1 ready
+
+-- ---- the numbers below a number
+
+pub numbers_more : (old new : List ℕ) (n : ℕ) → new ≡ old ++ n ∷ [] → ((m : ℕ) → m < n → Contains old m) → (m : ℕ) → m < n + 1 → Contains new m
+numbers_more old new n e below m l = subst (λ (xs : List ℕ). Contains xs m) (sym e) (elim (cases_lt m n) [
+  | inl less ↦ Contains-append_left old (n ∷ []) m (below m less)
+  | inr more ↦ let same : n ≡ m = omega arith in Contains-append_right old (n ∷ []) m (0, (omega arith), same)
+])
+
+pub low_more : (old new : List ℕ) (n many : ℕ) → new ≡ old ++ n ∷ [] → n < many → All (λ m. m < many) old → All (λ m. m < many) new
+low_more old new n many e l a = subst (λ (xs : List ℕ). All (λ m. m < many) xs) (sym e) (All-append (λ m. m < many) old (n ∷ []) a (All-cons (λ m. m < many) n [] l (All-nil (λ m. m < many))))
+
+pub is_empty : (xs : List ℕ) → (0 < length xs → ⊥) → xs ≡ []
+is_empty [] h = refl
+is_empty (x ∷ xs) h = absurd (h (omega arith))
+
 -- ---- room
 
 width_bare : (o : Option TypeDef) → width_of (option_map bare o) ≡ width_of o
@@ -247,3 +277,7 @@ pub type_fits : (g : List TypeDef) (cs : List Constant) → Lawful (map bare g) 
 type_fits g cs law n c e =
     subst (λ (m : ℕ). c.of_type < m) (length-map g bare)
     (holds_at (λ (d : Constant). d.of_type < length (map bare g)) (map bare_constant cs) n (bare_constant c) law.typed (constant_there cs n c e))
+
+pub value_is : (g : List TypeDef) (cs : List Constant) (of : ℕ → List Scalar) (n : ℕ) (c : Constant) → slice_get cs n ≡ Some c →
+    constant_value g of c.of_type c.literal ≡ value_by (map bare g) of (slice_get (map bare_constant cs) n)
+value_is g cs of n c e = value_bare g of c.of_type c.literal ∙ sym (ap (λ (o : Option Constant). value_by (map bare g) of o) (constant_there cs n c e))

@@ -1,6 +1,6 @@
 -- Walks from wholes to parts by their number of steps: the same types have the same walks, and where no type contains itself no walk
 -- has as many steps as there are types.
-use Rattle.std.proofs.Common.{◌≡◌, ℕ, zero, suc, ◌<◌, ◌≤◌, Bool, true, false, ◌||◌, ◌==◌, List, [], ◌∷◌, length, Option, Some, None, slice_get, refl, sym, ◌∙◌, ap, inl, inr, ◌⊎◌, arith}
+use Rattle.std.proofs.Common.{◌≡◌, ℕ, zero, suc, ◌<◌, ◌≤◌, Bool, true, false, ◌||◌, ◌==◌, List, [], ◌∷◌, length, Option, Some, None, slice_get, refl, sym, ◌∙◌, inl, inr, arith}
 use Rattle.std.specs.List.{All, list_any}
 use Rattle.std.proofs.lemmas.Bool.{false≢true, and_parts, eq-eqb, cases_lt}
 use Rattle.std.proofs.lemmas.List.Elements.{All-nil, All-head, All-tail}
@@ -8,9 +8,8 @@ use Rattle.type_laws.specs.declared.definition.TypeDef.{TypeDef}
 use Rattle.type_laws.specs.declared.definition.TypeDef.TheVariants.{Int, Struct, Array, Hybrid, Void, Ref, Iref, FuncRef, StackRef, ThreadRef, Sig}
 use Rattle.type_laws.specs.Definition.{constructor, arguments}
 use Rattle.type_laws.specs.Same.{pairs, same, IsGraph}
-use Rattle.type_laws.specs.Parts.{parts, parts_at, leads, contains_itself}
+use Rattle.type_laws.specs.Parts.{parts, parts_at, leads}
 use Rattle.type_laws.proofs.Depth.{same_meets, args_within}
-use Rattle.type_laws.proofs.Ranks.{past_none}
 use Rattle.type_laws.proofs.Steady.{count, count_le, count_same}
 use Rattle.type_laws.proofs.Walks.{cut, or_left, or_right}
 use Rattle.bundle_constants.specs.Members.{NoneEndless}

@@ -1,5 +1,5 @@
 -- Inner: the members of literals, and which constants are made. No public contract cites this, so no reader of those needs it.
-use Rattle.std.specs.Prelude.{◌≡◌, ℕ, ◌+◌, ◌<◌, ◌≤◌, Bool, true, false, List, [], map, length, Option, Some, None, slice_get, slice_index_or}
+use Rattle.std.specs.Prelude.{◌≡◌, ℕ, ◌<◌, ◌≤◌, Bool, true, false, List, [], map, length, Option, Some, None, slice_get, slice_index_or}
 use Rattle.std.specs.List.{All, Contains, list_all}
 use Rattle.demands.specs.Demands.{first_unmet}
 use Rattle.type_laws.specs.declared.definition.TypeDef.{TypeDef}
@@ -8,7 +8,7 @@ use Rattle.type_laws.specs.Parts.{contains_itself}
 use Rattle.mu_values.specs.declared.scalars.Scalar.{Scalar}
 use Rattle.mu_values.specs.declared.literals.LiteralKind.{LiteralKind}
 use Rattle.mu_values.specs.declared.literals.LiteralKind.TheVariants as literals
-use Rattle.mu_values.specs.Constants.{width_of, constant_demands, value_at, HasMembers}
+use Rattle.mu_values.specs.Constants.{width_of, constant_demands, constant_value, value_at, HasMembers}
 use Rattle.bundle_tables.specs.Literals.{bare_literal}
 use Rattle.bundle_constants.specs.declared.constants.Constant.{Constant}
 use Rattle.bundle_constants.specs.declared.making.Making.{Making}
@@ -51,6 +51,11 @@ is_ready done kind = list_all (is_made done) (members_of kind)
 abbrev pub is_ready_at : List Bool → Option Constant → Bool
 is_ready_at done None = true
 is_ready_at done (Some c) = is_ready done c.literal.kind
+
+-- the value of a constant where those of its members are told
+abbrev pub value_by : List TypeDef → (ℕ → List Scalar) → Option Constant → List Scalar
+value_by g of None = []
+value_by g of (Some c) = constant_value g of c.of_type c.literal
 
 -- the value of constant n
 abbrev pub value_of : List TypeDef → List Constant → ℕ → List Scalar

@@ -10,13 +10,20 @@ ghost use Rattle.bundle_tables.specs.Rules.{item_demands};
 ghost use Rattle.bundle_constants.specs.Values.{told};
 ghost use Rattle.bundle_constants.specs.Bundle.{constant_values};
 
-use crate::constants::constants;
+use crate::constants::{Constant, constants};
 use crate::making::make_all;
 use check_tables::Tables;
 use ir_tree::Item;
 use mu_values::{Made, Value};
 use std::alloc::{AllocError, Global};
 use text_forms::Listing;
+
+/// How many constants there are. Past 2^32 - 1 the answer is want of memory.
+fn count(constants: &[Constant]) -> Result<u32, AllocError>
+    ensures { IfOk result (λ n. n ≡ length constants.now) }
+{
+    u32::try_from(constants.len()).map_err(|_| AllocError)
+}
 
 fn copied(alloc: Global, made: &Made, n: u32) -> Result<Value, AllocError>
     ensures { IfOk result (λ v. v.members ≡ value_at made.now n) }
@@ -52,7 +59,7 @@ pub fn values(
     ensures { IfOk result (λ all. map (λ v. v.members) all ≡ constant_values tables.now items.now) }
 {
     let constants = constants(alloc, &tables.globals, items)?;
-    let many = u32::try_from(constants.len()).map_err(|_| AllocError)?;
+    let many = count(constants.as_slice())?;
     let made = make_all(alloc, tables.types.classes(), constants.as_slice(), many)?;
     listed(alloc, &made, many)
 }

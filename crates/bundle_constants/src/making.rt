@@ -1,10 +1,9 @@
 // The values of constants are made, those of members before those of what they are members of.
-ghost use Rattle.std.specs.Prelude.{◌≡◌, ℕ, ◌<◌, ◌≤◌, true, false, Some, length, map, set, slice_get, vec_len, IfOk, OnOk};
+ghost use Rattle.std.specs.Prelude.{◌≡◌, ℕ, ◌<◌, ◌≤◌, true, false, length, map, set, slice_get, vec_len, IfOk, OnOk};
 ghost use Rattle.std.specs.List.{All, Contains, list_all};
-ghost use Rattle.mu_values.specs.Constants.{constant_value, value_at};
+ghost use Rattle.mu_values.specs.Constants.{value_at};
 ghost use Rattle.check_tables.specs.Bare.{bare};
-ghost use Rattle.bundle_constants.specs.declared.constants.Constant.{Constant};
-ghost use Rattle.bundle_constants.specs.Members.{bare_constant, is_made, is_ready, is_ready_at, value_of, Lawful, IsMaking, AreLeft};
+ghost use Rattle.bundle_constants.specs.Members.{bare_constant, is_made, is_ready, is_ready_at, value_by, value_of, Lawful, IsMaking, AreLeft};
 
 use crate::constants::Constant;
 use mu_types::Classes;
@@ -57,7 +56,7 @@ fn value(
 ) -> Result<Value, AllocError>
     requires lawful { Lawful (map bare classes.now.definitions) (map bare_constant constants.now) }
     requires n { n < length constants.now }
-    ensures { IfOk result (λ v. (c : Constant) → slice_get (map bare_constant constants.now) n ≡ Some c → v.members ≡ constant_value (map bare classes.now.definitions) (value_at made.now) c.of_type c.literal) }
+    ensures { IfOk result (λ v. v.members ≡ value_by (map bare classes.now.definitions) (value_at made.now) (slice_get (map bare_constant constants.now) n)) }
 {
     let constant = &constants[n as usize];
     make_const(alloc, classes, constant.of_type, &constant.literal, made)
