@@ -56,7 +56,7 @@ complete_is w =
     let refs = references_from 0 (w ++ Void ∷ []) in
     append_assoc (w ++ Void ∷ []) four refs ∙ append_assoc w (Void ∷ []) (four ++ refs)
 
-complete_long : (w : List TypeDef) → length w + 5 ≤ length (complete w)
+pub complete_long : (w : List TypeDef) → length w + 5 ≤ length (complete w)
 complete_long w =
     let all : length (complete w) ≡ length (w ++ implied w) = ap (λ (ds : List TypeDef). length ds) (complete_is w) in
     omega (arith, all, length-append w (implied w))
@@ -309,9 +309,6 @@ types_are g (items.Const d ∷ is) = ap (λ (ts : List ℕ). type_id g d.of_type
 types_are g (items.GlobalCell d ∷ is) = types_are g is
 types_are g (items.Funcdecl d ∷ is) = types_are g is
 types_are g (items.Funcdef d ∷ is) = types_are g is
-
-
-
 
 typed : (g : Globals) (is : List Item) (many : ℕ) → g.counts.written < many → All (λ (c : Constant). c.of_type < many) (constants_of g is)
 typed g [] many l = All-nil (λ (c : Constant). c.of_type < many)

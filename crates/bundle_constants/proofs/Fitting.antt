@@ -121,9 +121,10 @@ leaves_same g i (x ∷ xs) [] a b e v f = cc
 leaves_same g i (x ∷ xs) (y ∷ ys) a b e [] f = f
 leaves_same g i (x ∷ xs) (y ∷ ys) a b e (s ∷ ss) f =
     let head : class_of g x ≡ class_of g y = cc in
-    let tail : map (class_of g) xs ≡ map (class_of g) ys = cc in
-    (leaf_same g i x y (All-head (λ x. x < length g) x xs a) (All-head (λ x. x < length g) y ys b) head s f.0,
-    leaves_same g i xs ys (All-tail (λ x. x < length g) x xs a) (All-tail (λ x. x < length g) y ys b) tail ss f.1)
+    let tail : map (class_of g) xs ≡ map (class_of g) ys = cc in (
+      leaf_same g i x y (All-head (λ x. x < length g) x xs a) (All-head (λ x. x < length g) y ys b) head s f.0,
+      leaves_same g i xs ys (All-tail (λ x. x < length g) x xs a) (All-tail (λ x. x < length g) y ys b) tail ss f.1,
+    )
 
 type_same : (g : List TypeDef) → IsGraph g → (a b : ℕ) → a < length g → b < length g → same g a b ≡ true → (v : List Scalar) → FitsLeaves g (leaves g a) v → FitsLeaves g (leaves g b) v
 type_same g i a b la lb e v f = leaves_same g i (leaves g a) (leaves g b) (leaves_low g i (length g) a la) (leaves_low g i (length g) b lb) (respected g i a b la lb e) v f
@@ -230,13 +231,13 @@ fits_kind g cs law V t place (literals.Members members places) h f =
     let both = both_met (if counted then None else Some (At WrongShape place)) (first_unmet (member_demands g (types_of cs) (slice_get g t) members.members places.members many 0)) h in
     let count : counted ≡ true = met_is counted (At WrongShape place) both.0 in
     fits_members g V t (slice_get g t) members.members count (λ k l.
-        let index : 0 + k ≡ k = omega arith in
-        let alike : same g (slice_index (types_of cs) (slice_index members.members k)) (member_type (slice_get g t) k) ≡ true =
-        subst (λ (n : ℕ). same g (slice_index (types_of cs) (slice_index members.members n)) (member_type (slice_get g t) n) ≡ true) index
-        (members_met g (types_of cs) (slice_get g t) members.members places.members many 0 k both.1 l) in
-        let low : member_type (slice_get g t) k < length g = member_all (λ p. p < length g) (slice_get g t) many k count l (parts_within g law.graph t) in
-        type_same g law.graph (slice_index (types_of cs) (slice_index members.members k)) (member_type (slice_get g t) k) (type_low g cs law (slice_index members.members k)) low alike
-        (V (slice_index members.members k)) (f k l))
+    let index : 0 + k ≡ k = omega arith in
+    let alike : same g (slice_index (types_of cs) (slice_index members.members k)) (member_type (slice_get g t) k) ≡ true =
+    subst (λ (n : ℕ). same g (slice_index (types_of cs) (slice_index members.members n)) (member_type (slice_get g t) n) ≡ true) index
+    (members_met g (types_of cs) (slice_get g t) members.members places.members many 0 k both.1 l) in
+    let low : member_type (slice_get g t) k < length g = member_all (λ p. p < length g) (slice_get g t) many k count l (parts_within g law.graph t) in
+    type_same g law.graph (slice_index (types_of cs) (slice_index members.members k)) (member_type (slice_get g t) k) (type_low g cs law (slice_index members.members k)) low alike
+    (V (slice_index members.members k)) (f k l))
 
 fits_to : (g : List TypeDef) (cs : List Constant) → Lawful g cs → (d n : ℕ) (c : Constant) → slice_get cs n ≡ Some c → goes g d c.of_type ≡ false → FitsLeaves g (leaves g c.of_type) (value_of g cs n)
 unfolding goes
@@ -245,11 +246,11 @@ fits_to g cs law (suc d) n c e h =
     let low : c.of_type < length g = holds_at (λ (x : Constant). x.of_type < length g) cs n c law.typed e in
     rw (leaves_are g cs law c.of_type low, settled_at g cs law n c e)
     (fits_kind g cs law (value_of g cs) c.of_type c.literal.place c.literal.kind (law.judged n c e) (λ k l.
-        let m = slice_index (members_of c.literal.kind) k in
-        let member = constant_at cs m (kind_low (length cs) c.literal.kind (holds_at (λ (x : Constant). HasMembers (length cs) x.literal.kind) cs n c law.members e) k l) in
-        let same_type : slice_index (types_of cs) m ≡ member.0.of_type = type_at cs m member.0 member.1 in
-        let stop : goes g d member.0.of_type ≡ false = subst (λ (t : ℕ). goes g d t ≡ false) same_type (at_index (λ (x : ℕ). goes g d (slice_index (types_of cs) x) ≡ false) (members_of c.literal.kind) k l (members_end g cs law n c e d h)) in
-        subst (λ (t : ℕ). FitsLeaves g (leaves g t) (value_of g cs m)) (sym same_type) (fits_to g cs law d m member.0 member.1 stop)))
+    let m = slice_index (members_of c.literal.kind) k in
+    let member = constant_at cs m (kind_low (length cs) c.literal.kind (holds_at (λ (x : Constant). HasMembers (length cs) x.literal.kind) cs n c law.members e) k l) in
+    let same_type : slice_index (types_of cs) m ≡ member.0.of_type = type_at cs m member.0 member.1 in
+    let stop : goes g d member.0.of_type ≡ false = subst (λ (t : ℕ). goes g d t ≡ false) same_type (at_index (λ (x : ℕ). goes g d (slice_index (types_of cs) x) ≡ false) (members_of c.literal.kind) k l (members_end g cs law n c e d h)) in
+    subst (λ (t : ℕ). FitsLeaves g (leaves g t) (value_of g cs m)) (sym same_type) (fits_to g cs law d m member.0 member.1 stop)))
   where
     at_index : (P : ℕ → Type 0) (xs : List ℕ) (k : ℕ) → k < length xs → All P xs → P (slice_index xs k)
     at_index P xs k l a = a k 0 l

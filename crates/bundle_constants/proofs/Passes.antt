@@ -83,8 +83,11 @@ kept_more many total cs done old new kept n e h p =
       ];
       progress = elim p.progress [
         | inl l ↦ inl (omega (arith, l, same, more))
-        | inr s ↦ inr ((omega (arith, s.0, same, more)), All-append (λ m. is_ready_at done (slice_get cs m) ≡ false) kept (n ∷ []) s.1
-            (All-cons (λ m. is_ready_at done (slice_get cs m) ≡ false) n [] h (All-nil (λ m. is_ready_at done (slice_get cs m) ≡ false))))
+        | inr s ↦ inr (
+          (omega (arith, s.0, same, more)),
+          All-append (λ m. is_ready_at done (slice_get cs m) ≡ false) kept (n ∷ []) s.1
+              (All-cons (λ m. is_ready_at done (slice_get cs m) ≡ false) n [] h (All-nil (λ m. is_ready_at done (slice_get cs m) ≡ false))),
+        )
       ];
     }
 

@@ -3,3 +3,4 @@ pub mod Bundle
 pub mod Fits
 pub mod Laws
 pub mod Members
+pub mod Examples

@@ -48,11 +48,7 @@ fn listed(alloc: Global, made: &Made, many: u32) -> Result<Listing<Value>, Alloc
 /// makes at least one. So it takes two passes where all members come before what they are members of, and where all come behind. The
 /// memory is that of the scalars, of which a member's are there again in each constant that it is a member of. Past 2^32 - 1 constants
 /// the answer is want of memory.
-pub fn values(
-    alloc: Global,
-    tables: &Tables,
-    items: &[Item],
-) -> Result<Listing<Value>, AllocError>
+pub fn values(alloc: Global, tables: &Tables, items: &[Item]) -> Result<Listing<Value>, AllocError>
     requires globals { tables.now.globals ≡ globals_of items.now }
     requires tables { tables.now ≡ tables_of tables.now.globals items.now }
     requires met { first_unmet (item_demands tables.now.globals items.now) ≡ None }

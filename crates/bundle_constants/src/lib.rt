@@ -6,6 +6,9 @@ mod constants;
 mod laws;
 mod making;
 
+pub use bundle::values;
 pub use constants::Constant;
 pub use laws::{values_are_those_of_their_literals, values_fit_their_types};
-pub use bundle::values;
+
+#[cfg(test)]
+mod tests;

@@ -36,4 +36,4 @@ returns c =
     if_ok (λ (all : List (Roomy Scalar)). length all ≡ c.in_ok-many.many) (λ (all : List (Roomy Scalar)). (n : ℕ) → n < c.in_ok-many.many → told (map (λ v. v.members) all) n ≡ value_at c.in_ok-made.made n)
     (λ (all : List (Roomy Scalar)). map (λ v. v.members) all ≡ constant_values c.args.tables.now c.args.items.now) c.listed.result c.listed.ensures.count c.listed.ensures.values
     (λ all count same. values_held c.args.tables.now c.args.items.now c.classes.result.now.definitions c.as_slice-2.result.now held c.in_ok-many.many many (value_at c.in_ok-made.made) c.in_ok-made.ensures
-        (map (λ v. v.members) all) (length-map all (λ v. v.members) ∙ count) same)
+    (map (λ v. v.members) all) (length-map all (λ v. v.members) ∙ count) same)

@@ -27,5 +27,5 @@ returns-clause-fewer c =
     let none : 0 < length c.each.left.items → ⊥ = λ some. false≢true (c.in_default.ensures.variant.1 (subst (λ (n : ℕ). 0 < n) (sym long) some)) in
     let kept : vec_len c.each.kept ≡ length c.each.kept.items = c.each.kept.ok.0 in
     λ some. subst (λ (n : ℕ). n < vec_len c.args.left) (sym kept)
-        (fewer_kept (map bare c.args.classes.now.definitions) (length c.args.constants.now) (vec_len c.args.left) constants c.each.making.done.items c.each.left.items c.each.kept.items c.requires.lawful
-        (sym (length-map c.args.constants.now bare_constant)) (is_empty c.each.left.items none) c.each.invariant.state some)
+    (fewer_kept (map bare c.args.classes.now.definitions) (length c.args.constants.now) (vec_len c.args.left) constants c.each.making.done.items c.each.left.items c.each.kept.items c.requires.lawful
+    (sym (length-map c.args.constants.now bare_constant)) (is_empty c.each.left.items none) c.each.invariant.state some)
