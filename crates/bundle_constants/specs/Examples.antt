@@ -5,7 +5,6 @@ use Rattle.type_laws.specs.declared.definition.TypeDef.{TypeDef}
 use Rattle.type_laws.specs.declared.definition.TypeDef.TheVariants.{Struct, Array, Ref}
 use Rattle.type_laws.specs.declared.definition.TypeDef.TheVariants as types
 use Rattle.type_laws.specs.Leaves.{leaves, leaves_to}
-use Rattle.mu_values.specs.declared.scalars.Scalar.{Scalar}
 use Rattle.mu_values.specs.declared.scalars.Scalar.TheVariants.{Int, Null}
 use Rattle.mu_values.specs.declared.literals.LiteralKind.{LiteralKind}
 use Rattle.mu_values.specs.declared.literals.LiteralKind.TheVariants.{Number, Null as NullLiteral, Members}
@@ -56,8 +55,8 @@ pub array_fits : 7 < 2 ^ 8 → 255 < 2 ^ 8 → FitsLeaves graph (leaves graph 3)
 unfolding values_to leaves_to
 array_fits seven all = ((refl, seven), (tt, ((refl, all), (tt, tt))))
 
-pub width_is_that_of_the_leaf : FitsLeaf (Some (types.Int 8)) (Int 16 3) → 16 ≡ 8
-width_is_that_of_the_leaf h = h.0
+pub width_is_that_of_the_leaf : (width : ℕ) → FitsLeaf (Some (types.Int 8)) (Int width 3) → width ≡ 8
+width_is_that_of_the_leaf width h = h.0
 
 pub bits_are_less : FitsLeaf (Some (types.Int 8)) (Int 8 256) → 256 < 2 ^ 8
 bits_are_less h = h.1

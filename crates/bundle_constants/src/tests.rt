@@ -1,6 +1,4 @@
 //! Values of constants of texts.
-ghost use Rattle.std.specs.Prelude.{◌≡◌};
-
 use crate::values;
 use bundle_names::resolve;
 use bundle_tables::tables;
@@ -57,9 +55,8 @@ const STEP: u32 = 1237;
 fn a_long_chain_in_mixed_order_ends(rt: HostRuntime) -> Result<(), Fail> {
     let alloc = rt.alloc();
     let mut text = format!(in alloc; ".typedef @t0 = int<8> .const @c0 <@t0> = 7 ")?;
-    let mut at = 0;
-    for _ in 0..MANY {
-        at = (at + STEP) % MANY;
+    for n in 0..MANY {
+        let at = n * STEP % MANY;
         text.push_str(&format!(in alloc;
             ".typedef @t{} = struct<@t{}> .const @c{} <@t{}> = {{@c{}}} ",
             at + 1,
