@@ -1,9 +1,10 @@
 // Bundles that are checked.
-ghost use Rattle.std.specs.Prelude.{◌≡◌, ◌<◌, ◌++◌, None, Some, codes, drop, length, slice_get, is_some, IsSome, OnOk};
+ghost use Rattle.std.specs.Prelude.{◌≡◌, ◌<◌, ◌++◌, None, Some, codes, drop, length, map, slice_get, is_some, IsSome, OnOk};
 ghost use Rattle.type_laws.specs.Same.{IsGraph};
 ghost use Rattle.check_tables.specs.Bare.{bare_table};
 ghost use Rattle.bundle_check.specs.Checking.{bundle_tables, bundle_functions, bundle_blocks};
 ghost use Rattle.check_tables.specs.Lookups.{signature_in, takes_of};
+ghost use Rattle.bundle_constants.specs.Bundle.{constant_values};
 ghost use Rattle.bundle_check.specs.Answers.{find, entry, first_in, takes_nothing, part, full_name, full_name_at, item_name, local_class, code_at, handler_of, global_classes, block_name, function_name};
 
 use crate::code::{BlockCode, Function};
@@ -14,6 +15,7 @@ use code_check::Code;
 use ir_lex::Name;
 use ir_tree::{Block, Bundle, Funcdef, Item};
 use mu_types::Classes;
+use mu_values::Value;
 use std::alloc::AllocError;
 use std::marker::Model;
 use text_forms::Listing;
@@ -78,13 +80,15 @@ pub struct Checked {
     functions: Listing<Function>,
     blocks: Listing<BlockCode>,
     global_types: Listing<u32>,
+    constants: Listing<Value>,
 }
 
 impl Model for Checked {
-    ghost use Rattle.std.specs.Prelude.{List, ◌≡◌, None};
+    ghost use Rattle.std.specs.Prelude.{List, ◌≡◌, None, map};
     ghost use Rattle.ir_tree.specs.declared.items.Item.{Item};
     ghost use Rattle.demands.specs.Demands.{first_unmet};
     ghost use Rattle.bundle_names.specs.Naming.{name_demands};
+    ghost use Rattle.bundle_constants.specs.Bundle.{constant_values};
     ghost use Rattle.bundle_check.specs.Checking.{check_demands, bundle_tables, bundle_functions, bundle_blocks};
     ghost use Rattle.bundle_check.specs.Answers.{global_classes};
 
@@ -92,7 +96,7 @@ impl Model for Checked {
 
     ghost view = { λ c. c.bundle };
 
-    ghost invariant = { λ c. (first_unmet (name_demands c.bundle) ≡ None) × (first_unmet (check_demands c.bundle) ≡ None) × (c.tables ≡ bundle_tables c.bundle) × (c.functions ≡ bundle_functions c.bundle) × (c.blocks ≡ bundle_blocks c.bundle) × (c.global_types ≡ global_classes (bundle_tables c.bundle) c.bundle) };
+    ghost invariant = { λ c. (first_unmet (name_demands c.bundle) ≡ None) × (first_unmet (check_demands c.bundle) ≡ None) × (c.tables ≡ bundle_tables c.bundle) × (c.functions ≡ bundle_functions c.bundle) × (c.blocks ≡ bundle_blocks c.bundle) × (c.global_types ≡ global_classes (bundle_tables c.bundle) c.bundle) × (map (λ v. v.members) c.constants ≡ constant_values (bundle_tables c.bundle) c.bundle) };
 }
 
 impl Checked {
@@ -106,6 +110,7 @@ impl Checked {
         functions: Listing<Function>,
         blocks: Listing<BlockCode>,
         global_types: Listing<u32>,
+        constants: Listing<Value>,
     ) -> Checked
         requires named { first_unmet (name_demands bundle) ≡ None }
         requires met { first_unmet (check_demands bundle) ≡ None }
@@ -113,6 +118,7 @@ impl Checked {
         requires functions { functions ≡ bundle_functions bundle }
         requires blocks { blocks ≡ bundle_blocks bundle }
         requires global_types { global_types ≡ global_classes (bundle_tables bundle) bundle }
+        requires constants { map (λ v. v.members) constants ≡ constant_values (bundle_tables bundle) bundle }
         ensures { result ≡ bundle }
     {
         Checked {
@@ -121,6 +127,7 @@ impl Checked {
             functions,
             blocks,
             global_types,
+            constants,
         }
     }
 
@@ -208,6 +215,14 @@ impl Checked {
         ensures { slice_get (bundle_tables self.now).constants n ≡ Some result }
     {
         self.tables.constants.as_slice()[n as usize]
+    }
+
+    /// The value of a constant that is there.
+    pub fn constant(&self, n: u32) -> &Value
+        requires { n < length (bundle_tables self.now).constants }
+        ensures { slice_get (constant_values (bundle_tables self.now) self.now) n ≡ Some result.now.members }
+    {
+        &self.constants.as_slice()[n as usize]
     }
 
     /// How many globals there are.

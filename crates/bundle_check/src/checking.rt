@@ -1,9 +1,10 @@
 // The check of a bundle.
-ghost use Rattle.std.specs.Prelude.{◌≡◌};
-ghost use Rattle.demands.specs.Demands.{Judges, ◌⨾◌};
+ghost use Rattle.std.specs.Prelude.{◌≡◌, None, map, IfOk};
+ghost use Rattle.demands.specs.Demands.{Judges, ◌⨾◌, first_unmet};
 ghost use Rattle.bundle_names.specs.Globals.{globals_of};
 ghost use Rattle.bundle_tables.specs.Entries.{tables_of};
 ghost use Rattle.bundle_tables.specs.Rules.{item_demands};
+ghost use Rattle.bundle_constants.specs.Bundle.{constant_values};
 ghost use Rattle.bundle_check.specs.Functions.{functions_demands, all_blocks};
 ghost use Rattle.bundle_check.specs.Checking.{check_demands, bundle_tables, bundle_blocks};
 
@@ -11,11 +12,13 @@ use crate::checked::Checked;
 use crate::code::BlockCode;
 use crate::functions::all_functions;
 use crate::numbering::{first_of_each, functions, global_types};
+use bundle_constants::values;
 use bundle_names::{Globals, Resolved};
 use bundle_tables::tables;
 use check_tables::{CheckFault, Tables};
 use ir_tree::Item;
-use std::alloc::Global;
+use mu_values::Value;
+use std::alloc::{AllocError, Global};
 use text_forms::Listing;
 
 /// What the items say, and the blocks of their functions.
@@ -46,10 +49,21 @@ fn judged_whole(
     judged(alloc, items, globals)
 }
 
+/// The values of the constants of a bundle that meets all demands.
+#[tactic(auto, using(crate::proofs::Judged::items_met), unfolding(crate::specs::Checking::check_demands, bundle_tables::specs::Entries::tables_of))]
+fn constants(alloc: Global, tables: &Tables, items: &[Item]) -> Result<Listing<Value>, AllocError>
+    requires tables { tables.now ≡ bundle_tables items.now }
+    requires met { first_unmet (check_demands items.now) ≡ None }
+    ensures { IfOk result (λ values. map (λ v. v.members) values ≡ constant_values (bundle_tables items.now) items.now) }
+{
+    values(alloc, tables, items)
+}
+
 /// Judges a bundle whose names are all defined. The fault is the first demand that is not met: of types in three passes over the text
 /// (arguments, types that contain themselves, types with too many leaves), of constants, of signatures, of globals, then function by
 /// function. Want of memory is also answered where numbers do not fit: more than 2^32 - 1 blocks, say. The bundle is taken in each
-/// case. It takes time in proportion to the text, save for the classes of types and one hash for each name that is used.
+/// case. It takes time in proportion to the text, save for the classes of types, one hash for each name that is used, and the values of
+/// the constants, which are made in passes where members come later than what they are members of.
 pub fn check(alloc: Global, names: Resolved) -> Result<Checked, CheckFault>
     ensures { Judges (check_demands names) names result }
 {
@@ -58,5 +72,6 @@ pub fn check(alloc: Global, names: Resolved) -> Result<Checked, CheckFault>
     let firsts = first_of_each(alloc, bundle.as_slice())?;
     let functions = functions(alloc, &tables, firsts.as_slice(), bundle.as_slice())?;
     let global_types = global_types(alloc, &tables, bundle.as_slice())?;
-    Ok(Checked::new(bundle, tables, functions, blocks, global_types))
+    let constants = constants(alloc, &tables, bundle.as_slice())?;
+    Ok(Checked::new(bundle, tables, functions, blocks, global_types, constants))
 }

@@ -19,7 +19,7 @@ use Rattle.mu_values.specs.Constants.{width_of, is_reference, member_count, memb
 use Rattle.check_tables.specs.declared.fault.CheckKind.TheVariants.{Const}
 use Rattle.check_tables.specs.Bare.{bare, bare_table}
 use Rattle.check_tables.proofs.Bare.{same_bare}
-use Rattle.bundle_tables.specs.Inner.{bare_kind, bare_literal}
+use Rattle.bundle_tables.specs.Literals.{bare_kind, bare_literal}
 
 width_bare : (o : Option TypeDef) → width_of (option_map bare o) ≡ width_of o
 width_bare None = refl

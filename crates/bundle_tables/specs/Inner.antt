@@ -10,9 +10,6 @@ use Rattle.demands.specs.declared.fault.Fault.{Fault}
 use Rattle.demands.specs.declared.fault.Fault.TheVariants as faults
 use Rattle.mu_types.specs.declared.faults.TypeKind.{TypeKind}
 use Rattle.mu_types.specs.declared.faults.TypeKind.TheVariants as kinds
-use Rattle.mu_values.specs.declared.literals.Literal.{Literal}
-use Rattle.mu_values.specs.declared.literals.LiteralKind.{LiteralKind}
-use Rattle.mu_values.specs.declared.literals.LiteralKind.TheVariants as literals
 use Rattle.check_tables.specs.declared.fault.CheckKind.{CheckKind}
 use Rattle.check_tables.specs.declared.fault.CheckKind.TheVariants.{Types}
 use Rattle.check_tables.specs.Bare.{ids}
@@ -37,12 +34,3 @@ fault_of kinds.EndlessType place = faults.At (Types kinds.EndlessType) place
 fault_of kinds.WrongArgument place = faults.At (Types kinds.WrongArgument) place
 fault_of kinds.TooManyLeaves place = faults.At (Types kinds.TooManyLeaves) place
 fault_of kinds.Memory place = faults.Memory
-
--- a literal whose lists have no room
-abbrev pub bare_kind : LiteralKind → LiteralKind
-bare_kind (literals.Number negative magnitude) = literals.Number negative magnitude
-bare_kind literals.Null = literals.Null
-bare_kind (literals.Members members places) = literals.Members (ids members.members) (ids places.members)
-
-abbrev pub bare_literal : Literal → Literal
-bare_literal l = record { place = l.place; kind = bare_kind l.kind }

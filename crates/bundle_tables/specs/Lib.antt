@@ -1,4 +1,5 @@
 pub mod Graph
 pub mod Entries
 pub mod Rules
+pub mod Literals
 pub mod Inner

@@ -6,7 +6,7 @@ ghost use Rattle.mu_values.specs.Constants.{constant_demands, HasMembers};
 ghost use Rattle.check_tables.specs.declared.fault.CheckKind.TheVariants.{Const as OfConst};
 ghost use Rattle.bundle_tables.specs.Graph.{type_id};
 ghost use Rattle.bundle_tables.specs.Rules.{constant_id, literal_of, constant_types, constants_demands};
-ghost use Rattle.bundle_tables.specs.Inner.{bare_literal};
+ghost use Rattle.bundle_tables.specs.Literals.{bare_literal};
 
 use crate::graph::places_of_names;
 use crate::numbers::{constant_id, type_id};
@@ -31,8 +31,9 @@ fn constant_ids(alloc: Global, globals: &Globals, names: &[Name]) -> Result<Ids,
     Ok(numbers)
 }
 
-/// A literal, with the constants that it names by number.
-fn literal(
+/// A literal, with the constants that it names by number. Where nothing has such a name, which the names of a bundle rule out, and
+/// where a place is past 2^32 - 1 the answer is want of memory.
+pub fn literal(
     alloc: Global,
     globals: &Globals,
     literal: &ir_tree::Literal,

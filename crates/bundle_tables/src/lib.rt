@@ -9,4 +9,6 @@ mod numbers;
 mod rules;
 mod types;
 
+pub use constants::literal;
 pub use judging::tables;
+pub use numbers::type_id;

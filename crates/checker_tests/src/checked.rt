@@ -3,6 +3,7 @@ use bundle_check::{Checked, EntryFault, check};
 use bundle_names::{Sort, resolve};
 use code_check::Form;
 use ir_text::read_bundle;
+use mu_values::Scalar;
 use std::alloc::Global;
 use std::test::Fail;
 
@@ -41,6 +42,7 @@ fn knows_constants_and_globals(rt: HostRuntime) -> Result<(), Fail> {
     let code = checked(rt.alloc())?;
     assert_eq!(rt; code.constants(), 1);
     assert_eq!(rt; code.constant_type(0), 0);
+    assert_eq!(rt; code.constant(0).as_slice(), [Scalar::Int { width: 64, bits: 7 }].as_slice());
     assert_eq!(rt; code.globals(), 1);
     assert_eq!(rt; code.global_type(0), 1);
     assert_eq!(rt; code.classes().class(1), 1);

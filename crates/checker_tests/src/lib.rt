@@ -4,4 +4,6 @@
 #[cfg(test)]
 mod checked;
 #[cfg(test)]
+mod constants;
+#[cfg(test)]
 mod tables;

@@ -1,4 +1,4 @@
-//! Bundles whose items are judged.
+// Bundles whose items are judged.
 use bundle_names::resolve;
 use bundle_tables::tables;
 use check_tables::{CheckFault, CheckKind};

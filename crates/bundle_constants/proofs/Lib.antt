@@ -1,0 +1,6 @@
+pub mod Walks
+pub mod Members
+pub mod Accepted
+pub mod Passes
+pub mod Fitting
+pub mod Answered

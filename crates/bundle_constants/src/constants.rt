@@ -1,0 +1,49 @@
+// The constants of a bundle.
+ghost use Rattle.std.specs.Prelude.{◌≡◌, map, IfOk};
+ghost use Rattle.ir_tree.specs.declared.items.Item.{Item};
+ghost use Rattle.bundle_tables.specs.Graph.{type_id};
+ghost use Rattle.bundle_tables.specs.Rules.{literal_of};
+ghost use Rattle.bundle_constants.specs.Bundle.{constants_of};
+ghost use Rattle.bundle_constants.specs.Members.{bare_constant};
+
+use bundle_names::Globals;
+use bundle_tables::{literal, type_id};
+use ir_tree::{Const, Item};
+use mu_values::Literal;
+use std::alloc::{AllocError, Global};
+use text_forms::Listing;
+
+/// A constant: the number of its type in the graph, and what it is written as.
+#[derive(Drop)]
+pub struct Constant {
+    pub of_type: u32,
+    pub literal: Literal,
+}
+
+fn numbered(alloc: Global, globals: &Globals, item: &Const) -> Result<Constant, AllocError>
+    ensures { IfOk result (λ made. bare_constant made ≡ record { of_type = type_id globals.now item.now.of_type; literal = literal_of globals.now item.now.literal }) }
+{
+    Ok(Constant {
+        of_type: type_id(globals, &item.of_type)?,
+        literal: literal(alloc, globals, &item.literal)?,
+    })
+}
+
+/// The constants in text order.
+pub(crate) fn constants(
+    alloc: Global,
+    globals: &Globals,
+    items: &[Item],
+) -> Result<Listing<Constant>, AllocError>
+    ensures { IfOk result (λ all. map bare_constant all ≡ constants_of globals.now items.now) }
+{
+    let mut all = Listing::new(alloc);
+    let mut left = items;
+    'each: while let [first, more @ ..] = left {
+        if let Item::Const(item) = first {
+            all.push(numbered(alloc, globals, item)?)?;
+        }
+        left = more;
+    }
+    Ok(all)
+}
