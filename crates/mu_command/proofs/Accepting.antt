@@ -5,6 +5,7 @@ use Rattle.mu_base.specs.declared.status.Status.{Status}
 use Rattle.mu_base.specs.declared.status.Status.TheVariants.{Done}
 use Rattle.mu_base.specs.Outcome.{Outcome, got, failed, too_long}
 use Rattle.mu_texts.specs.declared.what.What.TheVariants.{Bundle}
+use Rattle.mu_texts.specs.declared.ready.Ready.{Ready}
 use Rattle.mu_texts.specs.declared.ready.Ready.TheVariants as ready
 use Rattle.mu_texts.specs.Answer.{Part, ◌>>=◌, built, as_written, accepted, entered, ready_part}
 use Rattle.mu_texts.proofs.Accepting.{StopsShort, then, writing, accepting, building, entering_named}

@@ -5,6 +5,7 @@ use Rattle.mu_base.specs.declared.status.Status.{Status}
 use Rattle.mu_base.specs.declared.status.Status.TheVariants.{Refused}
 use Rattle.mu_base.specs.Outcome.{Outcome, got, failed, too_long}
 use Rattle.mu_texts.specs.declared.what.What.TheVariants.{Bundle}
+use Rattle.mu_texts.specs.declared.ready.Ready.{Ready}
 use Rattle.mu_texts.specs.Answer.{Part, ready_part}
 use Rattle.mu_texts.proofs.Refusing.{nothing_ready_is_refused}
 use Rattle.mu_command.specs.declared.job.Job.{Job}

@@ -9,7 +9,7 @@ use crate::job::Job;
 use crate::loading::load;
 use crate::words::read_words;
 use mu_base::{Inputs, Status, Words};
-use mu_texts::{Ready, Stop, What, accept, enter, judge_built, read};
+use mu_texts::{Ready, Stop, What, judge_for_check, judge_for_print, judge_for_run};
 use std::alloc::Global;
 
 // Judges a bundle's text as the job asks.
@@ -19,19 +19,9 @@ fn judge(alloc: Global, words: &Words, job: Job, bytes: &[u8]) -> Result<Ready, 
     ensures there { IfOk result CanRun }
 {
     match job {
-        Job::Check { .. } => {
-            accept(alloc, bytes)?;
-            Ok(Ready::Accepted)
-        }
-        Job::Print { .. } => {
-            let bundle = read(alloc, bytes)?;
-            Ok(Ready::Canonical(bundle))
-        }
-        Job::Run { entry, .. } => {
-            let code = judge_built(alloc, accept(alloc, bytes)?)?;
-            let entry = enter(alloc, &code, words.word(entry))?;
-            Ok(Ready::Entered { code, entry })
-        }
+        Job::Check { .. } => judge_for_check(alloc, bytes),
+        Job::Print { .. } => judge_for_print(alloc, bytes),
+        Job::Run { entry, .. } => judge_for_run(alloc, bytes, words.word(entry)),
     }
 }
 

@@ -9,7 +9,7 @@ mod refusals;
 mod stop;
 mod what;
 
-pub use judging::{accept, enter, judge_built, read};
+pub use judging::{judge_for_check, judge_for_print, judge_for_run};
 pub use lines::{ending_status, ending_text, line_text};
 pub use ready::Ready;
 pub use stop::Stop;
