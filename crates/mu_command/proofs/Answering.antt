@@ -6,9 +6,11 @@ use Rattle.mu_base.specs.declared.status.Status.TheVariants.{Memory}
 use Rattle.mu_base.specs.Outcome.{Outcome, got}
 use Rattle.mu_base.proofs.Outcomes.{some_outcome}
 use Rattle.mu_command.specs.declared.job.Job.{Job}
-use Rattle.mu_command.specs.declared.what.What.{What}
-use Rattle.mu_command.specs.Job.{job_of, file_of, slot_of}
-use Rattle.mu_command.specs.Answer.{Answer, Outcomes}
+use Rattle.mu_texts.specs.declared.what.What.{What}
+use Rattle.mu_texts.specs.What.{slot_of}
+use Rattle.mu_command.specs.Job.{job_of, file_of}
+use Rattle.mu_texts.specs.Answer.{Answer}
+use Rattle.mu_command.specs.Answer.{Outcomes}
 use Rattle.mu_command.specs.Allowed.{Seen, AllowsFile, AllowsJob}
 use Rattle.mu_command.specs.Parts.{IsAnswer}
 use Rattle.mu_command.specs.Written.{Writes}

@@ -4,31 +4,16 @@ use Rattle.std.specs.Prelude.{Ok, Err}
 use Rattle.mu_base.specs.declared.status.Status.{Status}
 use Rattle.mu_base.specs.declared.status.Status.TheVariants.{Refused}
 use Rattle.mu_base.specs.Outcome.{Outcome, got, failed, too_long}
-use Rattle.mu_step.specs.declared.line.Ending.{Ending}
-use Rattle.mu_step.specs.declared.line.Ending.TheVariants.{Done}
-use Rattle.mu_step.specs.Run.{Run as RunOfMachine, run}
+use Rattle.mu_texts.specs.declared.what.What.TheVariants.{Bundle}
+use Rattle.mu_texts.specs.declared.ready.Ready.{Ready}
+use Rattle.mu_texts.specs.Answer.{Part, ready_part}
+use Rattle.mu_texts.proofs.Refusing.{nothing_ready_is_refused}
 use Rattle.mu_command.specs.declared.job.Job.{Job}
-use Rattle.mu_command.specs.declared.what.What.TheVariants.{Bundle}
-use Rattle.mu_command.specs.declared.ready.Ready.{Ready}
-use Rattle.mu_command.specs.declared.ready.Ready.TheVariants as ready
 use Rattle.mu_command.specs.Job.{job_of, bundle_word}
-use Rattle.mu_command.specs.Lines.{ending_status}
-use Rattle.mu_command.specs.Answer.{Outcomes, Part, asked, found, ready_part, ready_answer, run_answer, answer_of}
+use Rattle.mu_command.specs.Answer.{Outcomes, asked, found, answer_of}
 use Rattle.mu_command.specs.Allowed.{Seen, AllowsWord, AllowsJob}
 use Rattle.mu_command.specs.Written.{IsWhole}
 use Rattle.mu_command.specs.Central.{Answered, OfJob, IsRefused}
-
-no_ending_is_refused : (ending : Ending) → ending_status ending ≡ Refused → ⊥
-no_ending_is_refused Done e = cc
-
-no_run_is_refused : (r : Option RunOfMachine) → (run_answer r).status ≡ Refused → ⊥
-no_run_is_refused (Some r) e = no_ending_is_refused r.ending e
-no_run_is_refused None e = cc
-
-nothing_ready_is_refused : (r : Ready) → (ready_answer r).status ≡ Refused → ⊥
-nothing_ready_is_refused ready.Accepted e = cc
-nothing_ready_is_refused (ready.Canonical bundle) e = cc
-nothing_ready_is_refused (ready.Entered code n) e = no_run_is_refused (run code n) e
 
 module _ (seen : Seen) (words : List (List ℕ)) (job : Job) where
   refused_text : (bytes : List ℕ) → AllowsWord seen words Bundle (bundle_word job) (got bytes) → (a : Part Ready) → asked words job bytes ≡ a → (ready_part a).status ≡ Refused →

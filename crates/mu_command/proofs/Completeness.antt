@@ -6,11 +6,13 @@ use Rattle.mu_base.specs.declared.status.Status.{Status}
 use Rattle.mu_base.specs.Files.{Files, file}
 use Rattle.mu_base.specs.Outcome.{Outcome, got, failed, too_long, Allows}
 use Rattle.mu_command.specs.declared.job.Job.{Job}
-use Rattle.mu_command.specs.Answer.{Outcomes, found, ready_part, answer_of}
-use Rattle.mu_command.specs.declared.what.What.{What}
-use Rattle.mu_command.specs.declared.what.What.TheVariants.{Bundle}
+use Rattle.mu_texts.specs.Answer.{ready_part}
+use Rattle.mu_command.specs.Answer.{Outcomes, found, answer_of}
+use Rattle.mu_texts.specs.declared.what.What.{What}
+use Rattle.mu_texts.specs.declared.what.What.TheVariants.{Bundle}
 use Rattle.mu_command.specs.Allowed.{Seen, AllowsJob, AllowsFile}
-use Rattle.mu_command.specs.Job.{job_of, bundle_word, slot_of}
+use Rattle.mu_texts.specs.What.{slot_of}
+use Rattle.mu_command.specs.Job.{job_of, bundle_word}
 use Rattle.mu_command.specs.Written.{Writes}
 use Rattle.mu_command.specs.Central.{Answered, IsQuiet, outcome_of, outcome_named, outcomes_of, OneAnswer}
 

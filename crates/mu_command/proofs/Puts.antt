@@ -5,7 +5,7 @@ use Rattle.std.specs.Io.KnownBytes.{Appends, Keeps}
 use Rattle.mu_base.specs.declared.status.Status.{Status}
 use Rattle.mu_base.specs.Files.{IsPrefix}
 use Rattle.mu_base.specs.Sink.{AppendsPrefix, MarksEnd, PutsPart}
-use Rattle.mu_command.specs.Answer.{Answer}
+use Rattle.mu_texts.specs.Answer.{Answer}
 use Rattle.mu_command.specs.Written.{joined, cuts_from, AppendsEnds, Wrote, IsWhole, Writes, stopped}
 use Rattle.mu_base.specs.declared.sink.PutFault.{PutFault}
 use Rattle.mu_base.specs.declared.sink.PutFault.TheVariants.{Fault, Memory as NoMemory}

@@ -5,15 +5,17 @@ use Rattle.std.specs.declared.alloc.Global.{Global}
 use Rattle.mu_base.specs.declared.status.Status.TheVariants.{Usage}
 use Rattle.mu_base.specs.Outcome.{Outcome, got}
 use Rattle.mu_command.specs.declared.job.Job.{Job}
-use Rattle.mu_command.specs.declared.what.What.{What}
-use Rattle.mu_command.specs.declared.what.What.TheVariants.{Bundle}
-use Rattle.mu_command.specs.declared.stop.Stop.{Stop}
-use Rattle.mu_command.specs.declared.stop.Stop.TheVariants.{Line, Memory}
-use Rattle.mu_command.specs.declared.ready.Ready.{Ready}
+use Rattle.mu_texts.specs.declared.what.What.{What}
+use Rattle.mu_texts.specs.declared.what.What.TheVariants.{Bundle}
+use Rattle.mu_texts.specs.declared.stop.Stop.{Stop}
+use Rattle.mu_texts.specs.declared.stop.Stop.TheVariants.{Line, Memory}
+use Rattle.mu_texts.specs.declared.ready.Ready.{Ready}
 use Rattle.mu_command.specs.Job.{job_of, file_of, bundle_word}
-use Rattle.mu_command.specs.Answer.{Answer, Outcomes, line, asked, found, ready_part, ready_answer}
+use Rattle.mu_texts.specs.Answer.{Answer, line, ready_part, ready_answer}
+use Rattle.mu_command.specs.Answer.{Outcomes, asked, found}
 use Rattle.mu_command.specs.Allowed.{Seen, AllowsWord, AllowsFile}
-use Rattle.mu_command.specs.Parts.{Comes, IsLoaded, IsAnswer, IsFound}
+use Rattle.mu_texts.specs.Comes.{Comes}
+use Rattle.mu_command.specs.Parts.{IsLoaded, IsAnswer, IsFound}
 
 -- the outcome of the bundle's file alone decides
 abbrev one_outcome : Outcome → Outcomes

@@ -3,8 +3,9 @@ use Rattle.std.specs.Prelude.{◌≡◌, ℕ, List, [], Option, None, Some}
 use Rattle.mu_base.specs.Files.{Files}
 use Rattle.mu_base.specs.Outcome.{Outcome, got, Allows}
 use Rattle.mu_command.specs.declared.job.Job.{Job}
-use Rattle.mu_command.specs.declared.what.What.{What}
-use Rattle.mu_command.specs.Job.{file_of, slot_of, word}
+use Rattle.mu_texts.specs.declared.what.What.{What}
+use Rattle.mu_texts.specs.What.{slot_of}
+use Rattle.mu_command.specs.Job.{file_of, word}
 use Rattle.mu_command.specs.Answer.{Outcomes}
 
 -- what the inputs tell, and their counts of faults before a call and after it

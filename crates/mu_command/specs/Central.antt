@@ -5,11 +5,13 @@ use Rattle.mu_base.specs.Faults.{Rose}
 use Rattle.mu_base.specs.Files.{Files, file, IsMissing}
 use Rattle.mu_base.specs.Outcome.{Outcome, got, failed, too_long, IsLonger}
 use Rattle.mu_command.specs.declared.job.Job.{Job}
-use Rattle.mu_command.specs.declared.ready.Ready.{Ready}
-use Rattle.mu_command.specs.declared.what.What.{What}
-use Rattle.mu_command.specs.declared.what.What.TheVariants.{Bundle}
-use Rattle.mu_command.specs.Job.{job_of, file_of, bundle_word, slot_of, word}
-use Rattle.mu_command.specs.Answer.{Answer, Outcomes, asked, answer_of}
+use Rattle.mu_texts.specs.declared.ready.Ready.{Ready}
+use Rattle.mu_texts.specs.declared.what.What.{What}
+use Rattle.mu_texts.specs.declared.what.What.TheVariants.{Bundle}
+use Rattle.mu_texts.specs.What.{slot_of}
+use Rattle.mu_command.specs.Job.{job_of, file_of, bundle_word, word}
+use Rattle.mu_texts.specs.Answer.{Answer}
+use Rattle.mu_command.specs.Answer.{Outcomes, asked, answer_of}
 use Rattle.mu_command.specs.Allowed.{Seen, AllowsWord, AllowsJob, file_limit}
 use Rattle.mu_command.specs.Written.{Writes}
 

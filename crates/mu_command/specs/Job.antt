@@ -2,8 +2,8 @@
 use Rattle.std.specs.Prelude.{ℕ, ◌<◌, List, [], ◌∷◌, length, Option, None, Some, codes, bytes_eq, if◌then◌else◌, ◌&&◌, slice_index_or}
 use Rattle.mu_command.specs.declared.job.Job.{Job}
 use Rattle.mu_command.specs.declared.job.Job.TheVariants.{Check, Print, Run}
-use Rattle.mu_command.specs.declared.what.What.{What}
-use Rattle.mu_command.specs.declared.what.What.TheVariants.{Bundle}
+use Rattle.mu_texts.specs.declared.what.What.{What}
+use Rattle.mu_texts.specs.declared.what.What.TheVariants.{Bundle}
 
 -- `check FILE`, `print FILE` and `run FILE --entry NAME`; all other words ask for nothing
 abbrev pub job_of : List (List ℕ) → Option Job
@@ -16,14 +16,6 @@ job_of words = None
 -- the word with that number
 abbrev pub word : List (List ℕ) → ℕ → List ℕ
 word words n = slice_index_or words n []
-
--- a file's name in texts
-abbrev pub name_of : What → List ℕ
-name_of Bundle = codes "bundle"
-
--- a file's slot, by which inputs count its faults
-abbrev pub slot_of : What → ℕ
-slot_of Bundle = 0
 
 -- the word that names the bundle
 abbrev pub bundle_word : Job → ℕ

@@ -1,6 +1,4 @@
 pub mod Job
-pub mod Lines
-pub mod Refusals
 pub mod Answer
 pub mod Allowed
 pub mod Written

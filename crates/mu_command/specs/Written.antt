@@ -6,7 +6,7 @@ use Rattle.mu_base.specs.declared.status.Status.TheVariants.{SinkFault, Memory}
 use Rattle.mu_base.specs.declared.sink.PutFault.{PutFault}
 use Rattle.mu_base.specs.declared.sink.PutFault.TheVariants.{Fault, Memory as NoMemory}
 use Rattle.mu_base.specs.Sink.{AppendsPrefix}
-use Rattle.mu_command.specs.Answer.{Answer}
+use Rattle.mu_texts.specs.Answer.{Answer}
 
 -- the pieces, one after another
 abbrev pub joined : List (List ℕ) → List ℕ

@@ -1,16 +1,23 @@
 // Fetches a file of the job.
-ghost use Rattle.std.specs.Prelude.{◌≡◌, ◌≢◌, ◌<◌, ◌≤◌, ℕ, length};
-ghost use Rattle.mu_command.specs.Job.{slot_of};
+ghost use Rattle.std.specs.Prelude.{◌≡◌, ◌≢◌, ◌<◌, ◌≤◌, ◌++◌, ℕ, length, IfOk};
+ghost use Rattle.mu_texts.specs.What.{name_of, slot_of};
 ghost use Rattle.mu_command.specs.Parts.{IsLoaded};
 
-use crate::refusals::naming;
-use crate::stop::Stop;
-use crate::what::What;
 use mu_base::{FetchFault, Inputs, Status, Words};
-use std::alloc::Global;
+use mu_texts::{Stop, What};
+use std::alloc::{AllocError, Global};
 
 // The most bytes of a file.
 const FILE_LIMIT: usize = 1_048_576;
+
+// A text, and then the name of the file.
+fn naming(alloc: Global, text: &str, what: What) -> Result<Vec<u8>, AllocError>
+    ensures { IfOk result (λ all. all.items ≡ text.now ++ name_of what) }
+{
+    let mut all = Vec::from_slice(alloc, text.as_bytes())?;
+    all.extend_from_slice(what.text().as_bytes())?;
+    Ok(all)
+}
 
 /// Fetches the file that a word names.
 pub fn load<I: Inputs>(

@@ -9,9 +9,9 @@ ghost use Rattle.mu_command.specs.Written.{IsWhole, Writes};
 
 use crate::finding::find;
 use crate::running::write;
-use crate::stop::Stop;
 use crate::writing::put_line;
 use mu_base::{Inputs, Sink, Status, Words};
+use mu_texts::Stop;
 use std::alloc::Global;
 
 // Finds the answer and writes it.

@@ -2,21 +2,20 @@
 ghost use Rattle.std.specs.Prelude.{◌≡◌, ◌≤◌, ◌++◌, ◌∷◌, [], map, OnOk, OnErr, IfErr, IsSome};
 ghost use Rattle.mu_base.specs.Faults.{Rose};
 ghost use Rattle.mu_step.specs.Run.{run};
-ghost use Rattle.mu_command.specs.Answer.{run_answer, ready_answer};
-ghost use Rattle.mu_command.specs.Parts.{CanRun};
-ghost use Rattle.mu_command.specs.declared.ready.Ready.TheVariants as ready;
-ghost use Rattle.mu_command.specs.Lines.{line_text, ending_text, ending_status};
+ghost use Rattle.mu_texts.specs.Answer.{run_answer, ready_answer};
+ghost use Rattle.mu_texts.specs.Comes.{CanRun};
+ghost use Rattle.mu_texts.specs.declared.ready.Ready.TheVariants as ready;
+ghost use Rattle.mu_texts.specs.Lines.{line_text, ending_text, ending_status};
 ghost use Rattle.mu_base.specs.Sink.{PutsWhole, PutsPart};
 ghost use Rattle.mu_command.specs.Written.{Writes, IsWhole};
 
-use crate::lines::{ending_status, ending_text, line_text};
-use crate::ready::Ready;
 use crate::writing::{put_line, put_text};
 use bundle_check::Checked;
 use ir_print::print_bundle;
 use ir_tree::Bundle;
 use mu_base::{PutFault, Sink, Status};
 use mu_step::{Ending, Line, run_block};
+use mu_texts::{Ready, ending_status, ending_text, line_text};
 use std::alloc::Global;
 
 // Puts a text in one piece; a put that fails gives the status that goes with it.

@@ -1,7 +1,7 @@
 // Puts pieces to the sink.
 ghost use Rattle.std.specs.Prelude.{◌≡◌, ◌≤◌, [], ◌∷◌};
 ghost use Rattle.mu_base.specs.Faults.{Rose};
-ghost use Rattle.mu_command.specs.Answer.{line};
+ghost use Rattle.mu_texts.specs.Answer.{line};
 ghost use Rattle.mu_command.specs.Written.{Writes, IsWhole, stopped};
 
 use mu_base::{PutFault, Sink, Status};

@@ -1,5 +1,5 @@
 use Rattle.std.proofs.Common.{rules, arith}
-use Rattle.mu_command.specs.Lines.{line_text, ending_text, ending_status}
+use Rattle.mu_texts.specs.Lines.{line_text, ending_text, ending_status}
 use Rattle.mu_command.proofs.InTurn.{one_more, one_stops, last_put, last_stops}
 use Rattle.mu_command.proofs.running.put_run.Goals as goal
 

@@ -1,6 +1,6 @@
 use Rattle.std.proofs.Common.{◌≤◌, take}
 use Rattle.std.specs.Prelude.{map}
-use Rattle.mu_command.specs.Lines.{line_text}
+use Rattle.mu_texts.specs.Lines.{line_text}
 use Rattle.mu_command.specs.Written.{Wrote}
 use Rattle.mu_command.proofs.running.put_run.Given as goal
 

@@ -1,7 +1,7 @@
 // The lines of refusals.
 ghost use Rattle.std.specs.Prelude.{◌≡◌, ◌++◌, IfOk, codes, decimal};
-ghost use Rattle.mu_command.specs.Job.{name_of};
-ghost use Rattle.mu_command.specs.Refusals.{lex_fault_name, text_fault_name, name_fault_name, type_fault_name, const_fault_name, check_fault_name, run_fault_name, entry_fault_name};
+ghost use Rattle.mu_texts.specs.What.{name_of};
+ghost use Rattle.mu_texts.specs.Refusals.{lex_fault_name, text_fault_name, name_fault_name, type_fault_name, const_fault_name, check_fault_name, run_fault_name, entry_fault_name};
 
 use crate::what::What;
 use bundle_check::EntryFault;
@@ -125,13 +125,4 @@ pub fn refusal(alloc: Global, what: What, place: usize, fault: &str) -> Result<V
     text.extend_from_slice(b" ")?;
     text.extend_from_slice(fault.as_bytes())?;
     Ok(text)
-}
-
-/// A text, and then the name of the file.
-pub fn naming(alloc: Global, text: &str, what: What) -> Result<Vec<u8>, AllocError>
-    ensures { IfOk result (λ all. all.items ≡ text.now ++ name_of what) }
-{
-    let mut all = Vec::from_slice(alloc, text.as_bytes())?;
-    all.extend_from_slice(what.text().as_bytes())?;
-    Ok(all)
 }

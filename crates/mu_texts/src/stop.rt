@@ -1,6 +1,6 @@
 // Early ends.
 ghost use Rattle.std.specs.Prelude.{◌≡◌};
-ghost use Rattle.mu_command.specs.declared.stop.Stop.TheVariants.{Memory};
+ghost use Rattle.mu_texts.specs.declared.stop.Stop.TheVariants.{Memory};
 
 use mu_base::Status;
 use std::alloc::AllocError;

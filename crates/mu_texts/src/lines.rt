@@ -1,6 +1,6 @@
 // The lines of a run.
 ghost use Rattle.std.specs.Prelude.{◌≡◌, ◌++◌, OnOk};
-ghost use Rattle.mu_command.specs.Lines.{spaced, note_text, line_text, ending_text, ending_status};
+ghost use Rattle.mu_texts.specs.Lines.{spaced, note_text, line_text, ending_text, ending_status};
 
 use itoa::Buffer;
 use mu_base::Status;

@@ -9,7 +9,7 @@ pub enum What {
 }
 
 impl What {
-    ghost use Rattle.mu_command.specs.Job.{name_of, slot_of};
+    ghost use Rattle.mu_texts.specs.What.{name_of, slot_of};
 
     /// Its slot, by which inputs count its faults.
     pub fn slot(self) -> u32

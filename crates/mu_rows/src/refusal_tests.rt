@@ -29,41 +29,48 @@ const BLOCKS: &str =
 // A text or some instructions, and what is written of them.
 type Row = (&'static str, &'static str);
 
-// What is written of a text that stands alone.
-fn alone(
-    rt: &impl Abort,
-    alloc: Global,
-    text: &str,
-    written: &str,
-    status: Status,
-) -> Result<(), AllocError> {
-    let bytes = Vec::from_slice(alloc, text.as_bytes())?;
-    answers(rt, alloc, &["check", "b"], bytes, written, status)
+// Where the text of a row stands.
+#[derive(Clone, Copy)]
+enum Place {
+    // Alone.
+    Alone,
+    // Before the definitions.
+    Defined,
+    // Among the instructions of a function, with the definitions behind it.
+    Inside,
 }
 
-// What is written of a text with the definitions behind it.
-fn defined(
-    rt: &impl Abort,
-    alloc: Global,
-    text: &str,
-    written: &str,
-    status: Status,
-) -> Result<(), AllocError> {
-    let bytes = repeated(alloc, "", text, 1, DEFINITIONS)?;
-    answers(rt, alloc, &["check", "b"], bytes, written, status)
+// The bundle that a row's text makes at its place.
+fn bundle(alloc: Global, place: Place, text: &str) -> Result<Vec<u8>, AllocError> {
+    match place {
+        Place::Alone => Vec::from_slice(alloc, text.as_bytes()),
+        Place::Defined => repeated(alloc, "", text, 1, DEFINITIONS),
+        Place::Inside => {
+            let mut bytes = repeated(alloc, FRONT, text, 1, BLOCKS)?;
+            bytes.extend_from_slice(DEFINITIONS.as_bytes())?;
+            Ok(bytes)
+        }
+    }
 }
 
-// What is written of instructions in a function.
-fn inside(
+// What `mu check` writes of texts that it accepts, and of texts that it refuses. The rows stand in tables that are only lent, for
+// a proof that moves a table out of its constant takes long.
+fn judged(
     rt: &impl Abort,
     alloc: Global,
-    text: &str,
-    written: &str,
-    status: Status,
+    place: Place,
+    accepted: &[&str],
+    refused: &[Row],
 ) -> Result<(), AllocError> {
-    let mut bytes = repeated(alloc, FRONT, text, 1, BLOCKS)?;
-    bytes.extend_from_slice(DEFINITIONS.as_bytes())?;
-    answers(rt, alloc, &["check", "b"], bytes, written, status)
+    for text in accepted {
+        let bytes = bundle(alloc, place, text)?;
+        answers(rt, alloc, &["check", "b"], bytes, "ok\n", Status::Done)?;
+    }
+    for (text, refusal) in refused {
+        let bytes = bundle(alloc, place, text)?;
+        answers(rt, alloc, &["check", "b"], bytes, refusal, Status::Refused)?;
+    }
+    Ok(())
 }
 
 // Global names that are defined twice.
@@ -122,12 +129,13 @@ const BAD_DOUBLED_NAMES: [Row; 11] = [
 
 #[test]
 fn doubled_names(rt: HostRuntime) -> Result<(), Fail> {
-    for text in GOOD_DOUBLED_NAMES {
-        defined(&rt, rt.alloc(), text, "ok\n", Status::Done)?;
-    }
-    for (text, refusal) in BAD_DOUBLED_NAMES {
-        defined(&rt, rt.alloc(), text, refusal, Status::Refused)?;
-    }
+    judged(
+        &rt,
+        rt.alloc(),
+        Place::Defined,
+        &GOOD_DOUBLED_NAMES,
+        &BAD_DOUBLED_NAMES,
+    )?;
     Ok(())
 }
 
@@ -196,12 +204,13 @@ const BAD_DOUBLED_LOCAL_NAMES: [Row; 13] = [
 
 #[test]
 fn doubled_local_names(rt: HostRuntime) -> Result<(), Fail> {
-    for text in GOOD_DOUBLED_LOCAL_NAMES {
-        defined(&rt, rt.alloc(), text, "ok\n", Status::Done)?;
-    }
-    for (text, refusal) in BAD_DOUBLED_LOCAL_NAMES {
-        defined(&rt, rt.alloc(), text, refusal, Status::Refused)?;
-    }
+    judged(
+        &rt,
+        rt.alloc(),
+        Place::Defined,
+        &GOOD_DOUBLED_LOCAL_NAMES,
+        &BAD_DOUBLED_LOCAL_NAMES,
+    )?;
     Ok(())
 }
 
@@ -245,12 +254,13 @@ const BAD_UNKNOWN_NAMES: [Row; 14] = [
 
 #[test]
 fn unknown_names(rt: HostRuntime) -> Result<(), Fail> {
-    for text in GOOD_UNKNOWN_NAMES {
-        defined(&rt, rt.alloc(), text, "ok\n", Status::Done)?;
-    }
-    for (text, refusal) in BAD_UNKNOWN_NAMES {
-        defined(&rt, rt.alloc(), text, refusal, Status::Refused)?;
-    }
+    judged(
+        &rt,
+        rt.alloc(),
+        Place::Defined,
+        &GOOD_UNKNOWN_NAMES,
+        &BAD_UNKNOWN_NAMES,
+    )?;
     Ok(())
 }
 
@@ -355,12 +365,13 @@ const BAD_UNKNOWN_NAMES_IN_FUNCTIONS: [Row; 22] = [
 
 #[test]
 fn unknown_names_in_functions(rt: HostRuntime) -> Result<(), Fail> {
-    for text in GOOD_UNKNOWN_NAMES_IN_FUNCTIONS {
-        defined(&rt, rt.alloc(), text, "ok\n", Status::Done)?;
-    }
-    for (text, refusal) in BAD_UNKNOWN_NAMES_IN_FUNCTIONS {
-        defined(&rt, rt.alloc(), text, refusal, Status::Refused)?;
-    }
+    judged(
+        &rt,
+        rt.alloc(),
+        Place::Defined,
+        &GOOD_UNKNOWN_NAMES_IN_FUNCTIONS,
+        &BAD_UNKNOWN_NAMES_IN_FUNCTIONS,
+    )?;
     Ok(())
 }
 
@@ -441,12 +452,13 @@ const BAD_NAMES_OF_ANOTHER_KIND: [Row; 20] = [
 
 #[test]
 fn names_of_another_kind(rt: HostRuntime) -> Result<(), Fail> {
-    for text in GOOD_NAMES_OF_ANOTHER_KIND {
-        defined(&rt, rt.alloc(), text, "ok\n", Status::Done)?;
-    }
-    for (text, refusal) in BAD_NAMES_OF_ANOTHER_KIND {
-        defined(&rt, rt.alloc(), text, refusal, Status::Refused)?;
-    }
+    judged(
+        &rt,
+        rt.alloc(),
+        Place::Defined,
+        &GOOD_NAMES_OF_ANOTHER_KIND,
+        &BAD_NAMES_OF_ANOTHER_KIND,
+    )?;
     Ok(())
 }
 
@@ -521,12 +533,13 @@ const BAD_ARGUMENTS_OF_TYPES: [Row; 18] = [
 
 #[test]
 fn arguments_of_types(rt: HostRuntime) -> Result<(), Fail> {
-    for text in GOOD_ARGUMENTS_OF_TYPES {
-        defined(&rt, rt.alloc(), text, "ok\n", Status::Done)?;
-    }
-    for (text, refusal) in BAD_ARGUMENTS_OF_TYPES {
-        defined(&rt, rt.alloc(), text, refusal, Status::Refused)?;
-    }
+    judged(
+        &rt,
+        rt.alloc(),
+        Place::Defined,
+        &GOOD_ARGUMENTS_OF_TYPES,
+        &BAD_ARGUMENTS_OF_TYPES,
+    )?;
     Ok(())
 }
 
@@ -586,12 +599,13 @@ const BAD_ENDLESS_AND_LARGE_TYPES: [Row; 11] = [
 
 #[test]
 fn endless_and_large_types(rt: HostRuntime) -> Result<(), Fail> {
-    for text in GOOD_ENDLESS_AND_LARGE_TYPES {
-        defined(&rt, rt.alloc(), text, "ok\n", Status::Done)?;
-    }
-    for (text, refusal) in BAD_ENDLESS_AND_LARGE_TYPES {
-        defined(&rt, rt.alloc(), text, refusal, Status::Refused)?;
-    }
+    judged(
+        &rt,
+        rt.alloc(),
+        Place::Defined,
+        &GOOD_ENDLESS_AND_LARGE_TYPES,
+        &BAD_ENDLESS_AND_LARGE_TYPES,
+    )?;
     Ok(())
 }
 
@@ -627,12 +641,13 @@ const BAD_WIDTHS_OF_CONSTANTS: [Row; 8] = [
 
 #[test]
 fn widths_of_constants(rt: HostRuntime) -> Result<(), Fail> {
-    for text in GOOD_WIDTHS_OF_CONSTANTS {
-        defined(&rt, rt.alloc(), text, "ok\n", Status::Done)?;
-    }
-    for (text, refusal) in BAD_WIDTHS_OF_CONSTANTS {
-        defined(&rt, rt.alloc(), text, refusal, Status::Refused)?;
-    }
+    judged(
+        &rt,
+        rt.alloc(),
+        Place::Defined,
+        &GOOD_WIDTHS_OF_CONSTANTS,
+        &BAD_WIDTHS_OF_CONSTANTS,
+    )?;
     Ok(())
 }
 
@@ -701,12 +716,13 @@ const BAD_SHAPES_OF_CONSTANTS: [Row; 19] = [
 
 #[test]
 fn shapes_of_constants(rt: HostRuntime) -> Result<(), Fail> {
-    for text in GOOD_SHAPES_OF_CONSTANTS {
-        defined(&rt, rt.alloc(), text, "ok\n", Status::Done)?;
-    }
-    for (text, refusal) in BAD_SHAPES_OF_CONSTANTS {
-        defined(&rt, rt.alloc(), text, refusal, Status::Refused)?;
-    }
+    judged(
+        &rt,
+        rt.alloc(),
+        Place::Defined,
+        &GOOD_SHAPES_OF_CONSTANTS,
+        &BAD_SHAPES_OF_CONSTANTS,
+    )?;
     Ok(())
 }
 
@@ -752,12 +768,13 @@ const BAD_SIGNATURES_AND_GLOBALS: [Row; 9] = [
 
 #[test]
 fn signatures_and_globals(rt: HostRuntime) -> Result<(), Fail> {
-    for text in GOOD_SIGNATURES_AND_GLOBALS {
-        defined(&rt, rt.alloc(), text, "ok\n", Status::Done)?;
-    }
-    for (text, refusal) in BAD_SIGNATURES_AND_GLOBALS {
-        defined(&rt, rt.alloc(), text, refusal, Status::Refused)?;
-    }
+    judged(
+        &rt,
+        rt.alloc(),
+        Place::Defined,
+        &GOOD_SIGNATURES_AND_GLOBALS,
+        &BAD_SIGNATURES_AND_GLOBALS,
+    )?;
     Ok(())
 }
 
@@ -827,12 +844,13 @@ const BAD_FUNCTIONS: [Row; 13] = [
 
 #[test]
 fn functions(rt: HostRuntime) -> Result<(), Fail> {
-    for text in GOOD_FUNCTIONS {
-        defined(&rt, rt.alloc(), text, "ok\n", Status::Done)?;
-    }
-    for (text, refusal) in BAD_FUNCTIONS {
-        defined(&rt, rt.alloc(), text, refusal, Status::Refused)?;
-    }
+    judged(
+        &rt,
+        rt.alloc(),
+        Place::Defined,
+        &GOOD_FUNCTIONS,
+        &BAD_FUNCTIONS,
+    )?;
     Ok(())
 }
 
@@ -883,9 +901,7 @@ const BAD_ENDS_OF_BLOCKS: [Row; 10] = [
 
 #[test]
 fn ends_of_blocks(rt: HostRuntime) -> Result<(), Fail> {
-    for (text, refusal) in BAD_ENDS_OF_BLOCKS {
-        defined(&rt, rt.alloc(), text, refusal, Status::Refused)?;
-    }
+    judged(&rt, rt.alloc(), Place::Defined, &[], &BAD_ENDS_OF_BLOCKS)?;
     Ok(())
 }
 
@@ -943,12 +959,13 @@ const BAD_BEHIND_ENDINGS: [Row; 13] = [
 
 #[test]
 fn behind_endings(rt: HostRuntime) -> Result<(), Fail> {
-    for text in GOOD_BEHIND_ENDINGS {
-        inside(&rt, rt.alloc(), text, "ok\n", Status::Done)?;
-    }
-    for (text, refusal) in BAD_BEHIND_ENDINGS {
-        inside(&rt, rt.alloc(), text, refusal, Status::Refused)?;
-    }
+    judged(
+        &rt,
+        rt.alloc(),
+        Place::Inside,
+        &GOOD_BEHIND_ENDINGS,
+        &BAD_BEHIND_ENDINGS,
+    )?;
     Ok(())
 }
 
@@ -1030,9 +1047,7 @@ const BAD_NUMBERS_OF_RESULTS: [Row; 21] = [
 
 #[test]
 fn numbers_of_results(rt: HostRuntime) -> Result<(), Fail> {
-    for (text, refusal) in BAD_NUMBERS_OF_RESULTS {
-        inside(&rt, rt.alloc(), text, refusal, Status::Refused)?;
-    }
+    judged(&rt, rt.alloc(), Place::Inside, &[], &BAD_NUMBERS_OF_RESULTS)?;
     Ok(())
 }
 
@@ -1064,9 +1079,13 @@ const BAD_VARIABLES_OF_OTHER_BLOCKS: [Row; 7] = [
 
 #[test]
 fn variables_of_other_blocks(rt: HostRuntime) -> Result<(), Fail> {
-    for (text, refusal) in BAD_VARIABLES_OF_OTHER_BLOCKS {
-        inside(&rt, rt.alloc(), text, refusal, Status::Refused)?;
-    }
+    judged(
+        &rt,
+        rt.alloc(),
+        Place::Inside,
+        &[],
+        &BAD_VARIABLES_OF_OTHER_BLOCKS,
+    )?;
     Ok(())
 }
 
@@ -1146,12 +1165,13 @@ const BAD_COMPUTATIONS: [Row; 16] = [
 
 #[test]
 fn computations(rt: HostRuntime) -> Result<(), Fail> {
-    for text in GOOD_COMPUTATIONS {
-        inside(&rt, rt.alloc(), text, "ok\n", Status::Done)?;
-    }
-    for (text, refusal) in BAD_COMPUTATIONS {
-        inside(&rt, rt.alloc(), text, refusal, Status::Refused)?;
-    }
+    judged(
+        &rt,
+        rt.alloc(),
+        Place::Inside,
+        &GOOD_COMPUTATIONS,
+        &BAD_COMPUTATIONS,
+    )?;
     Ok(())
 }
 
@@ -1247,12 +1267,13 @@ const BAD_CASTS_AND_PARTS: [Row; 20] = [
 
 #[test]
 fn casts_and_parts(rt: HostRuntime) -> Result<(), Fail> {
-    for text in GOOD_CASTS_AND_PARTS {
-        inside(&rt, rt.alloc(), text, "ok\n", Status::Done)?;
-    }
-    for (text, refusal) in BAD_CASTS_AND_PARTS {
-        inside(&rt, rt.alloc(), text, refusal, Status::Refused)?;
-    }
+    judged(
+        &rt,
+        rt.alloc(),
+        Place::Inside,
+        &GOOD_CASTS_AND_PARTS,
+        &BAD_CASTS_AND_PARTS,
+    )?;
     Ok(())
 }
 
@@ -1300,12 +1321,13 @@ const BAD_BRANCHES: [Row; 15] = [
 
 #[test]
 fn branches(rt: HostRuntime) -> Result<(), Fail> {
-    for text in GOOD_BRANCHES {
-        inside(&rt, rt.alloc(), text, "ok\n", Status::Done)?;
-    }
-    for (text, refusal) in BAD_BRANCHES {
-        inside(&rt, rt.alloc(), text, refusal, Status::Refused)?;
-    }
+    judged(
+        &rt,
+        rt.alloc(),
+        Place::Inside,
+        &GOOD_BRANCHES,
+        &BAD_BRANCHES,
+    )?;
     Ok(())
 }
 
@@ -1367,12 +1389,7 @@ const BAD_CALLS: [Row; 16] = [
 
 #[test]
 fn calls(rt: HostRuntime) -> Result<(), Fail> {
-    for text in GOOD_CALLS {
-        inside(&rt, rt.alloc(), text, "ok\n", Status::Done)?;
-    }
-    for (text, refusal) in BAD_CALLS {
-        inside(&rt, rt.alloc(), text, refusal, Status::Refused)?;
-    }
+    judged(&rt, rt.alloc(), Place::Inside, &GOOD_CALLS, &BAD_CALLS)?;
     Ok(())
 }
 
@@ -1418,12 +1435,13 @@ const BAD_OWN_RESULTS: [Row; 8] = [
 
 #[test]
 fn own_results(rt: HostRuntime) -> Result<(), Fail> {
-    for text in GOOD_OWN_RESULTS {
-        inside(&rt, rt.alloc(), text, "ok\n", Status::Done)?;
-    }
-    for (text, refusal) in BAD_OWN_RESULTS {
-        inside(&rt, rt.alloc(), text, refusal, Status::Refused)?;
-    }
+    judged(
+        &rt,
+        rt.alloc(),
+        Place::Inside,
+        &GOOD_OWN_RESULTS,
+        &BAD_OWN_RESULTS,
+    )?;
     Ok(())
 }
 
@@ -1498,12 +1516,13 @@ const BAD_OBJECTS_AND_PLACES: [Row; 15] = [
 
 #[test]
 fn objects_and_places(rt: HostRuntime) -> Result<(), Fail> {
-    for text in GOOD_OBJECTS_AND_PLACES {
-        inside(&rt, rt.alloc(), text, "ok\n", Status::Done)?;
-    }
-    for (text, refusal) in BAD_OBJECTS_AND_PLACES {
-        inside(&rt, rt.alloc(), text, refusal, Status::Refused)?;
-    }
+    judged(
+        &rt,
+        rt.alloc(),
+        Place::Inside,
+        &GOOD_OBJECTS_AND_PLACES,
+        &BAD_OBJECTS_AND_PLACES,
+    )?;
     Ok(())
 }
 
@@ -1562,12 +1581,13 @@ const BAD_ELEMENTS_AND_SHIFTS: [Row; 11] = [
 
 #[test]
 fn elements_and_shifts(rt: HostRuntime) -> Result<(), Fail> {
-    for text in GOOD_ELEMENTS_AND_SHIFTS {
-        inside(&rt, rt.alloc(), text, "ok\n", Status::Done)?;
-    }
-    for (text, refusal) in BAD_ELEMENTS_AND_SHIFTS {
-        inside(&rt, rt.alloc(), text, refusal, Status::Refused)?;
-    }
+    judged(
+        &rt,
+        rt.alloc(),
+        Place::Inside,
+        &GOOD_ELEMENTS_AND_SHIFTS,
+        &BAD_ELEMENTS_AND_SHIFTS,
+    )?;
     Ok(())
 }
 
@@ -1621,12 +1641,13 @@ const BAD_ACCESSES: [Row; 10] = [
 
 #[test]
 fn accesses(rt: HostRuntime) -> Result<(), Fail> {
-    for text in GOOD_ACCESSES {
-        inside(&rt, rt.alloc(), text, "ok\n", Status::Done)?;
-    }
-    for (text, refusal) in BAD_ACCESSES {
-        inside(&rt, rt.alloc(), text, refusal, Status::Refused)?;
-    }
+    judged(
+        &rt,
+        rt.alloc(),
+        Place::Inside,
+        &GOOD_ACCESSES,
+        &BAD_ACCESSES,
+    )?;
     Ok(())
 }
 
@@ -1701,12 +1722,13 @@ const BAD_UPDATES_AND_FENCES: [Row; 17] = [
 
 #[test]
 fn updates_and_fences(rt: HostRuntime) -> Result<(), Fail> {
-    for text in GOOD_UPDATES_AND_FENCES {
-        inside(&rt, rt.alloc(), text, "ok\n", Status::Done)?;
-    }
-    for (text, refusal) in BAD_UPDATES_AND_FENCES {
-        inside(&rt, rt.alloc(), text, refusal, Status::Refused)?;
-    }
+    judged(
+        &rt,
+        rt.alloc(),
+        Place::Inside,
+        &GOOD_UPDATES_AND_FENCES,
+        &BAD_UPDATES_AND_FENCES,
+    )?;
     Ok(())
 }
 
@@ -1796,12 +1818,13 @@ const BAD_TRAPS_AND_WATCHPOINTS: [Row; 19] = [
 
 #[test]
 fn traps_and_watchpoints(rt: HostRuntime) -> Result<(), Fail> {
-    for text in GOOD_TRAPS_AND_WATCHPOINTS {
-        inside(&rt, rt.alloc(), text, "ok\n", Status::Done)?;
-    }
-    for (text, refusal) in BAD_TRAPS_AND_WATCHPOINTS {
-        inside(&rt, rt.alloc(), text, refusal, Status::Refused)?;
-    }
+    judged(
+        &rt,
+        rt.alloc(),
+        Place::Inside,
+        &GOOD_TRAPS_AND_WATCHPOINTS,
+        &BAD_TRAPS_AND_WATCHPOINTS,
+    )?;
     Ok(())
 }
 
@@ -1877,12 +1900,13 @@ const BAD_STACKS_AND_THREADS: [Row; 15] = [
 
 #[test]
 fn stacks_and_threads(rt: HostRuntime) -> Result<(), Fail> {
-    for text in GOOD_STACKS_AND_THREADS {
-        inside(&rt, rt.alloc(), text, "ok\n", Status::Done)?;
-    }
-    for (text, refusal) in BAD_STACKS_AND_THREADS {
-        inside(&rt, rt.alloc(), text, refusal, Status::Refused)?;
-    }
+    judged(
+        &rt,
+        rt.alloc(),
+        Place::Inside,
+        &GOOD_STACKS_AND_THREADS,
+        &BAD_STACKS_AND_THREADS,
+    )?;
     Ok(())
 }
 
@@ -1942,12 +1966,13 @@ const BAD_COMMON_INSTRUCTIONS: [Row; 11] = [
 
 #[test]
 fn common_instructions(rt: HostRuntime) -> Result<(), Fail> {
-    for text in GOOD_COMMON_INSTRUCTIONS {
-        inside(&rt, rt.alloc(), text, "ok\n", Status::Done)?;
-    }
-    for (text, refusal) in BAD_COMMON_INSTRUCTIONS {
-        inside(&rt, rt.alloc(), text, refusal, Status::Refused)?;
-    }
+    judged(
+        &rt,
+        rt.alloc(),
+        Place::Inside,
+        &GOOD_COMMON_INSTRUCTIONS,
+        &BAD_COMMON_INSTRUCTIONS,
+    )?;
     Ok(())
 }
 
@@ -1990,12 +2015,13 @@ const BAD_WHOLE_TEXTS: [Row; 7] = [
 
 #[test]
 fn whole_texts(rt: HostRuntime) -> Result<(), Fail> {
-    for text in GOOD_WHOLE_TEXTS {
-        alone(&rt, rt.alloc(), text, "ok\n", Status::Done)?;
-    }
-    for (text, refusal) in BAD_WHOLE_TEXTS {
-        alone(&rt, rt.alloc(), text, refusal, Status::Refused)?;
-    }
+    judged(
+        &rt,
+        rt.alloc(),
+        Place::Alone,
+        &GOOD_WHOLE_TEXTS,
+        &BAD_WHOLE_TEXTS,
+    )?;
     Ok(())
 }
 
@@ -2038,20 +2064,27 @@ const REFUSED_RUNS: [Row; 11] = [
     ),
 ];
 
-#[test]
-fn runs_that_are_refused(rt: HostRuntime) -> Result<(), Fail> {
-    for (text, refusal) in REFUSED_RUNS {
-        defined(&rt, rt.alloc(), text, "ok\n", Status::Done)?;
-        let bytes = repeated(rt.alloc(), "", text, 1, DEFINITIONS)?;
+// What is written where `mu run` refuses what `mu check` accepts.
+fn runs_refused(rt: &impl Abort, alloc: Global, rows: &[Row]) -> Result<(), AllocError> {
+    for (text, refusal) in rows {
+        let checked = bundle(alloc, Place::Defined, text)?;
+        answers(rt, alloc, &["check", "b"], checked, "ok\n", Status::Done)?;
+        let run = bundle(alloc, Place::Defined, text)?;
         answers(
-            &rt,
-            rt.alloc(),
+            rt,
+            alloc,
             &["run", "b", "--entry", "@main"],
-            bytes,
+            run,
             refusal,
             Status::Refused,
         )?;
     }
+    Ok(())
+}
+
+#[test]
+fn runs_that_are_refused(rt: HostRuntime) -> Result<(), Fail> {
+    runs_refused(&rt, rt.alloc(), &REFUSED_RUNS)?;
     Ok(())
 }
 
@@ -2072,35 +2105,44 @@ fn large_globals(alloc: Global, count: usize) -> Result<Vec<u8>, AllocError> {
     Ok(text)
 }
 
-#[test]
-fn leaves_of_all_globals(rt: HostRuntime) -> Result<(), Fail> {
-    let rows = [
-        (16, "", "ok\n", Status::Done),
-        (
-            17,
-            "",
-            "refused bundle 436 TooManyLeaves\n",
-            Status::Refused,
-        ),
-        (
-            16,
-            ".global @a <@i1> ",
-            "refused bundle 420 TooManyLeaves\n",
-            Status::Refused,
-        ),
-        (15, ".global @a <@i1> ", "ok\n", Status::Done),
-        (
-            18,
-            ".global @a <@none> ",
-            "refused bundle 489 WrongKind\n",
-            Status::Refused,
-        ),
-    ];
+// How many large globals, what stands behind them, what is written, and the status.
+type Many = (usize, &'static str, &'static str, Status);
+
+const LARGE_GLOBALS: [Many; 5] = [
+    (16, "", "ok\n", Status::Done),
+    (
+        17,
+        "",
+        "refused bundle 436 TooManyLeaves\n",
+        Status::Refused,
+    ),
+    (
+        16,
+        ".global @a <@i1> ",
+        "refused bundle 420 TooManyLeaves\n",
+        Status::Refused,
+    ),
+    (15, ".global @a <@i1> ", "ok\n", Status::Done),
+    (
+        18,
+        ".global @a <@none> ",
+        "refused bundle 489 WrongKind\n",
+        Status::Refused,
+    ),
+];
+
+fn globals_judged(rt: &impl Abort, alloc: Global, rows: &[Many]) -> Result<(), AllocError> {
     for (count, more, written, status) in rows {
-        let mut bytes = large_globals(rt.alloc(), count)?;
+        let mut bytes = large_globals(alloc, *count)?;
         bytes.extend_from_slice(more.as_bytes())?;
         bytes.extend_from_slice(MANY.as_bytes())?;
-        answers(&rt, rt.alloc(), &["check", "b"], bytes, written, status)?;
+        answers(rt, alloc, &["check", "b"], bytes, written, *status)?;
     }
+    Ok(())
+}
+
+#[test]
+fn leaves_of_all_globals(rt: HostRuntime) -> Result<(), Fail> {
+    globals_judged(&rt, rt.alloc(), &LARGE_GLOBALS)?;
     Ok(())
 }

@@ -1,0 +1,7 @@
+//! What the program answers, row by row: tests of `mu_command::mu` over files in memory, and nothing else.
+#![tactic(auto)]
+
+#[cfg(test)]
+mod refusal_tests;
+#[cfg(test)]
+mod tests;

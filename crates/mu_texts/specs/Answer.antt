@@ -1,0 +1,104 @@
+-- What the text of a bundle comes to, and what is written then.
+use Rattle.std.specs.Prelude.{ℕ, List, [], ◌∷◌, ◌++◌, map, Option, None, Some, Result, Ok, Err, codes, decimal}
+use Rattle.mu_base.specs.declared.status.Status.{Status}
+use Rattle.mu_base.specs.declared.status.Status.TheVariants.{Done as Finished, Refused, Memory}
+use Rattle.ir_text.specs.declared.fault.TextFault.{TextFault}
+use Rattle.ir_text.specs.declared.fault.TextFault.TheVariants as text_faults
+use Rattle.ir_text.specs.TextAnswers.{text_answer}
+use Rattle.ir_tree.specs.declared.items.Item.{Item}
+use Rattle.ir_print.specs.Items.{bundle_text}
+use Rattle.demands.specs.declared.fault.Fault.{Fault}
+use Rattle.demands.specs.declared.fault.Fault.TheVariants as faults
+use Rattle.demands.specs.Demands.{first_unmet}
+use Rattle.bundle_names.specs.Naming.{name_demands}
+use Rattle.bundle_check.specs.declared.fault.EntryFault.{EntryFault}
+use Rattle.bundle_check.specs.Checking.{check_demands}
+use Rattle.bundle_check.specs.Answers.{entry}
+use Rattle.mu_step.specs.Built.{built_demands}
+use Rattle.mu_step.specs.Run.{Run as RunOfMachine, run}
+use Rattle.mu_texts.specs.declared.what.What.{What}
+use Rattle.mu_texts.specs.declared.what.What.TheVariants.{Bundle}
+use Rattle.mu_texts.specs.declared.ready.Ready.{Ready}
+use Rattle.mu_texts.specs.declared.ready.Ready.TheVariants as ready
+use Rattle.mu_texts.specs.What.{name_of}
+use Rattle.mu_texts.specs.Lines.{line_text, ending_text, ending_status}
+use Rattle.mu_texts.specs.Refusals.{text_fault_name, name_fault_name, check_fault_name, run_fault_name, entry_fault_name}
+
+-- What is to be written, in the pieces that are put one by one, and the status that goes with it.
+pub record Answer : Type 0 where
+  pub pieces : List (List ℕ)
+  pub status : Status
+
+-- one line, in one piece
+abbrev pub line : List ℕ → Status → Answer
+line words status = record { pieces = (words ++ 10 ∷ []) ∷ []; status = status }
+
+-- An answer that no call can end with: a definition gives it where, by a law, it is never asked.
+abbrev pub no_answer : Answer
+no_answer = record { pieces = []; status = Memory }
+
+-- What a part of the way comes to: something to go on with, or the answer that ends it.
+abbrev pub Part : Type 0 → Type 0
+Part A = Result A Answer
+
+infixl 10 ◌>>=◌
+abbrev pub ◌>>=◌ : {A B : Type 0} → Part A → (A → Part B) → Part B
+(Ok x) >>= more = more x
+(Err answer) >>= more = Err answer
+
+-- `refused WHAT PLACE FAULT`
+abbrev pub refused : What → ℕ → List ℕ → Answer
+refused what place fault = line (codes "refused " ++ name_of what ++ codes " " ++ decimal place ++ codes " " ++ fault) Refused
+
+-- a text is a bundle, or has a first fault
+abbrev pub read_part : Result (List Item) TextFault → Part (List Item)
+read_part (Ok bundle) = Ok bundle
+read_part (Err (text_faults.At kind place)) = Err (refused Bundle place (text_fault_name kind))
+read_part (Err text_faults.Memory) = Err no_answer
+
+-- a bundle meets demands, or there is a first one that it does not, of a kind that has a name
+abbrev pub met_part : {K : Type 0} → (K → List ℕ) → List Item → Option (Fault K) → Part (List Item)
+met_part name bundle None = Ok bundle
+met_part name bundle (Some (faults.At kind place)) = Err (refused Bundle place (name kind))
+met_part name bundle (Some faults.Memory) = Err no_answer
+
+-- all its names are defined, each once; it meets all other demands; and all its functions are built
+abbrev pub named : List Item → Part (List Item)
+named bundle = met_part name_fault_name bundle (first_unmet (name_demands bundle))
+
+abbrev pub checked : List Item → Part (List Item)
+checked bundle = met_part check_fault_name bundle (first_unmet (check_demands bundle))
+
+abbrev pub built : List Item → Part (List Item)
+built bundle = met_part run_fault_name bundle (first_unmet (built_demands bundle))
+
+-- the bundle that a text is
+abbrev pub as_written : List ℕ → Part (List Item)
+as_written bytes = read_part (text_answer bytes)
+
+-- the bundle that a text is, where it meets its demands
+abbrev pub accepted : List ℕ → Part (List Item)
+accepted bytes = as_written bytes >>= named >>= checked
+
+-- the function that the run begins with
+abbrev pub entry_part : Result ℕ EntryFault → Part ℕ
+entry_part (Ok n) = Ok n
+entry_part (Err fault) = Err (line (codes "refused entry " ++ entry_fault_name fault) Refused)
+
+abbrev pub entered : List Item → List ℕ → Part ℕ
+entered bundle name = entry_part (entry bundle name)
+
+-- the lines of the run, a piece each, and then its ending; a run that is stuck would have no answer
+abbrev pub run_answer : Option RunOfMachine → Answer
+run_answer (Some r) = record { pieces = map line_text r.lines ++ ending_text r.ending ∷ []; status = ending_status r.ending }
+run_answer None = no_answer
+
+-- what is written then: `ok`, the canonical text in one piece, or the run
+abbrev pub ready_answer : Ready → Answer
+ready_answer ready.Accepted = line (codes "ok") Finished
+ready_answer (ready.Canonical bundle) = record { pieces = bundle_text bundle ∷ []; status = Finished }
+ready_answer (ready.Entered code n) = run_answer (run code n)
+
+abbrev pub ready_part : Part Ready → Answer
+ready_part (Ok r) = ready_answer r
+ready_part (Err answer) = answer

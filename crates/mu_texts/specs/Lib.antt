@@ -1,0 +1,6 @@
+pub mod What
+pub mod Lines
+pub mod Refusals
+pub mod Answer
+pub mod Comes
+pub mod Examples

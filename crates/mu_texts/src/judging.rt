@@ -1,0 +1,143 @@
+// Reads the text of a bundle, and judges it.
+ghost use Rattle.std.specs.Prelude.{◌≡◌, None, Ok, IfOk, OnOk, IsSome};
+ghost use Rattle.demands.specs.Demands.{first_unmet};
+ghost use Rattle.mu_step.specs.Built.{built_demands};
+ghost use Rattle.mu_step.specs.Run.{run};
+ghost use Rattle.mu_texts.specs.Answer.{as_written, named, checked, built, accepted, entered};
+ghost use Rattle.mu_texts.specs.Comes.{Comes, Passes, IsRefusal, CanRun, for_check, for_print, for_run, begun};
+
+use crate::ready::Ready;
+use crate::refusals::{
+    check_fault_name, entry_fault_name, name_fault_name, refusal, run_fault_name, text_fault_name,
+};
+use crate::stop::Stop;
+use crate::what::What;
+use bundle_check::{Checked, check};
+use bundle_names::{Resolved, resolve};
+use demands::Fault;
+use ir_text::{TextFault, read_bundle};
+use ir_tree::Bundle;
+use mu_base::Status;
+use mu_step::are_built;
+use std::alloc::{AllocError, Global};
+
+// The line of a refusal of the bundle.
+fn refused(alloc: Global, place: usize, fault: &str) -> Result<Stop, AllocError>
+    ensures { IfOk result (λ stop. IsRefusal stop place fault.now) }
+{
+    let text = refusal(alloc, What::Bundle, place, fault)?;
+    Ok(Stop::Line(text, Status::Refused))
+}
+
+// Reads a bundle.
+fn read(alloc: Global, bytes: &[u8]) -> Result<Bundle, Stop>
+    ensures { Comes (as_written bytes.now) result }
+{
+    match read_bundle(alloc, bytes) {
+        Ok(bundle) => Ok(bundle),
+        Err(TextFault::Memory) => Err(Stop::Memory),
+        Err(TextFault::At { kind, place }) => Err(refused(alloc, place, text_fault_name(kind))?),
+    }
+}
+
+// Judges the names of a bundle.
+fn name(alloc: Global, bundle: Bundle) -> Result<Resolved, Stop>
+    ensures { Comes (named bundle) result }
+{
+    match resolve(alloc, bundle) {
+        Ok(names) => Ok(names),
+        Err(Fault::Memory) => Err(Stop::Memory),
+        Err(Fault::At { kind, place }) => Err(refused(alloc, place, name_fault_name(kind))?),
+    }
+}
+
+// Judges all else of a bundle.
+fn judge_named(alloc: Global, names: Resolved) -> Result<Checked, Stop>
+    ensures { Comes (checked names) result }
+{
+    match check(alloc, names) {
+        Ok(code) => Ok(code),
+        Err(Fault::Memory) => Err(Stop::Memory),
+        Err(Fault::At { kind, place }) => Err(refused(alloc, place, check_fault_name(kind))?),
+    }
+}
+
+// Reads a bundle and judges it.
+fn accept(alloc: Global, bytes: &[u8]) -> Result<Checked, Stop>
+    ensures { Comes (accepted bytes.now) result }
+{
+    let bundle = read(alloc, bytes)?;
+    let names = name(alloc, bundle)?;
+    judge_named(alloc, names)
+}
+
+// All functions of a bundle are built.
+fn judge_built(alloc: Global, code: &Checked) -> Result<(), Stop>
+    ensures built { Passes (built code.now) code.now result }
+    ensures met { OnOk result (first_unmet (built_demands code.now) ≡ None) }
+{
+    match are_built(alloc, code) {
+        Ok(()) => Ok(()),
+        Err(Fault::Memory) => Err(Stop::Memory),
+        Err(Fault::At { kind, place }) => Err(refused(alloc, place, run_fault_name(kind))?),
+    }
+}
+
+// The number of the function with that name.
+#[tactic(auto, using(mu_step::proofs::Never::never_stuck))]
+fn enter(alloc: Global, code: &Checked, name: &str) -> Result<u32, Stop>
+    requires { first_unmet (built_demands code.now) ≡ None }
+    ensures number { Comes (entered code.now name.now) result }
+    ensures there { IfOk result (λ n. IsSome (run code.now n)) }
+{
+    match code.entry(name) {
+        Ok(number) => Ok(number),
+        Err(fault) => {
+            let mut text = Vec::from_slice(alloc, b"refused entry ")?;
+            text.extend_from_slice(entry_fault_name(fault).as_bytes())?;
+            Err(Stop::Line(text, Status::Refused))
+        }
+    }
+}
+
+// The number of the function that a run begins with, in a bundle whose functions are built.
+fn entry_of(alloc: Global, code: &Checked, name: &str) -> Result<u32, Stop>
+    ensures built { IfOk result (λ n. built code.now ≡ Ok code.now) }
+    ensures number { Comes (begun code.now name.now) result }
+    ensures there { IfOk result (λ n. IsSome (run code.now n)) }
+{
+    judge_built(alloc, code)?;
+    enter(alloc, code, name)
+}
+
+// A checked bundle is lent on the way, so that each function drops it at one place at most: the proof of a drop goes through all
+// its parts.
+
+/// What `mu check` asks of a text: a bundle that meets all demands on it.
+pub fn judge_for_check(alloc: Global, bytes: &[u8]) -> Result<Ready, Stop>
+    ensures { Comes (for_check bytes.now) result }
+{
+    accept(alloc, bytes)?;
+    Ok(Ready::Accepted)
+}
+
+/// What `mu print` asks of a text: a bundle.
+pub fn judge_for_print(alloc: Global, bytes: &[u8]) -> Result<Ready, Stop>
+    ensures { Comes (for_print bytes.now) result }
+{
+    Ok(Ready::Canonical(read(alloc, bytes)?))
+}
+
+/// What `mu run` asks of a text: a bundle that meets all demands on it, whose functions are built, with a function of that name
+/// which a run may begin with.
+#[tactic(auto, using(crate::proofs::Entering::entering))]
+pub fn judge_for_run(alloc: Global, bytes: &[u8], name: &str) -> Result<Ready, Stop>
+    ensures asked { Comes (for_run bytes.now name.now) result }
+    ensures there { IfOk result CanRun }
+{
+    let code = accept(alloc, bytes)?;
+    match entry_of(alloc, &code, name) {
+        Ok(entry) => Ok(Ready::Entered { code, entry }),
+        Err(stop) => Err(stop),
+    }
+}
