@@ -1,4 +1,5 @@
 pub mod Zeros
+pub mod Forgotten
 pub mod GoingOn
 pub mod Searching
 pub mod Owning

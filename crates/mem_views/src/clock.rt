@@ -1,5 +1,5 @@
 // What is known of each thread.
-ghost use Rattle.std.specs.Prelude.{◌≡◌, ℕ, ◌<◌, List, max, replicate, slice_index};
+ghost use Rattle.std.specs.Prelude.{◌≡◌, ℕ, ◌<◌, ◌↔◌, List, max, replicate, slice_index, IsTrue};
 ghost use Rattle.clock_laws.specs.Clocks.{bump};
 
 use std::marker::Model;
@@ -35,6 +35,13 @@ impl Clock {
         Clock {
             known: [number; 64],
         }
+    }
+
+    /// Whether it knows nothing.
+    pub fn is_nothing(&self) -> bool
+        ensures { IsTrue result ↔ (self.now ≡ replicate 64 0) }
+    {
+        self.known == [0; 64]
     }
 
     /// The number of a thread.

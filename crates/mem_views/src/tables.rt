@@ -41,12 +41,16 @@ impl ClockTable {
         self.clocks.reserve(count)
     }
 
-    /// Keeps a clock under a number.
+    /// Keeps a clock under a number. One that knows nothing takes no memory.
     pub fn put(&mut self, number: u32, clock: &Clock)
         requires { 0 < self.old.spare }
         ensures put { (k u : ℕ) → table_at self.new k u ≡ cond (k == number) (slice_index clock.now u) (table_at self.old k u) }
         ensures spare { self.old.spare ≤ self.new.spare + 1 }
     {
+        if clock.is_nothing() {
+            self.clocks.remove(&number);
+            return;
+        }
         let kept: Result<_, _> = self.clocks.insert(number, *clock);
         kept.unwrap();
     }
