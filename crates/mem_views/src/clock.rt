@@ -73,8 +73,7 @@ fn join_arrays(known: &mut [u32; 64], other: &[u32; 64])
     ensures { (u : ℕ) → slice_index known.new u ≡ max (slice_index known.old u) (slice_index other.now u) }
 {
     for t in 0..64 {
-        if known[t] < other[t] {
-            known[t] = other[t];
-        }
+        // A store on every path lets the compiler join several numbers at once.
+        known[t] = known[t].max(other[t]);
     }
 }

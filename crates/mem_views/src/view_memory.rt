@@ -421,11 +421,13 @@ impl ViewMemory {
         ensures at_most { result ≤ newest self.now.tape.events cell }
         ensures cost { (d : ℕ) → length self.now.tape.events < 2 ^ d → steps.new ≤ steps.old + (floor_bound self.now.tape.events d + looks_bound self.now.rule (initial_of (scalars_of self.now.objects.items)) self.now.tape.events thread cell order excluded) }
     {
-        let floor = self.floor(thread, cell, order, steps);
         let newest = self.newest(cell);
         match excluded {
             None => newest - n,
-            Some(scalar) => self.nth_differing(cell, floor, newest, scalar, n, steps),
+            Some(scalar) => {
+                let floor = self.floor(thread, cell, order, steps);
+                self.nth_differing(cell, floor, newest, scalar, n, steps)
+            }
         }
     }
 
