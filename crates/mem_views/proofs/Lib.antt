@@ -12,6 +12,7 @@ pub mod ThreadsMade
 pub mod Gained
 pub mod CellsKept
 pub mod FloorFound
+pub mod NoneFound
 pub mod RaceFound
 pub mod Reading
 pub mod Budget

@@ -1,5 +1,4 @@
 use Rattle.std.proofs.Common.{◌≡◌, ◌∙◌, ◌==◌, ap, ℕ, List, slice_index}
-use Rattle.std.specs.Prelude.{replicate}
 use Rattle.mem_views.specs.Tables.{table_at}
 use Rattle.mem_views.proofs.Zeros.{zeros-at}
 use Rattle.mem_views.proofs.Forgotten.{nothing-joined}
