@@ -51,6 +51,10 @@ impl ClockTable {
             self.clocks.remove(&number);
             return;
         }
+        if let Some(kept) = self.clocks.get_mut(&number) {
+            *kept = *clock;
+            return;
+        }
         let kept: Result<_, _> = self.clocks.insert(number, *clock);
         kept.unwrap();
     }
@@ -59,6 +63,9 @@ impl ClockTable {
     pub fn of(&self, number: u32) -> Clock
         ensures { (u : ℕ) → slice_index result u ≡ table_at self.now number u }
     {
+        if self.clocks.is_empty() {
+            return Clock::new();
+        }
         match self.clocks.get(&number) {
             Some(clock) => *clock,
             None => Clock::new(),
