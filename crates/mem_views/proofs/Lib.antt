@@ -1,4 +1,5 @@
 pub mod Zeros
+pub mod Forgotten
 pub mod GoingOn
 pub mod Searching
 pub mod Owning
@@ -11,6 +12,7 @@ pub mod ThreadsMade
 pub mod Gained
 pub mod CellsKept
 pub mod FloorFound
+pub mod NoneFound
 pub mod RaceFound
 pub mod Reading
 pub mod Budget

@@ -1,5 +1,5 @@
 // What is known of each thread.
-ghost use Rattle.std.specs.Prelude.{◌≡◌, ℕ, ◌<◌, List, max, replicate, slice_index};
+ghost use Rattle.std.specs.Prelude.{◌≡◌, ℕ, ◌<◌, ◌↔◌, List, max, replicate, slice_index, IsTrue};
 ghost use Rattle.clock_laws.specs.Clocks.{bump};
 
 use std::marker::Model;
@@ -37,6 +37,13 @@ impl Clock {
         }
     }
 
+    /// Whether it knows nothing.
+    pub fn is_nothing(&self) -> bool
+        ensures { IsTrue result ↔ (self.now ≡ replicate 64 0) }
+    {
+        self.known == [0; 64]
+    }
+
     /// The number of a thread.
     pub fn of(&self, thread: usize) -> u32
         requires { thread < 64 }
@@ -66,8 +73,7 @@ fn join_arrays(known: &mut [u32; 64], other: &[u32; 64])
     ensures { (u : ℕ) → slice_index known.new u ≡ max (slice_index known.old u) (slice_index other.now u) }
 {
     for t in 0..64 {
-        if known[t] < other[t] {
-            known[t] = other[t];
-        }
+        // A store on every path lets the compiler join several numbers at once.
+        known[t] = known[t].max(other[t]);
     }
 }

@@ -15,7 +15,7 @@ use std::sync::ledger::Ledger;
 use write_history::AccessIndex;
 
 /// The greatest position that a clock knows, or 0.
-fn found_floor<L: Ledger>(
+pub fn found_floor<L: Ledger>(
     indexes: &[AccessIndex],
     threads: &[u32],
     clock: &Clock,

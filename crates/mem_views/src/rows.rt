@@ -35,7 +35,14 @@ pub struct Rows {
     pub joined: Clock,
     /// The SEQ_CST fences of each thread.
     pub fences: Vec<AccessIndex>,
+    // Each thread below 64 has room for that many fences, so that `reserve` seldom has to look at all of them.
+    fence_room: usize,
+    ghost fences_there: { 0 < fence_room → 64 ≤ length fences.items },
+    ghost fences_fit: { (t : ℕ) → t < 64 → fence_room ≤ (index_at fences.items t).spare },
 }
+
+// How many fences more than were asked for room is made for.
+const MORE_FENCES: usize = 64;
 
 /// A thread takes a clock, and then has its next event. Gives what it knows from then on.
 fn advance(threads: &mut ClockTable, thread: u32, gained: &Clock, number: u32) -> Clock
@@ -107,6 +114,9 @@ fn pend(pending: &mut ClockTable, thread: u32, taken: &Clock)
     ensures put { (t u : ℕ) → table_at pending.new t u ≡ (if t == thread then max (table_at pending.old t u) (slice_index taken.now u) else table_at pending.old t u) }
     ensures spare { pending.old.spare ≤ pending.new.spare + 1 }
 {
+    if taken.is_nothing() {
+        return;
+    }
     let mut clock = pending.of(thread);
     clock.join(taken);
     pending.put(thread, &clock);
@@ -183,6 +193,7 @@ impl Rows {
             before: ClockTable::new(alloc),
             joined: Clock::new(),
             fences: Vec::new(alloc),
+            fence_room: 0,
         }
     }
 
@@ -199,7 +210,11 @@ impl Rows {
         self.fenced.reserve(count)?;
         self.pending.reserve(count)?;
         self.before.reserve(count)?;
-        reserve_all(&mut self.fences, alloc, count)
+        if self.fence_room < count {
+            reserve_all(&mut self.fences, alloc, count + MORE_FENCES)?;
+            self.fence_room = count + MORE_FENCES;
+        }
+        Ok(())
     }
 
     /// Adds an event with its number, what it gained and what it took. Gives what it knows.
@@ -220,6 +235,7 @@ impl Rows {
         keep_joined(&mut self.before, event, number, &self.joined);
         join_fence(&mut self.joined, event, &clock);
         index_fence(&mut self.fences, event, number);
+        self.fence_room = self.fence_room.saturating_sub(1);
         clock
     }
 }

@@ -41,12 +41,20 @@ impl ClockTable {
         self.clocks.reserve(count)
     }
 
-    /// Keeps a clock under a number.
+    /// Keeps a clock under a number. One that knows nothing takes no memory.
     pub fn put(&mut self, number: u32, clock: &Clock)
         requires { 0 < self.old.spare }
         ensures put { (k u : ℕ) → table_at self.new k u ≡ cond (k == number) (slice_index clock.now u) (table_at self.old k u) }
         ensures spare { self.old.spare ≤ self.new.spare + 1 }
     {
+        if clock.is_nothing() {
+            self.clocks.remove(&number);
+            return;
+        }
+        if let Some(kept) = self.clocks.get_mut(&number) {
+            *kept = *clock;
+            return;
+        }
         let kept: Result<_, _> = self.clocks.insert(number, *clock);
         kept.unwrap();
     }
@@ -55,6 +63,9 @@ impl ClockTable {
     pub fn of(&self, number: u32) -> Clock
         ensures { (u : ℕ) → slice_index result u ≡ table_at self.now number u }
     {
+        if self.clocks.is_empty() {
+            return Clock::new();
+        }
         match self.clocks.get(&number) {
             Some(clock) => *clock,
             None => Clock::new(),

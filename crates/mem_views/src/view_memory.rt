@@ -26,7 +26,7 @@ ghost use Rattle.mem_axioms.proofs.Downward.{below};
 use crate::cell::CellViews;
 use crate::clock::Clock;
 use crate::event_facts::{cell_of, is_same_scalar, seq_cst};
-use crate::floors::{fences_before, greatest_of_kinds, last_fence};
+use crate::floors::{fences_before, found_floor, greatest_of_kinds, last_fence};
 use crate::gains::{gained_by, given_by, taken_from};
 use crate::kept_cells;
 use crate::places::Places;
@@ -251,6 +251,10 @@ impl ViewMemory {
         };
         let known = self.rows.threads.of(thread);
         let limit = self.limit(thread, &known, order, steps);
+        // Without a fence neither SEQ_CST accesses nor fences raise the floor.
+        if limit == 0 && !seq_cst(order) {
+            return found_floor(&kept.all, &self.made, &known, steps);
+        }
         let below = Clock::below(limit);
         let before = fences_before(&self.rows, order, limit);
         greatest_of_kinds(kept, &self.made, &known, &below, &before, steps)
@@ -421,11 +425,13 @@ impl ViewMemory {
         ensures at_most { result ≤ newest self.now.tape.events cell }
         ensures cost { (d : ℕ) → length self.now.tape.events < 2 ^ d → steps.new ≤ steps.old + (floor_bound self.now.tape.events d + looks_bound self.now.rule (initial_of (scalars_of self.now.objects.items)) self.now.tape.events thread cell order excluded) }
     {
-        let floor = self.floor(thread, cell, order, steps);
         let newest = self.newest(cell);
         match excluded {
             None => newest - n,
-            Some(scalar) => self.nth_differing(cell, floor, newest, scalar, n, steps),
+            Some(scalar) => {
+                let floor = self.floor(thread, cell, order, steps);
+                self.nth_differing(cell, floor, newest, scalar, n, steps)
+            }
         }
     }
 

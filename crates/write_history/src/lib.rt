@@ -3,6 +3,7 @@
 
 mod access_index;
 mod history;
+mod past;
 mod tape;
 
 pub use access_index::{AccessIndex, Entry};

@@ -1,33 +1,35 @@
 // The events of a run.
 ghost use Rattle.std.specs.Prelude.{◌≡◌, ◌+◌, ◌<◌, ◌≤◌, [], ◌∷◌, OnOk};
 
+use crate::past::Past;
 use mem_axioms::Event;
 use std::alloc::{AllocError, Global};
 use std::marker::Model;
 
 /// All events of a run. Contracts see the list of them, newest first, and `spare`, the number of further events that
-/// `push` takes. No call reads them.
+/// `push` takes. No call reads them, so they take no memory: only proofs see them, and `reserve` never refuses.
 #[derive(Drop)]
 pub struct Tape {
-    events: Vec<Event>,
+    events: Past<Event>,
+    spare: usize,
 }
 
 impl Model for Tape {
-    ghost use Rattle.std.specs.Prelude.{◌-◌, reverse, vec_len, vec_capacity};
     ghost use Rattle.write_history.specs.Rooms.{Events};
 
     ghost Value = { Events };
 
-    ghost view = { λ a. record { events = reverse a.events.items; spare = vec_capacity a.events - vec_len a.events } };
+    ghost view = { λ a. record { events = a.events.items; spare = a.spare } };
 }
 
 impl Tape {
     /// A tape with no events. It takes no memory yet.
-    pub fn new(alloc: Global) -> Self
+    pub fn new(_alloc: Global) -> Self
         ensures { result.events ≡ [] }
     {
         Tape {
-            events: Vec::new(alloc),
+            events: Past::new(),
+            spare: 0,
         }
     }
 
@@ -46,7 +48,8 @@ impl Tape {
         ensures room { OnOk result (count ≤ self.new.spare) }
         ensures spare { self.old.spare ≤ self.new.spare }
     {
-        self.events.reserve(count)
+        self.spare = self.spare.max(count);
+        Ok(())
     }
 
     /// Adds the next event, into room that is there.
@@ -55,6 +58,7 @@ impl Tape {
         ensures events { self.new.events ≡ event ∷ self.old.events }
         ensures spare { self.old.spare ≤ self.new.spare + 1 }
     {
-        self.events.push(event).unwrap();
+        self.events = self.events.and(&event);
+        self.spare -= 1;
     }
 }
