@@ -42,7 +42,10 @@ fn knows_constants_and_globals(rt: HostRuntime) -> Result<(), Fail> {
     let code = checked(rt.alloc())?;
     assert_eq!(rt; code.constants(), 1);
     assert_eq!(rt; code.constant_type(0), 0);
-    assert_eq!(rt; code.constant(0).as_slice(), [Scalar::Int { width: 64, bits: 7 }].as_slice());
+    assert_eq!(rt;
+        code.constant(0).as_slice(),
+        [Scalar::Int { width: 64, bits: 7 }].as_slice()
+    );
     assert_eq!(rt; code.globals(), 1);
     assert_eq!(rt; code.global_type(0), 1);
     assert_eq!(rt; code.classes().class(1), 1);
