@@ -45,9 +45,9 @@ fn listed(alloc: Global, made: &Made, many: u32) -> Result<Listing<Value>, Alloc
 
 /// The values of the constants in text order, where the items meet all demands on those that are no functions. Members may come later
 /// in the text: it takes passes over the constants that are not made yet, each in the opposite direction to the one before, and each
-/// makes at least one. So it takes two passes where all members come before what they are members of, and where all come behind. The
-/// memory is that of the scalars, of which a member's are there again in each constant that it is a member of. Past 2^32 - 1 constants
-/// the answer is want of memory.
+/// makes at least one. So it takes at most two passes where all members come before what they are members of, or all behind. The memory
+/// is that of the scalars, of which a member's are there again in each constant that it is a member of; while the answer is put
+/// together it is that twice. Past 2^32 - 1 constants the answer is want of memory.
 pub fn values(alloc: Global, tables: &Tables, items: &[Item]) -> Result<Listing<Value>, AllocError>
     requires globals { tables.now.globals ≡ globals_of items.now }
     requires tables { tables.now ≡ tables_of tables.now.globals items.now }

@@ -135,7 +135,7 @@ fn none_done(alloc: Global, many: u32) -> Result<Vec<bool>, AllocError>
 }
 
 /// The values of all constants. It takes as many passes over those that are not made yet as members stand in turns before and behind
-/// what they are members of: two where each stands before, or each behind.
+/// what they are members of: at most two where each stands before, or each behind.
 pub(crate) fn make_all(
     alloc: Global,
     classes: &Classes,
