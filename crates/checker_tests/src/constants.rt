@@ -1,18 +1,29 @@
 // Values of constants of texts.
+ghost use Rattle.std.specs.Prelude.{◌≡◌};
+ghost use Rattle.bundle_names.specs.Globals.{globals_of};
+
 use bundle_constants::values;
-use bundle_names::resolve;
+use bundle_names::{Globals, resolve};
 use bundle_tables::tables;
 use ir_text::read_bundle;
+use ir_tree::Item;
 use mu_values::{Scalar, Value};
 use std::alloc::Global;
 use std::test::Fail;
 use text_forms::Listing;
 
 #[tactic(auto, unfolding(bundle_tables::specs::Entries::tables_of))]
+fn values_in(alloc: Global, items: &[Item], globals: Globals) -> Result<Listing<Value>, Fail>
+    requires { globals ≡ globals_of items.now }
+{
+    let tables = tables(alloc, items, globals)?;
+    let made = values(alloc, &tables, items);
+    Ok(made?)
+}
+
 fn values_of(alloc: Global, text: &[u8]) -> Result<Listing<Value>, Fail> {
     let (bundle, globals) = resolve(alloc, read_bundle(alloc, text)?)?.into_parts();
-    let tables = tables(alloc, bundle.as_slice(), globals)?;
-    Ok(values(alloc, &tables, bundle.as_slice())?)
+    values_in(alloc, bundle.as_slice(), globals)
 }
 
 const SEVEN: Scalar = Scalar::Int { width: 8, bits: 7 };
