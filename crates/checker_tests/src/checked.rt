@@ -12,8 +12,8 @@ const TEXT: &[u8] =
     b".typedef @i64 = int<64> .typedef @i1 = int<1> .funcsig @s = (@i64) -> (@i64) .funcsig @m = () -> (@i64) .const @a <@i64> = 7 .global @g <@i1> .funcdecl @d <@m> .funcdef @f VERSION %v <@s> { %e(<@i64> %x): %y = ADD <@i64> %x @a RET (%y) %h() [%z]: RET (@a) } .funcdef @main VERSION %w <@m> { %e(): %r = CALL <@s> @f (@a) RET (%r) }";
 
 // A checked bundle is dropped at one place alone, since each place is proved: the tests lend it.
-fn checked(alloc: Global) -> Result<Checked, Fail> {
-    let bundle = read_bundle(alloc, TEXT)?;
+fn checked(alloc: Global, text: &[u8]) -> Result<Checked, Fail> {
+    let bundle = read_bundle(alloc, text)?;
     let names = resolve(alloc, bundle)?;
     Ok(check(alloc, names)?)
 }
@@ -82,7 +82,7 @@ fn writes_names(rt: &impl Abort, alloc: Global, code: &Checked) -> Result<(), Al
 
 #[test]
 fn answers_by_name_and_by_number(rt: HostRuntime) -> Result<(), Fail> {
-    let code = checked(rt.alloc())?;
+    let code = checked(rt.alloc(), TEXT)?;
     finds(&rt, &code);
     enters(&rt, &code);
     knows_constants(&rt, &code);
