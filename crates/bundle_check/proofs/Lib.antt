@@ -1,1 +1,2 @@
+pub mod Globals
 pub mod Judged

@@ -225,9 +225,10 @@ impl Checked {
         &self.constants.as_slice()[n as usize]
     }
 
-    /// How many globals there are.
+    /// How many globals there are. `global_type` takes the numbers below it, and no others.
     pub fn globals(&self) -> usize
-        ensures { result ≡ length (bundle_tables self.now).global_cells }
+        ensures cells { result ≡ length (bundle_tables self.now).global_cells }
+        ensures types { result ≡ length (global_classes (bundle_tables self.now) self.now) }
     {
         self.tables.global_cells.len()
     }

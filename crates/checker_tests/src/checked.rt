@@ -43,6 +43,7 @@ fn knows_constants(rt: &impl Abort, code: &Checked) {
 
 fn knows_globals(rt: &impl Abort, code: &Checked) {
     assert_eq!(rt; code.globals(), 1);
+    assert_eq!(rt; code.global_type(0), 1);
 }
 
 fn knows_functions(rt: &impl Abort, code: &Checked) {
