@@ -2,6 +2,10 @@
 use Rattle.std.specs.Prelude.{ℕ, ◌<◌, if◌then◌else◌, nat_lt, nat_le, All, List, [], ◌∷◌, Option, Some, None}
 use Rattle.write_history.specs.declared.access_index.Entry.{Entry}
 
+-- what stands for an entry past the end
+abbrev pub no_entry : Entry
+no_entry = record { event = 0; position = 0 }
+
 -- Each access has a number above those of all older ones.
 abbrev pub Rising : List Entry → Type 0
 Rising [] = Unit

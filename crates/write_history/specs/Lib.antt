@@ -2,4 +2,3 @@
 pub mod Rooms
 pub mod Indexes
 pub mod IndexExamples
-pub mod Cuts

@@ -1,7 +1,7 @@
 // Accesses that are found by their numbers.
-ghost use Rattle.std.specs.Prelude.{◌≡◌, ℕ, ◌+◌, ◌<◌, ◌≤◌, ◌^◌, [], ◌∷◌, length, slice_index_or, reverse, All, OnOk};
-ghost use Rattle.write_history.specs.Indexes.{last_position, first_after, Rising};
-ghost use Rattle.write_history.specs.Cuts.{Cut, no_entry};
+ghost use Rattle.std.specs.Prelude.{◌≡◌, ℕ, ◌+◌, ◌-◌, ◌<◌, ◌≤◌, ◌^◌, [], ◌∷◌, length, slice_index_or, reverse, All, OnOk};
+ghost use Rattle.std.specs.Option.{option_map};
+ghost use Rattle.write_history.specs.Indexes.{last_position, first_after, no_entry, Rising};
 
 use mu_base::Steps;
 use std::alloc::{AllocError, Global};
@@ -79,6 +79,8 @@ impl AccessIndex {
 
     /// The position of the last access whose number is at most `upto`; None exactly where there is none.
     ///
+    /// It looks at the newest access first, and only then searches the others, by halves.
+    ///
     /// It counts at least one step where the index is not empty, and at most d + 1 for every d with fewer than 2^d
     /// accesses: one more than the number of accesses has binary digits.
     pub fn floor<L: Ledger>(&self, upto: u32, steps: &mut Steps<L>) -> Option<u32>
@@ -86,45 +88,87 @@ impl AccessIndex {
         ensures some_cost { 0 < length self.now.accesses → steps.old < steps.new }
         ensures cost { (d : ℕ) → length self.now.accesses < 2 ^ d → steps.new ≤ steps.old + (d + 1) }
     {
-        floor_in(&self.entries, upto, steps)
+        neighbours_of(&self.entries, upto, steps)
+            .before
+            .map(|entry| entry.position)
     }
 
     /// The number of the first access whose number is greater than `upto`; None exactly where there is none.
     ///
-    /// It counts as many steps as `floor`.
+    /// It searches as `floor` does. It counts as many steps as `floor`.
     pub fn after<L: Ledger>(&self, upto: u32, steps: &mut Steps<L>) -> Option<u32>
         ensures found { result ≡ first_after upto self.now.accesses }
         ensures some_cost { 0 < length self.now.accesses → steps.old < steps.new }
         ensures cost { (d : ℕ) → length self.now.accesses < 2 ^ d → steps.new ≤ steps.old + (d + 1) }
     {
-        after_in(&self.entries, upto, steps)
+        neighbours_of(&self.entries, upto, steps)
+            .after
+            .map(|entry| entry.event)
     }
 }
 
-fn floor_in<L: Ledger>(entries: &[Entry], upto: u32, steps: &mut Steps<L>) -> Option<u32>
-    requires { Rising (reverse entries.now) }
-    ensures found { result ≡ last_position upto (reverse entries.now) }
-    ensures some_cost { 0 < length entries.now → steps.old < steps.new }
-    ensures cost { (d : ℕ) → length entries.now < 2 ^ d → steps.new ≤ steps.old + (d + 1) }
-{
-    let count = count_upto(entries, upto, steps);
-    if count == 0 {
-        return None;
-    }
-    Some(look(entries, count - 1, steps).position)
+/// The entries on both sides of a number: the last up to it, and the first above it.
+#[derive(Clone, Copy)]
+struct Neighbours {
+    before: Option<Entry>,
+    after: Option<Entry>,
 }
 
-fn after_in<L: Ledger>(entries: &[Entry], upto: u32, steps: &mut Steps<L>) -> Option<u32>
+/// The neighbours of a number. The newest entry answers most look-ups, so it is looked at first.
+fn neighbours_of<L: Ledger>(entries: &[Entry], upto: u32, steps: &mut Steps<L>) -> Neighbours
     requires { Rising (reverse entries.now) }
-    ensures found { result ≡ first_after upto (reverse entries.now) }
+    ensures before { option_map (λ entry. entry.position) result.before ≡ last_position upto (reverse entries.now) }
+    ensures after { option_map (λ entry. entry.event) result.after ≡ first_after upto (reverse entries.now) }
     ensures some_cost { 0 < length entries.now → steps.old < steps.new }
     ensures cost { (d : ℕ) → length entries.now < 2 ^ d → steps.new ≤ steps.old + (d + 1) }
 {
-    let count = count_upto(entries, upto, steps);
-    if count == entries.len() {
-        return None;
+    if entries.is_empty() {
+        return Neighbours {
+            before: None,
+            after: None,
+        };
     }
-    Some(look(entries, count, steps).event)
+    let newest = look(entries, entries.len() - 1, steps);
+    if newest.event <= upto {
+        return Neighbours {
+            before: Some(newest),
+            after: None,
+        };
+    }
+    halve(entries, upto, newest, steps)
+}
+
+/// The neighbours of a number below that of the newest entry, by halves. The entries seen last on both sides are kept,
+/// so that none is looked at twice.
+fn halve<L: Ledger>(entries: &[Entry], upto: u32, newest: Entry, steps: &mut Steps<L>) -> Neighbours
+    requires rising { Rising (reverse entries.now) }
+    requires some { 0 < length entries.now }
+    requires newest { newest ≡ slice_index_or entries.now (length entries.now - 1) no_entry }
+    requires above { upto < newest.event }
+    ensures before { option_map (λ entry. entry.position) result.before ≡ last_position upto (reverse entries.now) }
+    ensures after { option_map (λ entry. entry.event) result.after ≡ first_after upto (reverse entries.now) }
+    ensures counted { steps.old ≤ steps.new }
+    ensures cost { (d : ℕ) → length entries.now ≤ 2 ^ d → steps.new ≤ steps.old + d }
+{
+    let mut before = None;
+    let mut after = newest;
+    let mut low = 0;
+    let mut high = entries.len() - 1;
+    while low < high {
+        let middle = low + (high - low) / 2;
+        let entry = look(entries, middle, steps);
+        if entry.event <= upto {
+            before = Some(entry);
+            low = middle + 1;
+        } else {
+            after = entry;
+            high = middle;
+        }
+    }
+    Neighbours {
+        before,
+        after: Some(after),
+    }
 }
 
 /// Looks at one entry. Nothing else reads the entries.
@@ -135,24 +179,4 @@ fn look<L: Ledger>(entries: &[Entry], at: usize, steps: &mut Steps<L>) -> Entry
 {
     steps.tick();
     entries[at]
-}
-
-/// How many accesses have a number of at most `upto`, by halves.
-fn count_upto<L: Ledger>(entries: &[Entry], upto: u32, steps: &mut Steps<L>) -> usize
-    requires { Rising (reverse entries.now) }
-    ensures cut { Cut upto result entries.now }
-    ensures some_cost { 0 < length entries.now → steps.old < steps.new }
-    ensures cost { (d : ℕ) → length entries.now < 2 ^ d → steps.new ≤ steps.old + d }
-{
-    let mut low = 0;
-    let mut high = entries.len();
-    while low < high {
-        let middle = low + (high - low) / 2;
-        if look(entries, middle, steps).event <= upto {
-            low = middle + 1;
-        } else {
-            high = middle;
-        }
-    }
-    low
 }
