@@ -3,6 +3,7 @@ ghost use Rattle.std.specs.Prelude.{◌≡◌, ℕ, ◌+◌, ◌-◌, ◌<◌, �
 ghost use Rattle.std.specs.Option.{option_map};
 ghost use Rattle.write_history.specs.Indexes.{last_position, first_after, no_entry, Rising};
 
+use crate::room::make_room;
 use mu_base::Steps;
 use std::alloc::{AllocError, Global};
 use std::marker::Model;
@@ -64,7 +65,7 @@ impl AccessIndex {
         ensures room { OnOk result (count ≤ self.new.spare) }
         ensures spare { self.old.spare ≤ self.new.spare }
     {
-        self.entries.reserve(count)
+        make_room(&mut self.entries, count)
     }
 
     /// Adds an access whose number is above all others, into room that is there.

@@ -1,6 +1,7 @@
 // The values of one cell.
 ghost use Rattle.std.specs.Prelude.{◌≡◌, ◌+◌, ◌<◌, ◌≤◌, [], ◌∷◌, ◌++◌, length, slice_get, Some, OnOk};
 
+use crate::room::make_room;
 use mu_base::Steps;
 use mu_values::Scalar;
 use std::alloc::{AllocError, Global};
@@ -50,7 +51,7 @@ impl History {
         ensures room { OnOk result (count ≤ self.new.spare) }
         ensures spare { self.old.spare ≤ self.new.spare }
     {
-        self.values.reserve(count)
+        make_room(&mut self.values, count)
     }
 
     /// Adds the value of the next position, into room that is there. The first is the initial scalar, at position 0.

@@ -4,6 +4,7 @@
 mod access_index;
 mod history;
 mod past;
+mod room;
 mod tape;
 
 pub use access_index::{AccessIndex, Entry};
