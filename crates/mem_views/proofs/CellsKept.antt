@@ -1,13 +1,13 @@
 -- What is kept of all cells with one more event, one more place, or more room.
-use Rattle.std.proofs.Common.{◌≡◌, ℕ, zero, suc, ◌+◌, ◌<◌, true, false, cond, List, [], ◌∷◌, ◌++◌, length, Some, sym, ap, ◌∙◌, inl, inr, ◌⊎◌, slice_index, arith}
-use Rattle.std.specs.Prelude.{slice_get, slice_index_or, slice_set}
+use Rattle.std.proofs.Common.{◌≡◌, ℕ, zero, suc, ◌+◌, ◌<◌, true, false, cond, List, [], ◌∷◌, ◌++◌, length, Some, sym, ap, ◌∙◌, inl, inr, ◌⊎◌, arith}
+use Rattle.std.specs.Prelude.{slice_get, slice_index_or, slice_set, Option}
 use Rattle.std.proofs.lemmas.Bool.{false≢true, cases_eq, cases_Bool}
 use Rattle.std.proofs.lemmas.List.{get_or_default, get_or_append_left, get_or_push, get_or-set_same, get_or-set_other, length-set}
 use Rattle.mu_values.specs.declared.scalars.Scalar.{Scalar}
 use Rattle.typed_heap.specs.declared.cells.CellId.{CellId}
 use Rattle.typed_heap.specs.SameCell.{same_cell}
 use Rattle.typed_heap.proofs.Equal.{same_cell-true}
-use Rattle.mem_axioms.specs.Events.{accesses}
+use Rattle.mem_axioms.specs.Events.{accesses, is_modification, position_of}
 use Rattle.mem_axioms.specs.Logs.{newest}
 use Rattle.mem_axioms.specs.declared.types.Event.{Event}
 use Rattle.mem_axioms.specs.declared.types.Rule.{Rule}
@@ -15,13 +15,16 @@ use Rattle.mem_axioms.specs.declared.types.Kind.{Kind}
 use Rattle.mem_axioms.specs.declared.types.Kind.TheVariants.{Access, Fence, NewStack, NewThread, Leave, Enter, Wake, Woken}
 use Rattle.mem_axioms.proofs.Numbers.{event-cases}
 use Rattle.clock_laws.specs.Clocks.{views, gives}
+use Rattle.mem_views.specs.Knowing.{known_by}
+use Rattle.mem_views.specs.Spans.{Spans}
+use Rattle.mem_views.specs.KeptClocks.{Grown}
 use Rattle.mem_views.specs.Placing.{place_in, Owned}
 use Rattle.mem_views.specs.CellAdded.{CellAdded, CellRoom, SameCell, IsFresh}
 use Rattle.mem_views.specs.CellRooms.{CellRoomAt}
 use Rattle.mem_views.specs.AddedAt.{AddedAt, CanAdd}
-use Rattle.mem_views.specs.Holding.{CellHolds, CellsHold, IsUntouched}
+use Rattle.mem_views.specs.Holding.{CellHolds, ClocksHold, CellsHold, IsUntouched}
 use Rattle.mem_views.specs.declared.cell.CellViews.{CellViews}
-use Rattle.mem_views.proofs.CellKept.{cell-more, cell-same, cell-kept, cell-fresh, cell-below}
+use Rattle.mem_views.proofs.CellKept.{cell-more, cell-same, cell-kept, cell-fresh, cell-below, clocks-more, clocks-same, clocks-grown, clocks-kept, clocks-fresh}
 use Rattle.mem_views.proofs.ValuesKept.{values-length}
 
 one-kind : (t : ℕ) (k : Kind) (c cell : CellId) → accesses c (record { thread = t; kind = k }) ≡ true → accesses cell (record { thread = t; kind = k }) ≡ true → c ≡ cell
@@ -58,10 +61,11 @@ module _ (rule : Rule) (log : List Event) (e : Event) (numbers : List (List ℕ)
     | inr p ↦ u i ei p.1
   ]
 
-  pub cells-more : (old new : List CellViews) (cell : CellId) (place : ℕ) (given : List ℕ) → AddedAt rule old new place (length log) e given → place_in numbers cell ≡ suc place → accesses cell e ≡ true
-      → ((u : ℕ) → slice_index given u ≡ gives (views rule log) (length log) e u) → CellsHold rule log numbers old → CellsHold rule (e ∷ log) numbers new
-  cells-more old new cell place given a at s g h = record {
+  pub cells-more : (before after : Spans) (old new : List CellViews) (cell : CellId) (place : ℕ) (given : Option (List ℕ)) → AddedAt rule before after old new place (length log) e given → place_in numbers cell ≡ suc place → accesses cell e ≡ true
+      → ((u : ℕ) → known_by given u ≡ gives (views rule log) (length log) e u) → CellsHold rule log before numbers old → CellsHold rule (e ∷ log) after numbers new
+  cells-more before after old new cell place given a at s g h = record {
     touched = λ c p d q l. go c p d q (let n = a.size in omega (arith, n, l)) (cases_eq p place);
+    clocked = λ c p d q l. known c p d q (let n = a.size in omega (arith, n, l)) (cases_eq p place);
     untouched = λ c z. others-untouched c (stranger c z (cases_Bool (accesses c e))) (h.untouched c z);
   }
     where
@@ -73,47 +77,63 @@ module _ (rule : Rule) (log : List Event) (e : Event) (numbers : List (List ℕ)
       other c p q n (inr f) = f
       other c p q n (inl t) = let z = ap (λ (x : CellId). place_in numbers x) (one-access e c cell t s) in absurd (n (omega (arith, z, q, at)))
 
-      go : (c : CellId) (p : ℕ) (d : CellViews) → place_in numbers c ≡ suc p → p < length old → (p ≡ place) ⊎ (p ≡ place → ⊥) → CellHolds rule (e ∷ log) c (slice_index_or new p d)
+      go : (c : CellId) (p : ℕ) (d : CellViews) → place_in numbers c ≡ suc p → p < length old → (p ≡ place) ⊎ (p ≡ place → ⊥) → CellHolds (e ∷ log) c (slice_index_or new p d)
       go c p d q l (inl r) =
           let z : place_in numbers c ≡ suc place = q ∙ ap suc r in
           let w : c ≡ cell = one-owner numbers owners c cell place o z at in
-          let x : CellHolds rule log cell (slice_index_or old place d) = h.touched cell place d at (omega (arith, l, r)) in
-          rw (w, r) (cell-more rule log cell e (slice_index_or old place d) (slice_index_or new place d) given (a.here d) x s g)
+          let x : CellHolds log cell (slice_index_or old place d) = h.touched cell place d at (omega (arith, l, r)) in
+          rw (w, r) (cell-more rule log cell e before after (slice_index_or old place d) (slice_index_or new place d) given (a.here d) x s)
       go c p d q l (inr n) = rw (a.others p d n) (cell-same rule log c e (slice_index_or old p d) (h.touched c p d q l) (other c p q n (cases_Bool (accesses c e))))
 
-  pub cells-same : (kept : List CellViews) → ((c : CellId) → accesses c e ≡ false) → CellsHold rule log numbers kept → CellsHold rule (e ∷ log) numbers kept
-  cells-same kept s h = record {
+      known : (c : CellId) (p : ℕ) (d : CellViews) → place_in numbers c ≡ suc p → p < length old → (p ≡ place) ⊎ (p ≡ place → ⊥) → ClocksHold rule (e ∷ log) after c (slice_index_or new p d)
+      known c p d q l (inl r) =
+          let z : place_in numbers c ≡ suc place = q ∙ ap suc r in
+          let w : c ≡ cell = one-owner numbers owners c cell place o z at in
+          let x : ClocksHold rule log before cell (slice_index_or old place d) = h.clocked cell place d at (omega (arith, l, r)) in
+          rw (w, r) (clocks-more rule log cell e before after (slice_index_or old place d) (slice_index_or new place d) given (a.here d) x s g)
+      known c p d q l (inr n) =
+          rw (a.others p d n)
+          (clocks-same rule log c e after (slice_index_or old p d) (clocks-grown rule log c before after (slice_index_or old p d) (a.here d).grown (h.clocked c p d q l)) (other c p q n (cases_Bool (accesses c e))))
+
+  pub cells-same : (clocks : Spans) (kept : List CellViews) → ((c : CellId) → accesses c e ≡ false) → CellsHold rule log clocks numbers kept → CellsHold rule (e ∷ log) clocks numbers kept
+  cells-same clocks kept s h = record {
     touched = λ c p d q l. cell-same rule log c e (slice_index_or kept p d) (h.touched c p d q l) (s c);
+    clocked = λ c p d q l. clocks-same rule log c e clocks (slice_index_or kept p d) (h.clocked c p d q l) (s c);
     untouched = λ c z. others-untouched c (s c) (h.untouched c z);
   }
 
 -- one access takes one from the room of its cell
-pub room-less : (rule : Rule) (old new : List CellViews) (place n : ℕ) (e : Event) (given : List ℕ) (numbers : List (List ℕ)) (cell : CellId) (count : ℕ) → AddedAt rule old new place n e given → place_in numbers cell ≡ suc place
+pub room-less : (rule : Rule) (before after : Spans) (old new : List CellViews) (place n : ℕ) (e : Event) (given : Option (List ℕ)) (numbers : List (List ℕ)) (cell : CellId) (count : ℕ) → AddedAt rule before after old new place n e given → place_in numbers cell ≡ suc place
     → CellRoomAt (count + 1) e.thread numbers old cell → CellRoomAt count e.thread numbers new cell
-room-less rule old new place n e given numbers cell count a at r = record {
+room-less rule before after old new place n e given numbers cell count a at r = record {
   placed = r.placed;
   room = λ p d q l. (let z : p ≡ place = omega (arith, q, at) in let s = a.size in rw z (a.room count d (r.room place d at (omega (arith, l, z, s)))));
 }
 
 -- what the memory holds lets an event be added
-pub can-add : (rule : Rule) (log : List Event) (e : Event) (numbers : List (List ℕ)) (owners : List CellId) (kept : List CellViews) (cell : CellId) (count : ℕ) → Owned numbers owners → length owners ≡ length kept
-    → CellsHold rule log numbers kept → newest log cell + 1 < 4294967295 → CellRoomAt (count + 1) e.thread numbers kept cell → CanAdd (length log) e numbers kept cell
-can-add rule log e numbers owners kept cell count o s h l r = record {
+pub can-add : (rule : Rule) (log : List Event) (e : Event) (clocks : Spans) (numbers : List (List ℕ)) (owners : List CellId) (kept : List CellViews) (cell : CellId) (count : ℕ) → Owned numbers owners → length owners ≡ length kept
+    → CellsHold rule log clocks numbers kept → newest log cell + 1 < 4294967295 → (is_modification e ≡ true → position_of e ≡ suc (newest log cell)) → CellRoomAt (count + 1) e.thread numbers kept cell → CanAdd (length log) e clocks numbers kept cell
+can-add rule log e clocks numbers owners kept cell count o s h l x r = record {
   placed = r.placed;
   room = λ p d q. one (slice_index_or kept p d) (r.room p d q (place-below numbers owners (length kept) cell p o s q));
   below = λ p d q. cell-below rule log cell (slice_index_or kept p d) e.thread (holds p d q);
+  next = λ p d q m. x m ∙ sym (known p d q).positions;
+  named = λ p d q. (known p d q).named;
   few = λ p d q. (let v = ap (λ (xs : List Scalar). length xs) ((holds p d q).values) in let n = values-length log cell in omega (arith, v, n, l));
   there = λ p q. place-below numbers owners (length kept) cell p o s q;
 }
   where
-    holds : (p : ℕ) (d : CellViews) → place_in numbers cell ≡ suc p → CellHolds rule log cell (slice_index_or kept p d)
+    holds : (p : ℕ) (d : CellViews) → place_in numbers cell ≡ suc p → CellHolds log cell (slice_index_or kept p d)
     holds p d q = h.touched cell p d q (place-below numbers owners (length kept) cell p o s q)
+
+    known : (p : ℕ) (d : CellViews) → place_in numbers cell ≡ suc p → ClocksHold rule log clocks cell (slice_index_or kept p d)
+    known p d q = h.clocked cell p d q (place-below numbers owners (length kept) cell p o s q)
 
     one : (x : CellViews) → CellRoom (count + 1) e.thread x → CellRoom 1 e.thread x
     one x c = record {
       history = (let q = c.history in omega arith);
       released = (let q = c.released in omega arith);
-      sequence = (let q = c.sequence in omega arith);
+      sequence = c.sequence;
       all = record { there = c.all.there; room = (let q = c.all.room in omega arith) };
       modifications = record { there = c.modifications.there; room = (let q = c.modifications.room in omega arith) };
       not_atomic = record { there = c.not_atomic.there; room = (let q = c.not_atomic.room in omega arith) };
@@ -129,7 +149,7 @@ cell-room-less count t numbers kept cell r = record { placed = r.placed; room = 
     less x c = record {
       history = (let q = c.history in omega arith);
       released = (let q = c.released in omega arith);
-      sequence = (let q = c.sequence in omega arith);
+      sequence = c.sequence;
       all = record { there = c.all.there; room = (let q = c.all.room in omega arith) };
       modifications = record { there = c.modifications.there; room = (let q = c.modifications.room in omega arith) };
       not_atomic = record { there = c.not_atomic.there; room = (let q = c.not_atomic.room in omega arith) };
@@ -138,51 +158,62 @@ cell-room-less count t numbers kept cell r = record { placed = r.placed; room = 
     }
 
 -- a new place
-pub cells-touched : (rule : Rule) (log : List Event) (numbers numbers' : List (List ℕ)) (kept : List CellViews) (fresh : CellViews) (cell : CellId) → place_in numbers cell ≡ 0
+pub cells-touched : (rule : Rule) (log : List Event) (clocks : Spans) (numbers numbers' : List (List ℕ)) (kept : List CellViews) (fresh : CellViews) (cell : CellId) → place_in numbers cell ≡ 0
     → ((c : CellId) → place_in numbers' c ≡ cond (same_cell c cell) (length kept + 1) (place_in numbers c)) → ((c : CellId) (p : ℕ) → place_in numbers c ≡ suc p → p < length kept) → IsFresh fresh
-    → CellsHold rule log numbers kept → CellsHold rule log numbers' (kept ++ fresh ∷ [])
-cells-touched rule log numbers numbers' kept fresh cell z m b f h = record {
+    → CellsHold rule log clocks numbers kept → CellsHold rule log clocks numbers' (kept ++ fresh ∷ [])
+cells-touched rule log clocks numbers numbers' kept fresh cell z m b f h = record {
   touched = λ c p d q l. go c p d (cases_Bool (same_cell c cell)) (sym (m c) ∙ q);
+  clocked = λ c p d q l. known c p d (cases_Bool (same_cell c cell)) (sym (m c) ∙ q);
   untouched = λ c q. none c (cases_Bool (same_cell c cell)) (sym (m c) ∙ q);
 }
   where
-    go : (c : CellId) (p : ℕ) (d : CellViews) → (same_cell c cell ≡ true) ⊎ (same_cell c cell ≡ false) → cond (same_cell c cell) (length kept + 1) (place_in numbers c) ≡ suc p → CellHolds rule log c (slice_index_or (kept ++ fresh ∷ []) p d)
+    go : (c : CellId) (p : ℕ) (d : CellViews) → (same_cell c cell ≡ true) ⊎ (same_cell c cell ≡ false) → cond (same_cell c cell) (length kept + 1) (place_in numbers c) ≡ suc p → CellHolds log c (slice_index_or (kept ++ fresh ∷ []) p d)
     go c p d (inl t) q =
         let r : length kept + 1 ≡ suc p = rw t at q in
-        rw (same_cell-true c cell t, get_or_push kept fresh d p (omega (arith, r))) (cell-fresh rule log cell fresh f (h.untouched cell z))
+        rw (same_cell-true c cell t, get_or_push kept fresh d p (omega (arith, r))) (cell-fresh log cell fresh f (h.untouched cell z))
     go c p d (inr n) q =
         let r : place_in numbers c ≡ suc p = rw n at q in
         rw (get_or_append_left kept (fresh ∷ []) d p (b c p r)) (h.touched c p d r (b c p r))
+
+    known : (c : CellId) (p : ℕ) (d : CellViews) → (same_cell c cell ≡ true) ⊎ (same_cell c cell ≡ false) → cond (same_cell c cell) (length kept + 1) (place_in numbers c) ≡ suc p → ClocksHold rule log clocks c (slice_index_or (kept ++ fresh ∷ []) p d)
+    known c p d (inl t) q =
+        let r : length kept + 1 ≡ suc p = rw t at q in
+        rw (same_cell-true c cell t, get_or_push kept fresh d p (omega (arith, r))) (clocks-fresh rule log clocks cell fresh f (h.untouched cell z))
+    known c p d (inr n) q =
+        let r : place_in numbers c ≡ suc p = rw n at q in
+        rw (get_or_append_left kept (fresh ∷ []) d p (b c p r)) (h.clocked c p d r (b c p r))
 
     none : (c : CellId) → (same_cell c cell ≡ true) ⊎ (same_cell c cell ≡ false) → cond (same_cell c cell) (length kept + 1) (place_in numbers c) ≡ 0 → IsUntouched log c
     none c (inl t) q = let r : length kept + 1 ≡ 0 = rw t at q in absurd (omega (arith, r))
     none c (inr n) q = let r : place_in numbers c ≡ 0 = rw n at q in h.untouched c r
 
 -- places stand, though their table grew
-pub cells-moved : (rule : Rule) (log : List Event) (numbers numbers' : List (List ℕ)) (kept : List CellViews) → ((c : CellId) → place_in numbers' c ≡ place_in numbers c) → CellsHold rule log numbers kept → CellsHold rule log numbers' kept
-cells-moved rule log numbers numbers' kept m h = record {
+pub cells-moved : (rule : Rule) (log : List Event) (clocks : Spans) (numbers numbers' : List (List ℕ)) (kept : List CellViews) → ((c : CellId) → place_in numbers' c ≡ place_in numbers c) → CellsHold rule log clocks numbers kept → CellsHold rule log clocks numbers' kept
+cells-moved rule log clocks numbers numbers' kept m h = record {
   touched = λ c p d q l. h.touched c p d (sym (m c) ∙ q) l;
+  clocked = λ c p d q l. h.clocked c p d (sym (m c) ∙ q) l;
   untouched = λ c q. h.untouched c (sym (m c) ∙ q);
 }
 
--- more room at a place
-pub cells-reserved : (rule : Rule) (log : List Event) (numbers : List (List ℕ)) (old new : List CellViews) → length new ≡ length old → ((p : ℕ) (d : CellViews) → p < length old → SameCell (slice_index_or old p d) (slice_index_or new p d))
-    → CellsHold rule log numbers old → CellsHold rule log numbers new
-cells-reserved rule log numbers old new l s h = record {
-  touched = λ c p d q k. (let b : p < length old = omega (arith, l, k) in cell-kept rule log c (slice_index_or old p d) (slice_index_or new p d) (s p d b) (h.touched c p d q b));
+-- there is room for more clocks, or there are more
+pub cells-grown : (rule : Rule) (log : List Event) (before after : Spans) (numbers : List (List ℕ)) (kept : List CellViews) → Grown before after → CellsHold rule log before numbers kept → CellsHold rule log after numbers kept
+cells-grown rule log before after numbers kept g h = record {
+  touched = h.touched;
+  clocked = λ c p d q l. clocks-grown rule log c before after (slice_index_or kept p d) g (h.clocked c p d q l);
   untouched = h.untouched;
 }
 
-pub cells-none : (rule : Rule) (numbers : List (List ℕ)) → ((c : CellId) → place_in numbers c ≡ 0) → CellsHold rule [] numbers []
-cells-none rule numbers z = record {
+pub cells-none : (rule : Rule) (clocks : Spans) (numbers : List (List ℕ)) → ((c : CellId) → place_in numbers c ≡ 0) → CellsHold rule [] clocks numbers []
+cells-none rule clocks numbers z = record {
   touched = λ c p d q l. absurd (omega (arith, l));
+  clocked = λ c p d q l. absurd (omega (arith, l));
   untouched = λ c q i e at. absurd (cc);
 }
 
 -- what one access does, of a list with what stands at the place replaced
-pub added-at : (rule : Rule) (old : List CellViews) (place n : ℕ) (e : Event) (given : List ℕ) (before after : CellViews) → place < length old → before ≡ slice_index_or old place before → CellAdded rule before after n e given
-    → ((count : ℕ) → CellRoom (count + 1) e.thread before → CellRoom count e.thread after) → AddedAt rule old (slice_set old place after) place n e given
-added-at rule old place n e given before after l b a r = record {
+pub added-at : (rule : Rule) (clocks more : Spans) (old : List CellViews) (place n : ℕ) (e : Event) (given : Option (List ℕ)) (before after : CellViews) → place < length old → before ≡ slice_index_or old place before
+    → CellAdded rule clocks more before after n e given → ((count : ℕ) → CellRoom (count + 1) e.thread before → CellRoom count e.thread after) → AddedAt rule clocks more old (slice_set old place after) place n e given
+added-at rule clocks more old place n e given before after l b a r = record {
   size = length-set old place after;
   here = λ d. rw (get_or-set_same old place after d l, was d) a;
   others = λ p d q. get_or-set_other old place p after d q;
@@ -193,22 +224,29 @@ added-at rule old place n e given before after l b a r = record {
     was d = get_or_default old place d before l ∙ sym b
 
 -- an access whose cell has a place
-pub cells-added : (rule : Rule) (log : List Event) (e : Event) (numbers : List (List ℕ)) (owners : List CellId) → Owned numbers owners → (old new : List CellViews) (cell : CellId) (place n : ℕ) (given : List ℕ) → n ≡ length log
-    → AddedAt rule old new place n e given → place_in numbers cell ≡ suc place → accesses cell e ≡ true
-    → ((u : ℕ) → slice_index given u ≡ gives (views rule log) n e u) → CellsHold rule log numbers old → CellsHold rule (e ∷ log) numbers new
-cells-added rule log e numbers owners o old new cell place n given q a at s g h =
-    cells-more rule log e numbers owners o old new cell place given (rw q at a) at s (λ u. g u ∙ ap (λ (i : ℕ). gives (views rule log) i e u) q) h
+pub cells-added : (rule : Rule) (log : List Event) (e : Event) (numbers : List (List ℕ)) (owners : List CellId) → Owned numbers owners → (before after : Spans) (old new : List CellViews) (cell : CellId) (place n : ℕ) (given : Option (List ℕ)) → n ≡ length log
+    → AddedAt rule before after old new place n e given → place_in numbers cell ≡ suc place → accesses cell e ≡ true
+    → ((u : ℕ) → known_by given u ≡ gives (views rule log) n e u) → CellsHold rule log before numbers old → CellsHold rule (e ∷ log) after numbers new
+cells-added rule log e numbers owners o before after old new cell place n given q a at s g h =
+    cells-more rule log e numbers owners o before after old new cell place given (rw q at a) at s (λ u. g u ∙ ap (λ (i : ℕ). gives (views rule log) i e u) q) h
 
 -- more room for what stands at the place
-pub cells-set : (rule : Rule) (log : List Event) (numbers : List (List ℕ)) (kept : List CellViews) (place : ℕ) (before after : CellViews) → place < length kept → before ≡ slice_index_or kept place before → SameCell before after
-    → CellsHold rule log numbers kept → CellsHold rule log numbers (slice_set kept place after)
-cells-set rule log numbers kept place before after l b s h = record {
+pub cells-set : (rule : Rule) (log : List Event) (clocks : Spans) (numbers : List (List ℕ)) (kept : List CellViews) (place : ℕ) (before after : CellViews) → place < length kept → before ≡ slice_index_or kept place before → SameCell before after
+    → CellsHold rule log clocks numbers kept → CellsHold rule log clocks numbers (slice_set kept place after)
+cells-set rule log clocks numbers kept place before after l b s h = record {
   touched = λ c p d q k. (let n = length-set kept place after in go c p d q (omega (arith, n, k)) (cases_eq p place));
+  clocked = λ c p d q k. (let n = length-set kept place after in known c p d q (omega (arith, n, k)) (cases_eq p place));
   untouched = h.untouched;
 }
   where
-    go : (c : CellId) (p : ℕ) (d : CellViews) → place_in numbers c ≡ suc p → p < length kept → (p ≡ place) ⊎ (p ≡ place → ⊥) → CellHolds rule log c (slice_index_or (slice_set kept place after) p d)
+    go : (c : CellId) (p : ℕ) (d : CellViews) → place_in numbers c ≡ suc p → p < length kept → (p ≡ place) ⊎ (p ≡ place → ⊥) → CellHolds log c (slice_index_or (slice_set kept place after) p d)
     go c p d q k (inl r) =
-        let x : CellHolds rule log c (slice_index_or kept place before) = rw r at (h.touched c p before q k) in
+        let x : CellHolds log c (slice_index_or kept place before) = rw r at (h.touched c p before q k) in
         rw (r, get_or-set_same kept place after d l) (cell-kept rule log c before after s (rw (sym b) at x))
     go c p d q k (inr n) = rw (get_or-set_other kept place p after d n) (h.touched c p d q k)
+
+    known : (c : CellId) (p : ℕ) (d : CellViews) → place_in numbers c ≡ suc p → p < length kept → (p ≡ place) ⊎ (p ≡ place → ⊥) → ClocksHold rule log clocks c (slice_index_or (slice_set kept place after) p d)
+    known c p d q k (inl r) =
+        let x : ClocksHold rule log clocks c (slice_index_or kept place before) = rw r at (h.clocked c p before q k) in
+        rw (r, get_or-set_same kept place after d l) (clocks-kept rule log c clocks before after s (rw (sym b) at x))
+    known c p d q k (inr n) = rw (get_or-set_other kept place p after d n) (h.clocked c p d q k)

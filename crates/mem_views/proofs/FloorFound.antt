@@ -149,7 +149,7 @@ before-known rule log thread order rows limit h e u = go (is_seq_cst order) refl
 
 -- the floor
 module _ (rule : Rule) (initial : CellId → Scalar) (log : List Event) (thread : ℕ) (cell : CellId) (order : Order) (kept : CellViews) (known below before : List ℕ) (found limit : ℕ)
-    (m : meets_axioms rule initial log ≡ true) (named : wakes_are_named log ≡ true) (h : CellHolds rule log cell kept)
+    (m : meets_axioms rule initial log ≡ true) (named : wakes_are_named log ≡ true) (h : CellHolds log cell kept)
     (small : (y : ℕ) (ey : Event) → event_at log y ≡ Some ey → ey.thread < 64)
     (k : IsKnown rule log thread known)
     (lim : limit ≡ view_limit (views rule log) log thread order)

@@ -11,32 +11,35 @@ use Rattle.mem_axioms.specs.declared.types.Rule.{Rule}
 use Rattle.mem_axioms.specs.declared.types.Kind.{Kind}
 use Rattle.mem_axioms.specs.declared.types.Kind.TheVariants.{Access, Fence, NewStack, NewThread, Leave, Enter, Wake, Woken}
 use Rattle.mem_axioms.proofs.Numbers.{any-some}
-use Rattle.clock_laws.specs.Clocks.{Views, views, gains, pends, gives}
+use Rattle.clock_laws.specs.Clocks.{Views, views, gains, knows, pends, gives}
 use Rattle.clock_laws.specs.NamedWakes.{names_wake}
-use Rattle.mem_views.specs.Tables.{table_at}
+use Rattle.std.specs.Prelude.{Option}
+use Rattle.mem_views.specs.Knowing.{known_by}
+use Rattle.mem_views.specs.Tables.{table_at, row_at}
+use Rattle.mem_views.specs.Spans.{Spans}
+use Rattle.mem_views.specs.CellClocks.{released_at}
 use Rattle.mem_views.specs.Gaining.{takes_atomic, given_of}
-use Rattle.mem_views.specs.RowsAdded.{RowsAdded, row_gains}
-use Rattle.mem_views.specs.Holding.{RowsHold, CellHolds, IsUntouched}
+use Rattle.mem_views.specs.RowsAdded.{row_gains}
+use Rattle.mem_views.specs.Holding.{RowsHold, ClocksHold, IsUntouched}
 use Rattle.mem_views.specs.declared.cell.CellViews.{CellViews}
 use Rattle.mem_views.specs.declared.rows.Rows.{Rows}
-use Rattle.mem_views.proofs.RowsKept.{clock-knows}
 use Rattle.mem_views.proofs.CellKept.{untouched-released}
 
-taken-kind : (rule : Rule) (log : List Event) (cell : CellId) (kept : CellViews) (t : ℕ) (k : Kind) → CellHolds rule log cell kept → accesses cell (record { thread = t; kind = k }) ≡ true → (u : ℕ)
-    → cond (takes_atomic (record { thread = t; kind = k })) (table_at kept.released (position_taken (record { thread = t; kind = k })) u) 0 ≡ pends (views rule log) (record { thread = t; kind = k }) u
-taken-kind rule log cell kept t (Access mode of o p x) h a u = rw (same_cell-true of cell a, h.released (position_taken (record { thread = t; kind = Access mode cell o p x })) u) refl
-taken-kind rule log cell kept t (Fence o) h a u = refl
-taken-kind rule log cell kept t (NewStack o) h a u = refl
-taken-kind rule log cell kept t (NewThread o) h a u = refl
-taken-kind rule log cell kept t (Leave o) h a u = refl
-taken-kind rule log cell kept t (Enter o) h a u = refl
-taken-kind rule log cell kept t (Wake o n) h a u = refl
-taken-kind rule log cell kept t (Woken o) h a u = refl
+taken-kind : (rule : Rule) (log : List Event) (clocks : Spans) (cell : CellId) (kept : CellViews) (t : ℕ) (k : Kind) → ClocksHold rule log clocks cell kept → accesses cell (record { thread = t; kind = k }) ≡ true → (u : ℕ)
+    → cond (takes_atomic (record { thread = t; kind = k })) (released_at clocks kept (position_taken (record { thread = t; kind = k })) u) 0 ≡ pends (views rule log) (record { thread = t; kind = k }) u
+taken-kind rule log clocks cell kept t (Access mode of o p x) h a u = rw (same_cell-true of cell a, h.released (position_taken (record { thread = t; kind = Access mode cell o p x })) u) refl
+taken-kind rule log clocks cell kept t (Fence o) h a u = refl
+taken-kind rule log clocks cell kept t (NewStack o) h a u = refl
+taken-kind rule log clocks cell kept t (NewThread o) h a u = refl
+taken-kind rule log clocks cell kept t (Leave o) h a u = refl
+taken-kind rule log clocks cell kept t (Enter o) h a u = refl
+taken-kind rule log clocks cell kept t (Wake o n) h a u = refl
+taken-kind rule log clocks cell kept t (Woken o) h a u = refl
 
 -- what is kept of the cell
-pub taken-are : (rule : Rule) (log : List Event) (cell : CellId) (kept : CellViews) (e : Event) → CellHolds rule log cell kept → accesses cell e ≡ true → (u : ℕ)
-    → cond (takes_atomic e) (table_at kept.released (position_taken e) u) 0 ≡ pends (views rule log) e u
-taken-are rule log cell kept e h a u = taken-kind rule log cell kept e.thread e.kind h a u
+pub taken-are : (rule : Rule) (log : List Event) (clocks : Spans) (cell : CellId) (kept : CellViews) (e : Event) → ClocksHold rule log clocks cell kept → accesses cell e ≡ true → (u : ℕ)
+    → cond (takes_atomic e) (released_at clocks kept (position_taken e) u) 0 ≡ pends (views rule log) e u
+taken-are rule log clocks cell kept e h a u = taken-kind rule log clocks cell kept e.thread e.kind h a u
 
 untaken-kind : (rule : Rule) (log : List Event) (cell : CellId) (t : ℕ) (k : Kind) → IsUntouched log cell → accesses cell (record { thread = t; kind = k }) ≡ true → (u : ℕ) → pends (views rule log) (record { thread = t; kind = k }) u ≡ 0
 untaken-kind rule log cell t (Access mode of o p x) h a u = rw (same_cell-true of cell a) (go (loads mode && is_atomic o))
@@ -71,8 +74,8 @@ pub none-taken : (v : Views) (e : Event) → ((cell : CellId) → accesses cell 
 none-taken v e = none-kind v e.thread e.kind
 
 -- what an event gains
-module _ (rule : Rule) (log : List Event) (rows : Rows) (taken : List ℕ) (h : RowsHold rule log rows) where
-  gains-kind : (t : ℕ) (k : Kind) → ((u : ℕ) → slice_index taken u ≡ pends (views rule log) (record { thread = t; kind = k }) u) → names_wake log (record { thread = t; kind = k }) ≡ true → (u : ℕ)
+module _ (rule : Rule) (log : List Event) (rows : Rows) (taken : Option (List ℕ)) (h : RowsHold rule log rows) where
+  gains-kind : (t : ℕ) (k : Kind) → ((u : ℕ) → known_by taken u ≡ pends (views rule log) (record { thread = t; kind = k }) u) → names_wake log (record { thread = t; kind = k }) ≡ true → (u : ℕ)
       → row_gains rows taken (record { thread = t; kind = k }) u ≡ gains (views rule log) (record { thread = t; kind = k }) u
   gains-kind t (Access mode cell o p x) s n u = rw (s u) (go (acquires o) (loads mode && is_atomic o))
     where
@@ -91,13 +94,12 @@ module _ (rule : Rule) (log : List Event) (rows : Rows) (taken : List ℕ) (h : 
       let e = eqb-true w.0 wake p.0 in
       h.wakes wake w.1 (ap (λ (i : ℕ). event_at log i) (sym e) ∙ w.2) p.1 u
 
-  pub gains-are : (e : Event) → ((u : ℕ) → slice_index taken u ≡ pends (views rule log) e u) → names_wake log e ≡ true → (u : ℕ) → row_gains rows taken e u ≡ gains (views rule log) e u
+  pub gains-are : (e : Event) → ((u : ℕ) → known_by taken u ≡ pends (views rule log) e u) → names_wake log e ≡ true → (u : ℕ) → row_gains rows taken e u ≡ gains (views rule log) e u
   gains-are e = gains-kind e.thread e.kind
 
 -- what it gives
-pub gives-are : (rule : Rule) (log : List Event) (e : Event) (old new : Rows) (gained taken clock given fenced : List ℕ) → RowsAdded old new (length log) e gained taken clock → RowsHold rule log old
-    → ((u : ℕ) → slice_index gained u ≡ gains (views rule log) e u) → ((u : ℕ) → slice_index taken u ≡ pends (views rule log) e u)
-    → ((u : ℕ) → slice_index fenced u ≡ table_at old.fenced e.thread u) → ((u : ℕ) → slice_index given u ≡ given_of e clock fenced u)
-    → (u : ℕ) → slice_index given u ≡ gives (views rule log) (length log) e u
-gives-are rule log e old new gained taken clock given fenced a h g p f s u =
-    s u ∙ rw (clock-knows rule log e old new gained taken clock a h g p u, f u, h.fenced e.thread u) refl
+pub gives-are : (rule : Rule) (log : List Event) (e : Event) (rows : Rows) (clock fenced : List ℕ) (given : Option (List ℕ)) → RowsHold rule log rows
+    → ((u : ℕ) → slice_index clock u ≡ knows (views rule log) (length log) e u)
+    → ((u : ℕ) → slice_index fenced u ≡ row_at rows.fenced e.thread u) → ((u : ℕ) → known_by given u ≡ given_of e clock fenced u)
+    → (u : ℕ) → known_by given u ≡ gives (views rule log) (length log) e u
+gives-are rule log e rows clock fenced given h k f s u = s u ∙ rw (k u, f u, h.fenced e.thread u) refl

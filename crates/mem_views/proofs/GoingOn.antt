@@ -30,3 +30,7 @@ gone-on rule e t given old = go (cases_eq t e.thread)
     go : (t ≡ e.thread) ⊎ (t ≡ e.thread → ⊥) → cond (eqb t e.thread) (max given (cond (continues rule e e.thread) (old e.thread) 0)) (cond (is_update e) (old t) 0) ≡ max (cond (eqb t e.thread) given 0) (cond (continues rule e t) (old t) 0)
     go (inl q) = rw (ap (λ (k : ℕ). continues rule e k) q, q, eq-eqb e.thread e.thread refl) refl
     go (inr n) = rw (ne_eqb t e.thread n, continues-other rule e t (λ z. n (sym z))) (omega arith)
+
+pub released-on : (change : Bool) (given before own : ℕ) → cond change (max given before) (max given own) ≡ max given (cond change before own)
+released-on true given before own = refl
+released-on false given before own = refl

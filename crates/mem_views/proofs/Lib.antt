@@ -1,6 +1,6 @@
 pub mod Zeros
-pub mod Forgotten
 pub mod GoingOn
+pub mod Releasing
 pub mod Searching
 pub mod Owning
 pub mod Entries
@@ -17,3 +17,5 @@ pub mod RaceFound
 pub mod Reading
 pub mod Budget
 pub mod Roomy
+pub mod SpansKept
+pub mod PlacesKept

@@ -35,7 +35,7 @@ none-found position test log indexes h = record { above = λ u. (let z = none u 
         ∙ (ap (λ (entries : List Entry). unwrap_or (last_position 0 entries) 0) (h u)
         ∙ (entries-floor position (test u) 0 log ∙ none-below position (test u) log))
 
-pub known-found : (rule : Rule) (log : List Event) (cell : CellId) (kept : CellViews) (known : List ℕ) (found : ℕ) → CellHolds rule log cell kept → IsFound kept.all.items known found
+pub known-found : (rule : Rule) (log : List Event) (cell : CellId) (kept : CellViews) (known : List ℕ) (found : ℕ) → CellHolds log cell kept → IsFound kept.all.items known found
     → FoundFloor kept known (replicate 64 0) (replicate 64 0) found
 known-found rule log cell kept known found h f = record {
   first = found;

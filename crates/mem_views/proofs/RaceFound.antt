@@ -12,7 +12,7 @@ use Rattle.mem_axioms.specs.declared.types.Event.{Event}
 use Rattle.mem_axioms.specs.declared.types.Rule.{Rule}
 use Rattle.mem_axioms.proofs.Racings.{LeastOr, least-is}
 use Rattle.mem_axioms.proofs.Kept.{on_one, one_cell}
-use Rattle.clock_laws.specs.Clocks.{views}
+use Rattle.clock_laws.specs.Clocks.{views, knew}
 use Rattle.clock_laws.proofs.Tests.{next-test}
 use Rattle.write_history.specs.Indexes.{first_after}
 use Rattle.mem_views.specs.Families.{is_not_atomic}
@@ -193,16 +193,15 @@ none-lower None h = refl
 none-lower (Some i) h = absurd (cc)
 
 -- the premises, from what a memory holds
-pub race-facts : (rule : Rule) (objects : List (List Scalar)) (log : List Event) (cell : CellId) (e : Event) (kept : CellViews) (clock old gained : List ℕ) (rows : Rows) → LogHolds rule objects log → RowsHold rule log rows → CellHolds rule log cell kept
-    → EventFits rule objects log e → accesses cell e ≡ true
-    → ((u : ℕ) → slice_index old u ≡ table_at rows.threads e.thread u) → ((u : ℕ) → slice_index clock u ≡ max (slice_index old u) (slice_index gained u)) → ((u : ℕ) → slice_index gained u ≡ gains (views rule log) e u)
+pub race-facts : (rule : Rule) (objects : List (List Scalar)) (log : List Event) (cell : CellId) (e : Event) (kept : CellViews) (clock : List ℕ) → LogHolds rule objects log → CellHolds log cell kept
+    → EventFits rule objects log e → accesses cell e ≡ true → ((u : ℕ) → slice_index clock u ≡ knew (views rule log) e u)
     → RaceFacts rule (initial_of objects) log cell e kept clock
-race-facts rule objects log cell e kept clock old gained rows h r c f a o j g = record {
+race-facts rule objects log cell e kept clock h c f a k = record {
   form = form-of rule (initial_of objects) log h.sound.axioms;
   named = h.named;
   fits = (form-parts (is_value_at (initial_of objects)) e log (form-of rule (initial_of objects) (e ∷ log) (keeps-fit rule objects log h.sound.axioms e f))).0;
   wake = fits-named rule objects log e f;
   access = a;
-  knows = λ u. j u ∙ rw (o u, g u, r.threads e.thread u) refl;
+  knows = k;
   holds = c;
 }

@@ -34,7 +34,7 @@ value-initial initial (e ∷ past) c h =
     parts = form-parts (is_value_at initial) e past h
 
 -- a later position has the value that is kept
-pub value-found : (rule : Rule) (initial : CellId → Scalar) (log : List Event) (c : CellId) (kept : CellViews) (p : ℕ) (x : Scalar) → has_form initial log ≡ true → CellHolds rule log c kept → 0 < p → p ≤ newest log c
+pub value-found : (rule : Rule) (initial : CellId → Scalar) (log : List Event) (c : CellId) (kept : CellViews) (p : ℕ) (x : Scalar) → has_form initial log ≡ true → CellHolds log c kept → 0 < p → p ≤ newest log c
     → slice_get kept.history.values p ≡ Some x → x ≡ value_at initial log c p
 value-found rule initial log c kept p x f h l n g =
     let a = values-at initial log c p f l n in
@@ -53,7 +53,7 @@ newest-few (e ∷ past) c = go (modifies c e) refl (newest-few past c)
     go true q h = rw q (omega (arith, h))
     go false q h = rw q (omega (arith, h))
 
-pub history-newest : (rule : Rule) (log : List Event) (c : CellId) (kept : CellViews) → CellHolds rule log c kept → length kept.history.values ≡ suc (newest log c)
+pub history-newest : (rule : Rule) (log : List Event) (c : CellId) (kept : CellViews) → CellHolds log c kept → length kept.history.values ≡ suc (newest log c)
 history-newest rule log c kept h = ap (λ (xs : List Scalar). length xs) h.values ∙ values-length log c
 
 filter-all : {X : Type 0} (xs : List X) → filter (λ x. true) xs ≡ xs

@@ -1,14 +1,15 @@
 -- The clocks of threads, stacks, wakes and fences with one more event.
 use Rattle.std.proofs.Common.{◌≡◌, ℕ, ◌<◌, Bool, true, false, cond, ◌&&◌, eqb, suc, List, [], ◌∷◌, length, Some, refl, ◌∙◌, inl, inr, ◌⊎◌, slice_index, arith}
-use Rattle.std.specs.Prelude.{◌^◌, All}
+use Rattle.std.specs.Prelude.{◌^◌, All, Option}
 use Rattle.std.proofs.lemmas.Bool.{eq-eqb, ne_eqb}
 use Rattle.mem_axioms.specs.Events.{is_wake, is_seq_cst_fence}
 use Rattle.mem_axioms.specs.Logs.{event_at}
 use Rattle.mem_axioms.specs.declared.types.Event.{Event}
 use Rattle.mem_axioms.specs.declared.types.Rule.{Rule}
 use Rattle.mem_axioms.proofs.Numbers.{event-cases}
-use Rattle.clock_laws.specs.Clocks.{views, knows, gains, pends}
-use Rattle.mem_views.specs.Tables.{table_at}
+use Rattle.clock_laws.specs.Clocks.{views, knows, pends}
+use Rattle.mem_views.specs.Knowing.{known_by}
+use Rattle.mem_views.specs.Tables.{table_at, row_at}
 use Rattle.mem_views.specs.RowsAdded.{RowsAdded}
 use Rattle.mem_views.specs.Holding.{RowsHold, fence_by}
 use Rattle.mem_views.specs.Indexed.{accesses_at}
@@ -20,18 +21,15 @@ and-false : (b : Bool) → (b && false) ≡ false
 and-false true = refl
 and-false false = refl
 
-module _ (rule : Rule) (log : List Event) (e : Event) (old new : Rows) (gained taken clock : List ℕ)
-    (a : RowsAdded old new (length log) e gained taken clock) (h : RowsHold rule log old)
-    (g : (u : ℕ) → slice_index gained u ≡ gains (views rule log) e u)
-    (p : (u : ℕ) → slice_index taken u ≡ pends (views rule log) e u) where
-  pub clock-knows : (u : ℕ) → slice_index clock u ≡ knows (views rule log) (length log) e u
-  clock-knows u = a.knows u ∙ rw (h.threads e.thread u, g u) refl
-
+module _ (rule : Rule) (log : List Event) (e : Event) (old new : Rows) (clock : List ℕ) (taken : Option (List ℕ))
+    (a : RowsAdded old new (length log) e clock taken) (h : RowsHold rule log old)
+    (k : (u : ℕ) → slice_index clock u ≡ knows (views rule log) (length log) e u)
+    (p : (u : ℕ) → known_by taken u ≡ pends (views rule log) e u) where
   wakes-more : (i : ℕ) (ei : Event) → event_at (e ∷ log) i ≡ Some ei → is_wake ei ≡ true → (u : ℕ) → table_at new.wakes i u ≡ (views rule (e ∷ log)).at i u
   wakes-more i ei at w u = a.wakes i u ∙ go (event-cases e log i ei at)
     where
       go : ((i ≡ length log) × (ei ≡ e)) ⊎ ((i < length log) × (event_at log i ≡ Some ei)) → cond (is_wake e && eqb i (length log)) (slice_index clock u) (table_at old.wakes i u) ≡ (views rule (e ∷ log)).at i u
-      go (inl q) = let x : is_wake e ≡ true = rw q.1 at w in rw (x, eq-eqb i (length log) q.0, clock-knows u) refl
+      go (inl q) = let x : is_wake e ≡ true = rw q.1 at w in rw (x, eq-eqb i (length log) q.0, k u) refl
       go (inr q) = rw (ne_eqb i (length log) (λ z. let l = q.0 in omega arith), and-false (is_wake e)) (h.wakes i ei q.1 w u)
 
   before-more : (i : ℕ) (ei : Event) → event_at (e ∷ log) i ≡ Some ei → is_seq_cst_fence ei ≡ true → (u : ℕ) → table_at new.before i u ≡ (views rule (e ∷ log)).before i u
@@ -43,11 +41,11 @@ module _ (rule : Rule) (log : List Event) (e : Event) (old new : Rows) (gained t
 
   pub rows-more : RowsHold rule (e ∷ log) new
   rows-more = record {
-    threads = λ t u. a.threads t u ∙ rw (clock-knows u, h.threads t u) refl;
-    left = λ s u. a.left s u ∙ rw (clock-knows u, h.left s u) refl;
-    fenced = λ t u. a.fenced t u ∙ rw (clock-knows u, h.fenced t u) refl;
+    threads = λ t u. a.threads t u ∙ rw (k u, h.threads t u) refl;
+    left = λ s u. a.left s u ∙ rw (k u, h.left s u) refl;
+    fenced = λ t u. a.fenced t u ∙ rw (k u, h.fenced t u) refl;
     pending = λ t u. a.pending t u ∙ rw (h.pending t u, p u) refl;
-    joined = λ u. a.joined u ∙ rw (clock-knows u, h.joined u) refl;
+    joined = λ u. a.joined u ∙ rw (k u, h.joined u) refl;
     wakes = wakes-more;
     before = before-more;
     fences = λ u. a.fences u ∙ rw (h.fences u) refl;
@@ -61,7 +59,7 @@ rows-few rule log rows d h l u = rw (h.fences u) (let n = entries-few (λ n e. n
 pub rows-below : (rule : Rule) (log : List Event) (rows : Rows) (t : ℕ) → RowsHold rule log rows → All (λ entry. entry.event < suc (length log)) (accesses_at rows.fences.items t)
 rows-below rule log rows t h = rw (h.fences t) (entries-below (λ n e. n) (fence_by t) log)
 
-pub rows-none : (rule : Rule) (rows : Rows) → ((t u : ℕ) → table_at rows.threads t u ≡ 0) → ((s u : ℕ) → table_at rows.left s u ≡ 0) → ((t u : ℕ) → table_at rows.fenced t u ≡ 0) → ((t u : ℕ) → table_at rows.pending t u ≡ 0)
+pub rows-none : (rule : Rule) (rows : Rows) → ((t u : ℕ) → row_at rows.threads t u ≡ 0) → ((s u : ℕ) → table_at rows.left s u ≡ 0) → ((t u : ℕ) → row_at rows.fenced t u ≡ 0) → ((t u : ℕ) → row_at rows.pending t u ≡ 0)
     → ((u : ℕ) → slice_index rows.joined u ≡ 0) → ((u : ℕ) → accesses_at rows.fences.items u ≡ []) → RowsHold rule [] rows
 rows-none rule rows t l f p j i = record {
   threads = t;

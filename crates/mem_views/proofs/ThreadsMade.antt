@@ -125,6 +125,10 @@ small-kind rule objects log t (Enter o) u f h = absurd (false≢true h)
 small-kind rule objects log t (Wake o n) u f h = absurd (false≢true h)
 small-kind rule objects log t (Woken o) u f h = absurd (false≢true h)
 
+-- a thread that an event makes is below 64
+pub child-small : (rule : Rule) (objects : List (List Scalar)) (log : List Event) (e : Event) (u : ℕ) → EventFits rule objects log e → makes_thread u e ≡ true → u < 64
+child-small rule objects log e = small-kind rule objects log e.thread e.kind
+
 pub log-more : (rule : Rule) (objects : List (List Scalar)) (log : List Event) (e : Event) → EventFits rule objects log e → race rule log e ≡ None → LogHolds rule objects log → LogHolds rule objects (e ∷ log)
 log-more rule objects log e f r h = record {
   sound = sound-more rule objects log e f r h.sound;
@@ -134,7 +138,7 @@ log-more rule objects log e f r h = record {
     | inl p ↦ ap (λ (x : Event). is_thread (e ∷ log) x.thread) p.1 ∙ thread-kept e log e.thread f.thread
     | inr p ↦ thread-kept e log ei.thread (h.threads i ei p.1)
   ];
-  small = λ t w. elim (thread-cases e log t w) [ inl p ↦ h.small t p | inr p ↦ small-kind rule objects log e.thread e.kind t f p ];
+  small = λ t w. elim (thread-cases e log t w) [ inl p ↦ h.small t p | inr p ↦ child-small rule objects log e t f p ];
 }
 
 pub log-none : (rule : Rule) (objects : List (List Scalar)) → LogHolds rule objects []
@@ -198,7 +202,7 @@ family-own family cell u e h = eqb-true u e.thread (last (accesses cell e && fam
     last true b h = h
     last false b h = absurd (false≢true h)
 
-pub cell-made : (rule : Rule) (objects : List (List Scalar)) (log : List Event) (made : List ℕ) (cell : CellId) (kept : CellViews) → LogHolds rule objects log → MadeHolds made log → CellHolds rule log cell kept → AllMade made kept
+pub cell-made : (rule : Rule) (objects : List (List Scalar)) (log : List Event) (made : List ℕ) (cell : CellId) (kept : CellViews) → LogHolds rule objects log → MadeHolds made log → CellHolds log cell kept → AllMade made kept
 cell-made rule objects log made cell kept h m c = record {
   all = one is_any kept.all.items c.all;
   modifications = one is_modification kept.modifications.items c.modifications;

@@ -4,7 +4,10 @@ use Rattle.std.specs.Prelude.{slice_get}
 use Rattle.std.proofs.lemmas.Bool.{false≢true, cases_lt}
 use Rattle.mu_values.specs.declared.scalars.Scalar.{Scalar}
 use Rattle.typed_heap.specs.declared.cells.CellId.{CellId}
-use Rattle.mem_axioms.specs.Events.{modifies, position_of, value_of, accesses}
+use Rattle.typed_heap.proofs.Equal.{same_cell-true}
+use Rattle.mem_axioms.specs.EventFits.{EventFits}
+use Rattle.mem_axioms.specs.Events.{modifies, is_modification, position_of, value_of, accesses}
+use Rattle.mem_axioms.specs.declared.types.Rule.{Rule}
 use Rattle.mem_axioms.specs.Logs.{newest}
 use Rattle.mem_axioms.specs.Form.{value_at, has_form, fits_form, is_value_at}
 use Rattle.mem_axioms.specs.declared.types.Event.{Event}
@@ -88,3 +91,20 @@ untouched-newest (e ∷ past) c h = newest-same e past c (untouched-same e c (h 
 
 pub untouched-length : (log : List Event) (c : CellId) → IsUntouched log c → length (values_of log c) ≡ 1
 untouched-length log c h = values-length log c ∙ ap suc (untouched-newest log c h)
+
+-- a write or update of the cell makes the next position
+next-kind : (rule : Rule) (objects : List (List Scalar)) (log : List Event) (t : ℕ) (k : Kind) (cell : CellId) → EventFits rule objects log (record { thread = t; kind = k }) → accesses cell (record { thread = t; kind = k }) ≡ true
+    → is_modification (record { thread = t; kind = k }) ≡ true → position_of (record { thread = t; kind = k }) ≡ suc (newest log cell)
+next-kind rule objects log t (Access Read of o p x) cell f a m = absurd (false≢true m)
+next-kind rule objects log t (Access Write of o p x) cell f a m = f.position ∙ ap (λ (c : CellId). suc (newest log c)) (same_cell-true of cell a)
+next-kind rule objects log t (Access Update of o p x) cell f a m = f.position ∙ ap (λ (c : CellId). suc (newest log c)) (same_cell-true of cell a)
+next-kind rule objects log t (Fence o) cell f a m = absurd (false≢true m)
+next-kind rule objects log t (NewStack o) cell f a m = absurd (false≢true m)
+next-kind rule objects log t (NewThread o) cell f a m = absurd (false≢true m)
+next-kind rule objects log t (Leave o) cell f a m = absurd (false≢true m)
+next-kind rule objects log t (Enter o) cell f a m = absurd (false≢true m)
+next-kind rule objects log t (Wake o n) cell f a m = absurd (false≢true m)
+next-kind rule objects log t (Woken o) cell f a m = absurd (false≢true m)
+
+pub next-position : (rule : Rule) (objects : List (List Scalar)) (log : List Event) (e : Event) (cell : CellId) → EventFits rule objects log e → accesses cell e ≡ true → is_modification e ≡ true → position_of e ≡ suc (newest log cell)
+next-position rule objects log e = next-kind rule objects log e.thread e.kind

@@ -37,4 +37,4 @@ pub record RaceFacts (rule : Rule) (initial : CellId → Scalar) (log : List Eve
   pub wake : names_wake log e ≡ true
   pub access : accesses cell e ≡ true
   pub knows : (u : ℕ) → slice_index clock u ≡ knew (views rule log) e u
-  pub holds : CellHolds rule log cell kept
+  pub holds : CellHolds log cell kept

@@ -1,7 +1,12 @@
+pub mod Knowing
 pub mod Tables
+pub mod Spans
+pub mod KeptClocks
+pub mod EventSpans
 pub mod Indexed
 pub mod RowsAdded
 pub mod Families
+pub mod CellClocks
 pub mod CellAdded
 pub mod LookUps
 pub mod Placing

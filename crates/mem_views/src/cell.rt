@@ -1,15 +1,17 @@
 // What is kept of one cell.
-ghost use Rattle.std.specs.Prelude.{◌≡◌, ℕ, suc, ◌+◌, ◌-◌, ◌<◌, ◌≤◌, ◌==◌, ◌&&◌, ◌∷◌, [], ◌++◌, All, if◌then◌else◌, max, length, slice_index, OnOk, IfOk};
+ghost use Rattle.std.specs.Prelude.{◌≡◌, true, ℕ, suc, ◌+◌, ◌-◌, ◌<◌, ◌≤◌, ◌==◌, ◌&&◌, ◌∷◌, [], ◌++◌, All, if◌then◌else◌, max, length, slice_index, vec_len, vec_capacity, OnOk, IfOk};
 ghost use Rattle.mem_axioms.specs.Events.{is_modification, is_update, position_of, value_of};
 ghost use Rattle.mem_axioms.specs.Synchronizes.{continues};
 ghost use Rattle.mem_views.specs.Families.{is_not_atomic, is_not_atomic_modification, has_seq_cst_order};
-ghost use Rattle.mem_views.specs.Tables.{table_at};
+ghost use Rattle.mem_views.specs.Knowing.{known_by};
+ghost use Rattle.mem_views.specs.KeptClocks.{kept_at, Grown};
 ghost use Rattle.mem_views.specs.Indexed.{index_at, accesses_at};
 
 use crate::clock::Clock;
+use crate::clock_list::ClockList;
 use crate::event_facts::{atomic, modification, order_in, position_in, seq_cst, update};
 use crate::indexes;
-use crate::tables::ClockTable;
+use crate::kept_clocks::keep_with;
 use mem_axioms::{Event, Kind, Rule};
 use mu_values::Scalar;
 use std::alloc::{AllocError, Global};
@@ -19,10 +21,10 @@ use write_history::{AccessIndex, History};
 #[derive(Drop)]
 pub struct CellViews {
     pub history: History,
-    /// What an acquire of each position takes.
-    pub released: ClockTable,
+    /// What an acquire of each position takes, by the number under which that clock is kept.
+    pub released: Vec<u32>,
     /// The same of the newest position, of the heads by each thread alone.
-    pub sequence: ClockTable,
+    pub sequence: Vec<u32>,
     pub all: Vec<AccessIndex>,
     pub modifications: Vec<AccessIndex>,
     pub not_atomic: Vec<AccessIndex>,
@@ -68,66 +70,87 @@ fn continues_own(rule: Rule, event: &Event) -> bool
     update(event) || (matches!(rule, Rule::C11) && atomic(order_in(event)))
 }
 
-/// What the sequences that a write or update goes on have released.
-fn gone_on(rule: Rule, released: &ClockTable, sequence: &ClockTable, event: &Event) -> Clock
-    ensures { (u : ℕ) → slice_index result u ≡ (if is_update event.now then table_at released.now (position_of event.now - 1) u else if continues rule event.now event.now.thread then table_at sequence.now event.now.thread u else 0) }
+/// The number at a place of a list, or 0.
+pub fn number_at(numbers: &[u32], place: u32) -> u32
+    ensures { result ≡ slice_index numbers.now place }
+{
+    let place = place as usize;
+    if place < numbers.len() {
+        numbers[place]
+    } else {
+        0
+    }
+}
+
+/// What the sequences by the event's own thread release from then on: what their new head gives, and what they released
+/// where they go on.
+fn own_sequence(
+    rule: Rule,
+    clocks: &mut ClockList,
+    sequence: &[u32],
+    event: &Event,
+    given: &Option<Clock>,
+) -> u32
+    requires room { 0 < clocks.old.spare }
+    requires named { (t : ℕ) → slice_index sequence.now t ≤ length clocks.old.ends }
+    ensures kept { (u : ℕ) → kept_at clocks.new result u ≡ max (known_by given.now u) (if continues rule event.now event.now.thread then kept_at clocks.old (slice_index sequence.now event.now.thread) u else 0) }
+    ensures there { result ≤ length clocks.new.ends }
+    ensures grown { Grown clocks.old clocks.new }
+    ensures spare { clocks.old.spare ≤ clocks.new.spare + 1 }
+{
+    if continues_own(rule, event) {
+        keep_with(clocks, given, number_at(sequence, event.thread))
+    } else {
+        keep_with(clocks, given, 0)
+    }
+}
+
+/// What the new position releases: what its own head gives, and what the sequences that go on released. These are all of the
+/// position before at an update, else those of the event's own thread.
+fn released_by(
+    clocks: &mut ClockList,
+    released: &[u32],
+    event: &Event,
+    given: &Option<Clock>,
+    own: u32,
+) -> u32
+    requires room { 0 < clocks.old.spare }
+    requires named { (p : ℕ) → slice_index released.now p ≤ length clocks.old.ends }
+    requires own { own ≤ length clocks.old.ends }
+    ensures kept { (u : ℕ) → kept_at clocks.new result u ≡ (if is_update event.now then max (known_by given.now u) (kept_at clocks.old (slice_index released.now (position_of event.now - 1)) u) else kept_at clocks.old own u) }
+    ensures there { result ≤ length clocks.new.ends }
+    ensures grown { Grown clocks.old clocks.new }
+    ensures spare { clocks.old.spare ≤ clocks.new.spare + 1 }
 {
     if update(event) {
-        released.of(position_in(event).saturating_sub(1))
-    } else if continues_own(rule, event) {
-        sequence.of(event.thread)
+        keep_with(
+            clocks,
+            given,
+            number_at(released, position_in(event).saturating_sub(1)),
+        )
     } else {
-        Clock::new()
+        own
     }
-}
-
-/// The new position releases what its own head gives, and what the sequences that go on have released.
-fn release(
-    rule: Rule,
-    released: &mut ClockTable,
-    sequence: &ClockTable,
-    event: &Event,
-    given: &Clock,
-)
-    requires room { 0 < released.old.spare }
-    ensures put { (p u : ℕ) → table_at released.new p u ≡ (if p == position_of event.now then max (slice_index given.now u) (if is_update event.now then table_at released.old (position_of event.now - 1) u else if continues rule event.now event.now.thread then table_at sequence.now event.now.thread u else 0) else table_at released.old p u) }
-    ensures spare { released.old.spare ≤ released.new.spare + 1 }
-{
-    let mut clock = *given;
-    clock.join(&gone_on(rule, released, sequence, event));
-    released.put(position_in(event), &clock);
-}
-
-/// What the sequences by the event's own thread release from then on.
-fn own_sequence(rule: Rule, sequence: &ClockTable, event: &Event, given: &Clock) -> Clock
-    ensures { (u : ℕ) → slice_index result u ≡ max (slice_index given.now u) (if continues rule event.now event.now.thread then table_at sequence.now event.now.thread u else 0) }
-{
-    let mut own = *given;
-    if continues_own(rule, event) {
-        own.join(&sequence.of(event.thread));
-    }
-    own
 }
 
 /// The sequences by other threads end, save at an update.
-fn end_others(sequence: &mut ClockTable, event: &Event)
-    ensures put { (t u : ℕ) → table_at sequence.new t u ≡ (if is_update event.now then table_at sequence.old t u else 0) }
-    ensures spare { sequence.old.spare ≤ sequence.new.spare }
+fn end_others(sequence: &mut Vec<u32>, event: &Event)
+    ensures ended { (t : ℕ) → slice_index sequence.new.items t ≡ (if is_update event.now then slice_index sequence.old.items t else 0) }
+    ensures len { length sequence.new.items ≡ length sequence.old.items }
 {
     if !update(event) {
-        sequence.clear();
+        sequence.fill(0);
     }
 }
 
 /// The sequences of the heads of each thread go on or end.
-fn go_on(rule: Rule, sequence: &mut ClockTable, event: &Event, given: &Clock)
-    requires room { 0 < sequence.old.spare }
-    ensures put { (t u : ℕ) → table_at sequence.new t u ≡ max (if t == event.now.thread then slice_index given.now u else 0) (if continues rule event.now t then table_at sequence.old t u else 0) }
-    ensures spare { sequence.old.spare ≤ sequence.new.spare + 1 }
+fn go_on(sequence: &mut Vec<u32>, event: &Event, own: u32)
+    requires there { event.now.thread < length sequence.old.items }
+    ensures numbers { (t : ℕ) → slice_index sequence.new.items t ≡ (if t == event.now.thread then own else if is_update event.now then slice_index sequence.old.items t else 0) }
+    ensures len { length sequence.new.items ≡ length sequence.old.items }
 {
-    let own = own_sequence(rule, sequence, event, given);
     end_others(sequence, event);
-    sequence.put(event.thread, &own);
+    sequence[event.thread as usize] = own;
 }
 
 /// Adds an entry for a thread if it belongs to the indexes.
@@ -160,39 +183,69 @@ fn make_position(history: &mut History, event: &Event)
 /// A write or update releases its position, and its sequences go on.
 fn release_position(
     rule: Rule,
-    released: &mut ClockTable,
-    sequence: &mut ClockTable,
+    clocks: &mut ClockList,
+    released: &mut Vec<u32>,
+    sequence: &mut Vec<u32>,
     event: &Event,
-    given: &Clock,
+    given: &Option<Clock>,
 )
-    requires released { 0 < released.old.spare }
-    requires sequence { 0 < sequence.old.spare }
-    ensures released { (p u : ℕ) → table_at released.new p u ≡ (if is_modification event.now && (position_of event.now == p) then max (slice_index given.now u) (if is_update event.now then table_at released.old (p - 1) u else if continues rule event.now event.now.thread then table_at sequence.old event.now.thread u else 0) else table_at released.old p u) }
-    ensures sequence { (t u : ℕ) → table_at sequence.new t u ≡ (if is_modification event.now then max (if t == event.now.thread then slice_index given.now u else 0) (if continues rule event.now t then table_at sequence.old t u else 0) else table_at sequence.old t u) }
-    ensures released_spare { released.old.spare ≤ released.new.spare + 1 }
-    ensures sequence_spare { sequence.old.spare ≤ sequence.new.spare + 1 }
+    requires next { is_modification event.now ≡ true → position_of event.now ≡ length released.old.items }
+    requires clocks { 2 ≤ clocks.old.spare }
+    requires room { vec_len released.old < vec_capacity released.old }
+    requires there { event.now.thread < length sequence.old.items }
+    requires released { (p : ℕ) → slice_index released.old.items p ≤ length clocks.old.ends }
+    requires sequence { (t : ℕ) → slice_index sequence.old.items t ≤ length clocks.old.ends }
+    ensures released { (p u : ℕ) → kept_at clocks.new (slice_index released.new.items p) u ≡ (if is_modification event.now && (position_of event.now == p) then max (known_by given.now u) (if is_update event.now then kept_at clocks.old (slice_index released.old.items (p - 1)) u else if continues rule event.now event.now.thread then kept_at clocks.old (slice_index sequence.old.items event.now.thread) u else 0) else kept_at clocks.old (slice_index released.old.items p) u) }
+    ensures sequence { (t u : ℕ) → kept_at clocks.new (slice_index sequence.new.items t) u ≡ (if is_modification event.now then max (if t == event.now.thread then known_by given.now u else 0) (if continues rule event.now t then kept_at clocks.old (slice_index sequence.old.items t) u else 0) else kept_at clocks.old (slice_index sequence.old.items t) u) }
+    ensures positions { length released.new.items ≡ (if is_modification event.now then length released.old.items + 1 else length released.old.items) }
+    ensures named { (p : ℕ) → slice_index released.new.items p ≤ length clocks.new.ends }
+    ensures named_sequence { (t : ℕ) → slice_index sequence.new.items t ≤ length clocks.new.ends }
+    ensures grown { Grown clocks.old clocks.new }
+    ensures spare { clocks.old.spare ≤ clocks.new.spare + 2 }
+    ensures len { length sequence.new.items ≡ length sequence.old.items }
+    ensures room { vec_len released.new ≤ vec_len released.old + 1 }
+    ensures capacity { vec_capacity released.old ≤ vec_capacity released.new }
 {
     if modification(event) {
-        release(rule, released, sequence, event, given);
-        go_on(rule, sequence, event, given);
+        let own = own_sequence(rule, clocks, sequence, event, given);
+        let number = released_by(clocks, released, event, given, own);
+        released.push_reserved(number);
+        go_on(sequence, event, own);
     }
 }
 
+/// Adds zeros up to a place.
+fn grow_to(numbers: &mut Vec<u32>, place: usize) -> Result<(), AllocError>
+    requires { place < 64 }
+    ensures same { (t : ℕ) → slice_index numbers.new.items t ≡ slice_index numbers.old.items t }
+    ensures there { OnOk result (place < length numbers.new.items) }
+    ensures len { length numbers.old.items ≤ length numbers.new.items }
+{
+    while numbers.len() <= place {
+        numbers.push(0)?;
+    }
+    Ok(())
+}
+
 impl CellViews {
+    ghost use Rattle.mem_views.specs.CellClocks.{Named};
     ghost use Rattle.mem_views.specs.CellAdded.{CellAdded, CellRoom, CellBelow, SameCell, IsFresh};
 
     /// What is kept of a cell that nothing accessed yet. Position 0 has NULL in the place of the initial scalar, which the
-    /// objects have.
+    /// objects have, and releases nothing.
     pub fn new(alloc: Global) -> Result<CellViews, AllocError>
         ensures fresh { IfOk result IsFresh }
     {
         let mut history = History::new(alloc);
-        history.reserve()?;
+        // A cell is named for an access, which may make position 1.
+        history.reserve_many(2)?;
         history.push(Scalar::Null);
+        let mut released = Vec::new(alloc);
+        released.push(0)?;
         Ok(CellViews {
             history,
-            released: ClockTable::new(alloc),
-            sequence: ClockTable::new(alloc),
+            released,
+            sequence: Vec::new(alloc),
             all: Vec::new(alloc),
             modifications: Vec::new(alloc),
             not_atomic: Vec::new(alloc),
@@ -211,7 +264,7 @@ impl CellViews {
         let count = count as usize;
         self.history.reserve_many(count)?;
         self.released.reserve(count)?;
-        self.sequence.reserve(count)?;
+        grow_to(&mut self.sequence, thread)?;
         indexes::reserve(&mut self.all, alloc, thread, count)?;
         indexes::reserve(&mut self.modifications, alloc, thread, count)?;
         indexes::reserve(&mut self.not_atomic, alloc, thread, count)?;
@@ -219,19 +272,37 @@ impl CellViews {
         indexes::reserve(&mut self.seq_cst, alloc, thread, count)
     }
 
-    /// Adds an access of the cell with its number, which gives a clock to the sequences that it heads.
-    pub fn add(&mut self, rule: Rule, event: &Event, number: u32, given: &Clock)
+    /// Adds an access of the cell with its number, which may give a clock to the sequences that it heads.
+    pub fn add(
+        &mut self,
+        rule: Rule,
+        clocks: &mut ClockList,
+        event: &Event,
+        number: u32,
+        given: &Option<Clock>,
+    )
         requires number { number < 4294967295 }
         requires room { CellRoom 1 event.now.thread self.old }
         requires below { CellBelow (suc number) event.now.thread self.old }
+        requires next { is_modification event.now ≡ true → position_of event.now ≡ length self.old.released.items }
+        requires clocks { 2 ≤ clocks.old.spare }
+        requires named { Named clocks.old self.old }
         requires few { length self.old.history.values < 4294967295 }
-        ensures added { CellAdded rule self.old self.new number event.now given.now }
+        ensures added { CellAdded rule clocks.old clocks.new self.old self.new number event.now given.now }
+        ensures clocks { clocks.old.spare ≤ clocks.new.spare + 2 }
         ensures room { (count : ℕ) → CellRoom (count + 1) event.now.thread self.old → CellRoom count event.now.thread self.new }
     {
         let thread = event.thread;
         let position = position_in(event);
         make_position(&mut self.history, event);
-        release_position(rule, &mut self.released, &mut self.sequence, event, given);
+        release_position(
+            rule,
+            clocks,
+            &mut self.released,
+            &mut self.sequence,
+            event,
+            given,
+        );
         index_if(&mut self.all, true, thread, number, position);
         index_if(
             &mut self.modifications,

@@ -1,5 +1,5 @@
 // What is known of each thread.
-ghost use Rattle.std.specs.Prelude.{◌≡◌, ℕ, ◌<◌, ◌↔◌, List, max, replicate, slice_index, IsTrue};
+ghost use Rattle.std.specs.Prelude.{◌≡◌, ℕ, ◌<◌, ◌≤◌, ◌↔◌, List, length, max, replicate, slice_index, IsTrue};
 ghost use Rattle.clock_laws.specs.Clocks.{bump};
 
 use std::marker::Model;
@@ -52,6 +52,26 @@ impl Clock {
         self.known[thread]
     }
 
+    /// A clock of these numbers for the first threads, and 0 for the others.
+    pub fn of_numbers(numbers: &[u32]) -> Clock
+        requires { length numbers.now ≤ 64 }
+        ensures { (u : ℕ) → slice_index result u ≡ slice_index numbers.now u }
+    {
+        let mut known = [0; 64];
+        for (t, number) in numbers.iter().enumerate() {
+            known[t] = *number;
+        }
+        Clock { known }
+    }
+
+    /// The numbers of the threads up to the last whose number is not 0.
+    pub fn numbers(&self) -> &[u32]
+        ensures small { length result.now ≤ 64 }
+        ensures same { (u : ℕ) → slice_index result.now u ≡ slice_index self.now u }
+    {
+        &self.known[..width(&self.known)]
+    }
+
     /// Takes the greater number for each thread, so that it knows what either knew.
     pub fn join(&mut self, other: &Clock)
         ensures { (u : ℕ) → slice_index self.new u ≡ max (slice_index self.old u) (slice_index other.now u) }
@@ -67,6 +87,19 @@ impl Clock {
     {
         self.known[thread] = number + 1;
     }
+}
+
+/// For how many threads there are numbers: one more than the last thread whose number is not 0.
+fn width(known: &[u32; 64]) -> usize
+    ensures small { result ≤ 64 }
+    ensures rest { (u : ℕ) → result ≤ u → slice_index known.now u ≡ 0 }
+{
+    let mut width: u32 = 0;
+    for t in 0..64 {
+        // A greatest number, and no way out before the end, lets the compiler look at several numbers at once.
+        width = width.max(if known[t as usize] == 0 { 0 } else { t + 1 });
+    }
+    width as usize
 }
 
 fn join_arrays(known: &mut [u32; 64], other: &[u32; 64])

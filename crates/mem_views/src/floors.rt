@@ -54,7 +54,7 @@ pub fn fences_before(rows: &Rows, order: Order, limit: u32) -> Clock
     if limit == 0 {
         return Clock::new();
     }
-    rows.before.of(limit)
+    rows.before.of(limit).unwrap_or(Clock::new())
 }
 
 /// The greatest of the positions of three kinds, or 0.

@@ -1,16 +1,22 @@
 // What an event takes, gains and gives.
-ghost use Rattle.std.specs.Prelude.{◌≡◌, ℕ, if◌then◌else◌, slice_index};
+ghost use Rattle.std.specs.Prelude.{◌≡◌, ℕ, if◌then◌else◌, max, slice_index};
 ghost use Rattle.mem_axioms.specs.Events.{position_taken, order_of};
 ghost use Rattle.mem_axioms.specs.Synchronizes.{acquires};
-ghost use Rattle.mem_views.specs.Tables.{table_at};
+ghost use Rattle.mem_views.specs.Knowing.{known_by};
+ghost use Rattle.mem_views.specs.Tables.{row_at};
+ghost use Rattle.mem_views.specs.CellClocks.{released_at};
 ghost use Rattle.mem_views.specs.RowsAdded.{row_gains};
 ghost use Rattle.mem_views.specs.Gaining.{takes_atomic, given_of};
 
-use crate::cell::CellViews;
+use crate::cell::{CellViews, number_at};
 use crate::clock::Clock;
+use crate::clock_list::ClockList;
 use crate::event_facts::{acquire, atomic, order_in, release, taken_by};
+use crate::kept_clocks::clock_under;
 use crate::rows::Rows;
+use crate::thread_clocks::ThreadClocks;
 use mem_axioms::{Event, Kind, Mode};
+use mu_base::Order;
 
 /// Whether the event is an atomic read or update.
 fn loads_atomically(event: &Event) -> bool
@@ -24,48 +30,80 @@ fn loads_atomically(event: &Event) -> bool
 
 /// What an access of the cell leaves for a later acquire fence of its thread: an atomic read or update leaves what the
 /// position that it takes releases.
-pub fn taken_from(kept: &CellViews, event: &Event) -> Clock
-    ensures { (u : ℕ) → slice_index result u ≡ (if takes_atomic event.now then table_at kept.now.released (position_taken event.now) u else 0) }
+pub fn taken_from(clocks: &ClockList, kept: &CellViews, event: &Event) -> Option<Clock>
+    ensures { (u : ℕ) → known_by result u ≡ (if takes_atomic event.now then released_at clocks.now kept.now (position_taken event.now) u else 0) }
 {
     if loads_atomically(event) {
-        kept.released.of(taken_by(event))
+        clock_under(clocks, number_at(&kept.released, taken_by(event)))
     } else {
-        Clock::new()
+        None
     }
 }
 
-/// The clock if the event is an acquire.
-fn if_acquired(event: &Event, clock: &Clock) -> Clock
-    ensures { (u : ℕ) → slice_index result u ≡ (if acquires (order_of event.now) then slice_index clock.now u else 0) }
+/// What is kept is gained, where anything is.
+fn gain_kept(clock: &mut Clock, kept: &Option<Clock>)
+    ensures { (u : ℕ) → slice_index clock.new u ≡ max (slice_index clock.old u) (known_by kept.now u) }
 {
-    if acquire(order_in(event)) {
-        *clock
-    } else {
-        Clock::new()
+    if let Some(kept) = kept {
+        clock.join(kept);
     }
 }
 
-/// What an event gains: an acquire what it took, or its thread's earlier reads took, an Enter what the stack carries, and a
-/// Woken what the wake knew.
-pub fn gained_by(rows: &Rows, event: &Event, taken: &Clock) -> Clock
-    ensures { (u : ℕ) → slice_index result u ≡ row_gains rows.now taken.now event.now u }
+/// An acquire gains what it took.
+fn gain_taken(clock: &mut Clock, order: Order, taken: &Option<Clock>)
+    ensures { (u : ℕ) → slice_index clock.new u ≡ max (slice_index clock.old u) (if acquires order then known_by taken.now u else 0) }
+{
+    if acquire(order) {
+        gain_kept(clock, taken);
+    }
+}
+
+/// An acquire fence gains what its thread's earlier reads took.
+fn gain_pending(clock: &mut Clock, order: Order, pending: &ThreadClocks, thread: u32)
+    ensures { (u : ℕ) → slice_index clock.new u ≡ max (slice_index clock.old u) (if acquires order then row_at pending.now thread u else 0) }
+{
+    if acquire(order) {
+        clock.join(pending.of(thread));
+    }
+}
+
+/// Joins to a clock what an event gains: an acquire what it took, or its thread's earlier reads took, an Enter what the stack
+/// carries, and a Woken what the wake knew.
+pub fn gain(clock: &mut Clock, rows: &Rows, event: &Event, taken: &Option<Clock>)
+    ensures { (u : ℕ) → slice_index clock.new u ≡ max (slice_index clock.old u) (row_gains rows.now taken.now event.now u) }
 {
     match event.kind {
-        Kind::Access { .. } => if_acquired(event, taken),
-        Kind::Fence { .. } => if_acquired(event, &rows.pending.of(event.thread)),
-        Kind::Enter { stack } => rows.left.of(stack),
-        Kind::Woken { wake } => rows.wakes.of(wake),
-        _ => Clock::new(),
+        Kind::Access { order, .. } => gain_taken(clock, order, taken),
+        Kind::Fence { order } => gain_pending(clock, order, &rows.pending, event.thread),
+        Kind::Enter { stack } => gain_kept(clock, &rows.left.of(stack)),
+        Kind::Woken { wake } => gain_kept(clock, &rows.wakes.of(wake)),
+        _ => {}
     }
 }
 
-/// What an event gives to the release sequences that it heads.
-pub fn given_by(event: &Event, clock: &Clock, fenced: &Clock) -> Clock
-    ensures { (u : ℕ) → slice_index result u ≡ given_of event.now clock.now fenced.now u }
+/// The clock, if it knows anything.
+fn if_something(clock: &Clock) -> Option<Clock>
+    ensures { (u : ℕ) → known_by result u ≡ slice_index clock.now u }
+{
+    if clock.is_nothing() {
+        None
+    } else {
+        Some(*clock)
+    }
+}
+
+/// What an event gives to the release sequences that it heads, where it knows a clock and its thread knew another at its
+/// last release fence.
+pub fn given_by(event: &Event, clock: &Clock, fenced: &Clock) -> Option<Clock>
+    ensures { (u : ℕ) → known_by result u ≡ given_of event.now clock.now fenced.now u }
 {
     let order = order_in(event);
     if !atomic(order) {
-        return Clock::new();
+        return None;
     }
-    if release(order) { *clock } else { *fenced }
+    if release(order) {
+        Some(*clock)
+    } else {
+        if_something(fenced)
+    }
 }

@@ -19,10 +19,28 @@ pub fn reserve(
     ensures there { OnOk result (thread < length indexes.new.items) }
     ensures room { OnOk result (count ≤ (index_at indexes.new.items thread).spare) }
 {
-    while indexes.len() <= thread {
-        indexes.push(AccessIndex::new(alloc))?;
-    }
+    make_indexes(indexes, alloc, thread)?;
     reserve_at(indexes, thread, count)
+}
+
+/// Makes the indexes up to that of a thread. Their list takes exactly what they need, since it grows at most once for each
+/// of 64 threads.
+fn make_indexes(
+    indexes: &mut Vec<AccessIndex>,
+    alloc: Global,
+    thread: usize,
+) -> Result<(), AllocError>
+    requires { thread < 64 }
+    ensures same { (u : ℕ) → accesses_at indexes.new.items u ≡ accesses_at indexes.old.items u }
+    ensures spare { (u : ℕ) → (index_at indexes.old.items u).spare ≤ (index_at indexes.new.items u).spare }
+    ensures len { length indexes.old.items ≤ length indexes.new.items }
+    ensures there { OnOk result (thread < length indexes.new.items) }
+{
+    indexes.reserve_exact((thread + 1).saturating_sub(indexes.len()))?;
+    while indexes.len() <= thread {
+        indexes.push_reserved(AccessIndex::new(alloc));
+    }
+    Ok(())
 }
 
 fn reserve_at(indexes: &mut Vec<AccessIndex>, thread: usize, count: usize) -> Result<(), AllocError>

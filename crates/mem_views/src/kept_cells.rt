@@ -1,19 +1,24 @@
 // What is kept of the touched cells, each at its place.
-ghost use Rattle.std.specs.Prelude.{◌≡◌, ℕ, suc, ◌+◌, ◌<◌, ◌≤◌, true, false, List, ◌∷◌, length, slice_index, slice_index_or, OnOk, IfOk};
+ghost use Rattle.std.specs.Prelude.{◌≡◌, ℕ, suc, ◌+◌, ◌<◌, ◌≤◌, true, false, List, ◌∷◌, length, slice_index_or, OnOk, IfOk};
 ghost use Rattle.typed_heap.specs.declared.cells.CellId.{CellId};
-ghost use Rattle.mem_axioms.specs.Events.{accesses};
+ghost use Rattle.mem_axioms.specs.Events.{accesses, is_modification, position_of};
 ghost use Rattle.mem_axioms.specs.declared.types.Rule.{Rule};
 ghost use Rattle.mem_axioms.specs.declared.types.Event.{Event};
 ghost use Rattle.clock_laws.specs.Clocks.{views, gives};
+ghost use Rattle.mem_views.specs.Knowing.{known_by};
+ghost use Rattle.mem_views.specs.Spans.{Spans};
+ghost use Rattle.mem_views.specs.CellClocks.{Named};
 ghost use Rattle.mem_views.specs.Placing.{place_in};
 ghost use Rattle.mem_views.specs.CellAdded.{CellRoom, CellBelow};
 ghost use Rattle.mem_views.specs.CellRooms.{CellRoomAt};
 ghost use Rattle.mem_views.specs.AddedAt.{AddedAt, CanAdd};
 ghost use Rattle.mem_views.specs.Roominess.{CellFits};
 ghost use Rattle.mem_views.specs.Holding.{CellsHold};
+ghost use Rattle.mem_views.specs.declared.cell.CellViews.{CellViews};
 
 use crate::cell::CellViews;
 use crate::clock::Clock;
+use crate::clock_list::ClockList;
 use crate::event_facts::cell_of;
 use crate::places::Places;
 use mem_axioms::{Event, Rule};
@@ -25,39 +30,47 @@ fn add_at(
     kept: &mut Vec<CellViews>,
     place: usize,
     rule: Rule,
+    clocks: &mut ClockList,
     event: &Event,
     number: u32,
-    given: &Clock,
+    given: &Option<Clock>,
 )
     requires number { number < 4294967295 }
+    requires clocks { 2 ≤ clocks.old.spare }
+    requires named { (d : CellViews) → Named clocks.old (slice_index_or kept.old.items place d) }
     requires there { place < length kept.old.items }
     requires room { (d : CellViews) → CellRoom 1 event.now.thread (slice_index_or kept.old.items place d) }
     requires below { (d : CellViews) → CellBelow (suc number) event.now.thread (slice_index_or kept.old.items place d) }
+    requires next { (d : CellViews) → is_modification event.now ≡ true → position_of event.now ≡ length (slice_index_or kept.old.items place d).released.items }
     requires few { (d : CellViews) → length (slice_index_or kept.old.items place d).history.values < 4294967295 }
-    ensures { AddedAt rule kept.old.items kept.new.items place number event.now given.now }
+    ensures added { AddedAt rule clocks.old clocks.new kept.old.items kept.new.items place number event.now given.now }
+    ensures clocks { clocks.old.spare ≤ clocks.new.spare + 2 }
 {
-    kept[place].add(rule, event, number, given);
+    kept[place].add(rule, clocks, event, number, given);
 }
 
 /// Adds an event to what is kept of the cell that it accesses.
 pub fn add_access(
     rule: Rule,
+    clocks: &mut ClockList,
     places: &Places,
     kept: &mut Vec<CellViews>,
     event: &Event,
     number: u32,
-    given: &Clock,
+    given: &Option<Clock>,
 )
     requires number { number < 4294967295 }
-    requires can { (cell : CellId) → accesses cell event.now ≡ true → CanAdd number event.now places.now.objects.items kept.old.items cell }
-    ensures holds { (log : List Event) → number ≡ length log → ((u : ℕ) → slice_index given.now u ≡ gives (views rule log) number event.now u) → CellsHold rule log places.now.objects.items kept.old.items → CellsHold rule (event.now ∷ log) places.now.objects.items kept.new.items }
+    requires clocks { 2 ≤ clocks.old.spare }
+    requires can { (cell : CellId) → accesses cell event.now ≡ true → CanAdd number event.now clocks.old places.now.objects.items kept.old.items cell }
+    ensures holds { (log : List Event) → number ≡ length log → ((u : ℕ) → known_by given.now u ≡ gives (views rule log) number event.now u) → CellsHold rule log clocks.old places.now.objects.items kept.old.items → CellsHold rule (event.now ∷ log) clocks.new places.now.objects.items kept.new.items }
+    ensures clocks { clocks.old.spare ≤ clocks.new.spare + 2 }
     ensures room { (count : ℕ) (cell : CellId) → accesses cell event.now ≡ true → CellRoomAt (count + 1) event.now.thread places.now.objects.items kept.old.items cell → CellRoomAt count event.now.thread places.now.objects.items kept.new.items cell }
     ensures same { ((cell : CellId) → accesses cell event.now ≡ false) → kept.new.items ≡ kept.old.items }
     ensures len { length kept.new.items ≡ length kept.old.items }
 {
     if let Some(cell) = cell_of(event) {
         if let Some(place) = places.find(cell) {
-            add_at(kept, place, rule, event, number, given);
+            add_at(kept, place, rule, clocks, event, number, given);
         }
     }
 }
@@ -72,7 +85,7 @@ fn make_place(
     requires placed { length places.old.owners.items ≡ length kept.old.items }
     requires none { place_in places.old.objects.items cell ≡ 0 }
     ensures placed { length places.new.owners.items ≡ length kept.new.items }
-    ensures holds { (rule : Rule) (log : List Event) → CellsHold rule log places.old.objects.items kept.old.items → CellsHold rule log places.new.objects.items kept.new.items }
+    ensures holds { (rule : Rule) (log : List Event) (clocks : Spans) → CellsHold rule log clocks places.old.objects.items kept.old.items → CellsHold rule log clocks places.new.objects.items kept.new.items }
     ensures touched { OnOk result (0 < place_in places.new.objects.items cell) }
 {
     let fresh = CellViews::new(alloc)?;
@@ -91,7 +104,7 @@ fn touch(
 ) -> Result<(), AllocError>
     requires placed { length places.old.owners.items ≡ length kept.old.items }
     ensures placed { length places.new.owners.items ≡ length kept.new.items }
-    ensures holds { (rule : Rule) (log : List Event) → CellsHold rule log places.old.objects.items kept.old.items → CellsHold rule log places.new.objects.items kept.new.items }
+    ensures holds { (rule : Rule) (log : List Event) (clocks : Spans) → CellsHold rule log clocks places.old.objects.items kept.old.items → CellsHold rule log clocks places.new.objects.items kept.new.items }
     ensures touched { OnOk result (0 < place_in places.new.objects.items cell) }
 {
     match places.find(cell) {
@@ -113,13 +126,22 @@ fn reserve(
     requires placed { length places.now.owners.items ≡ length kept.old.items }
     requires touched { 0 < place_in places.now.objects.items cell }
     ensures placed { length places.now.owners.items ≡ length kept.new.items }
-    ensures holds { (rule : Rule) (log : List Event) → CellsHold rule log places.now.objects.items kept.old.items → CellsHold rule log places.now.objects.items kept.new.items }
+    ensures holds { (rule : Rule) (log : List Event) (clocks : Spans) → CellsHold rule log clocks places.now.objects.items kept.old.items → CellsHold rule log clocks places.now.objects.items kept.new.items }
     ensures room { OnOk result (CellRoomAt count thread places.now.objects.items kept.new.items cell) }
 {
     let Some(place) = places.find(cell) else {
         unreachable!()
     };
     kept[place].reserve(alloc, thread, count)
+}
+
+/// Makes room for the clocks of that many events: for each what its position releases, and what its own sequences do.
+pub fn reserve_clocks(clocks: &mut ClockList, events: u32) -> Result<(), AllocError>
+    ensures holds { (rule : Rule) (log : List Event) (numbers : List (List ℕ)) (kept : List CellViews) → CellsHold rule log clocks.old numbers kept → CellsHold rule log clocks.new numbers kept }
+    ensures room { OnOk result (events + events ≤ clocks.new.spare) }
+    ensures spare { clocks.old.spare ≤ clocks.new.spare }
+{
+    clocks.reserve(events as usize + events as usize)
 }
 
 /// Makes room for that many accesses by a thread of a cell, if there is one. A number of 64 or more is no thread's, and
@@ -134,7 +156,7 @@ pub fn reserve_step(
 ) -> Result<(), AllocError>
     requires placed { length places.old.owners.items ≡ length kept.old.items }
     ensures placed { length places.new.owners.items ≡ length kept.new.items }
-    ensures holds { (rule : Rule) (log : List Event) → CellsHold rule log places.old.objects.items kept.old.items → CellsHold rule log places.new.objects.items kept.new.items }
+    ensures holds { (rule : Rule) (log : List Event) (clocks : Spans) → CellsHold rule log clocks places.old.objects.items kept.old.items → CellsHold rule log clocks places.new.objects.items kept.new.items }
     ensures room { OnOk result (CellFits (record { thread = thread; cell = cell; events = events }) places.new.objects.items kept.new.items) }
 {
     let Some(accessed) = cell else {

@@ -1,17 +1,19 @@
 // What threads, stacks, wakes and fences know.
-ghost use Rattle.std.specs.Prelude.{◌≡◌, ℕ, suc, ◌+◌, ◌-◌, ◌*◌, ◌<◌, ◌≤◌, ◌==◌, ◌&&◌, ◌∷◌, All, if◌then◌else◌, max, length, slice_index, OnOk, [], List};
+ghost use Rattle.std.specs.Prelude.{◌≡◌, ℕ, suc, ◌+◌, ◌<◌, ◌≤◌, ◌==◌, ◌&&◌, ◌∷◌, All, if◌then◌else◌, max, length, slice_index, OnOk, [], List, true};
 ghost use Rattle.mem_axioms.specs.Events.{order_of, is_fence, is_seq_cst_fence, is_wake};
 ghost use Rattle.mem_axioms.specs.Synchronizes.{releases, gives_up, makes_thread};
 ghost use Rattle.mem_axioms.specs.declared.types.Rule.{Rule};
 ghost use Rattle.mem_axioms.specs.declared.types.Event.{Event};
-ghost use Rattle.clock_laws.specs.Clocks.{bump, join};
-ghost use Rattle.mem_views.specs.Tables.{table_at};
+ghost use Rattle.mem_views.specs.Knowing.{known_by};
+ghost use Rattle.mem_views.specs.Tables.{table_at, row_at};
 ghost use Rattle.mem_views.specs.Indexed.{index_at, accesses_at};
 
 use crate::clock::Clock;
+use crate::event_clocks::EventClocks;
 use crate::event_facts::{fence, order_in, release, seq_cst_fence};
 use crate::indexes;
 use crate::tables::ClockTable;
+use crate::thread_clocks::ThreadClocks;
 use mem_axioms::{Event, Kind};
 use std::alloc::{AllocError, Global};
 use write_history::AccessIndex;
@@ -20,17 +22,17 @@ use write_history::AccessIndex;
 #[derive(Drop)]
 pub struct Rows {
     /// What each thread knows.
-    pub threads: ClockTable,
+    pub threads: ThreadClocks,
     /// What a stack's last leaving or making knew.
     pub left: ClockTable,
     /// What each wake knew, by its number.
-    pub wakes: ClockTable,
+    pub wakes: EventClocks,
     /// What each thread knew at its last release fence.
-    pub fenced: ClockTable,
+    pub fenced: ThreadClocks,
     /// What an acquire fence of each thread takes.
-    pub pending: ClockTable,
+    pub pending: ThreadClocks,
     /// What the SEQ_CST fences before each SEQ_CST fence knew, by its number.
-    pub before: ClockTable,
+    pub before: EventClocks,
     /// What all SEQ_CST fences knew.
     pub joined: Clock,
     /// The SEQ_CST fences of each thread.
@@ -44,32 +46,14 @@ pub struct Rows {
 // How many fences more than were asked for room is made for.
 const MORE_FENCES: usize = 64;
 
-/// A thread takes a clock, and then has its next event. Gives what it knows from then on.
-fn advance(threads: &mut ClockTable, thread: u32, gained: &Clock, number: u32) -> Clock
-    requires thread { thread < 64 }
-    requires number { number < 4294967295 }
-    requires room { 0 < threads.old.spare }
-    ensures known { (u : ℕ) → slice_index result u ≡ bump (join (table_at threads.old thread) (slice_index gained.now)) thread number u }
-    ensures put { (t u : ℕ) → table_at threads.new t u ≡ (if t == thread then slice_index result u else table_at threads.old t u) }
-    ensures spare { threads.old.spare ≤ threads.new.spare + 1 }
-{
-    let mut clock = threads.of(thread);
-    clock.join(gained);
-    clock.set(thread as usize, number);
-    threads.put(thread, &clock);
-    clock
-}
-
 /// A thread that the event makes takes the clock of the event.
-fn start(threads: &mut ClockTable, event: &Event, clock: &Clock)
-    requires room { 0 < threads.old.spare }
-    ensures put { (t u : ℕ) → table_at threads.new t u ≡ (if makes_thread t event.now then max (table_at threads.old t u) (slice_index clock.now u) else table_at threads.old t u) }
-    ensures spare { threads.old.spare ≤ threads.new.spare + 1 }
+fn start(threads: &mut ThreadClocks, event: &Event, clock: &Clock)
+    requires child { (t : ℕ) → makes_thread t event.now ≡ true → t < length threads.old }
+    ensures joined { (t u : ℕ) → row_at threads.new t u ≡ (if makes_thread t event.now then max (row_at threads.old t u) (slice_index clock.now u) else row_at threads.old t u) }
+    ensures len { length threads.new ≡ length threads.old }
 {
     if let Kind::NewThread { child } = event.kind {
-        let mut known = threads.of(child);
-        known.join(clock);
-        threads.put(child, &known);
+        threads.join(child, clock);
     }
 }
 
@@ -87,7 +71,7 @@ fn leave(left: &mut ClockTable, event: &Event, clock: &Clock)
 }
 
 /// A wake keeps its clock.
-fn wake(wakes: &mut ClockTable, event: &Event, number: u32, clock: &Clock)
+fn wake(wakes: &mut EventClocks, event: &Event, number: u32, clock: &Clock)
     requires room { 0 < wakes.old.spare }
     ensures put { (i u : ℕ) → table_at wakes.new i u ≡ (if is_wake event.now && (i == number) then slice_index clock.now u else table_at wakes.old i u) }
     ensures spare { wakes.old.spare ≤ wakes.new.spare + 1 }
@@ -98,32 +82,29 @@ fn wake(wakes: &mut ClockTable, event: &Event, number: u32, clock: &Clock)
 }
 
 /// A release fence keeps its clock for its thread.
-fn fence_off(fenced: &mut ClockTable, event: &Event, clock: &Clock)
-    requires room { 0 < fenced.old.spare }
-    ensures put { (t u : ℕ) → table_at fenced.new t u ≡ (if (t == event.now.thread) && (is_fence event.now && releases (order_of event.now)) then slice_index clock.now u else table_at fenced.old t u) }
-    ensures spare { fenced.old.spare ≤ fenced.new.spare + 1 }
+fn fence_off(fenced: &mut ThreadClocks, event: &Event, clock: &Clock)
+    requires there { event.now.thread < length fenced.old }
+    ensures set { (t u : ℕ) → row_at fenced.new t u ≡ (if (t == event.now.thread) && (is_fence event.now && releases (order_of event.now)) then slice_index clock.now u else row_at fenced.old t u) }
+    ensures len { length fenced.new ≡ length fenced.old }
 {
     if fence(event) && release(order_in(event)) {
-        fenced.put(event.thread, clock);
+        fenced.set(event.thread, clock);
     }
 }
 
 /// What a thread took stays for its next acquire fence.
-fn pend(pending: &mut ClockTable, thread: u32, taken: &Clock)
-    requires room { 0 < pending.old.spare }
-    ensures put { (t u : ℕ) → table_at pending.new t u ≡ (if t == thread then max (table_at pending.old t u) (slice_index taken.now u) else table_at pending.old t u) }
-    ensures spare { pending.old.spare ≤ pending.new.spare + 1 }
+fn pend(pending: &mut ThreadClocks, thread: u32, taken: &Option<Clock>)
+    requires there { thread < length pending.old }
+    ensures joined { (t u : ℕ) → row_at pending.new t u ≡ (if t == thread then max (row_at pending.old t u) (known_by taken.now u) else row_at pending.old t u) }
+    ensures len { length pending.new ≡ length pending.old }
 {
-    if taken.is_nothing() {
-        return;
+    if let Some(taken) = taken {
+        pending.join(thread, taken);
     }
-    let mut clock = pending.of(thread);
-    clock.join(taken);
-    pending.put(thread, &clock);
 }
 
 /// A SEQ_CST fence keeps what those before it knew.
-fn keep_joined(before: &mut ClockTable, event: &Event, number: u32, joined: &Clock)
+fn keep_joined(before: &mut EventClocks, event: &Event, number: u32, joined: &Clock)
     requires room { 0 < before.old.spare }
     ensures put { (a u : ℕ) → table_at before.new a u ≡ (if is_seq_cst_fence event.now && (a == number) then slice_index joined.now u else table_at before.old a u) }
     ensures spare { before.old.spare ≤ before.new.spare + 1 }
@@ -177,20 +158,20 @@ impl Rows {
 
     /// Rows that know nothing.
     pub fn new(alloc: Global) -> Rows
-        ensures threads { (t u : ℕ) → table_at result.threads t u ≡ 0 }
+        ensures threads { (t u : ℕ) → row_at result.threads t u ≡ 0 }
         ensures left { (s u : ℕ) → table_at result.left s u ≡ 0 }
-        ensures fenced { (t u : ℕ) → table_at result.fenced t u ≡ 0 }
-        ensures pending { (t u : ℕ) → table_at result.pending t u ≡ 0 }
+        ensures fenced { (t u : ℕ) → row_at result.fenced t u ≡ 0 }
+        ensures pending { (t u : ℕ) → row_at result.pending t u ≡ 0 }
         ensures joined { (u : ℕ) → slice_index result.joined u ≡ 0 }
         ensures fences { (u : ℕ) → accesses_at result.fences.items u ≡ [] }
     {
         Rows {
-            threads: ClockTable::new(alloc),
+            threads: ThreadClocks::new(alloc),
             left: ClockTable::new(alloc),
-            wakes: ClockTable::new(alloc),
-            fenced: ClockTable::new(alloc),
-            pending: ClockTable::new(alloc),
-            before: ClockTable::new(alloc),
+            wakes: EventClocks::new(alloc),
+            fenced: ThreadClocks::new(alloc),
+            pending: ThreadClocks::new(alloc),
+            before: EventClocks::new(alloc),
             joined: Clock::new(),
             fences: Vec::new(alloc),
             fence_room: 0,
@@ -204,11 +185,11 @@ impl Rows {
         ensures room { OnOk result (RowsRoom count self.new) }
     {
         let count = count as usize;
-        self.threads.reserve(count + count)?;
+        self.threads.reserve()?;
+        self.fenced.reserve()?;
+        self.pending.reserve()?;
         self.left.reserve(count)?;
         self.wakes.reserve(count)?;
-        self.fenced.reserve(count)?;
-        self.pending.reserve(count)?;
         self.before.reserve(count)?;
         if self.fence_room < count {
             reserve_all(&mut self.fences, alloc, count + MORE_FENCES)?;
@@ -217,25 +198,25 @@ impl Rows {
         Ok(())
     }
 
-    /// Adds an event with its number, what it gained and what it took. Gives what it knows.
-    pub fn add(&mut self, event: &Event, number: u32, gained: &Clock, taken: &Clock) -> Clock
+    /// Adds an event with its number, what it knows, and what it took.
+    pub fn add(&mut self, event: &Event, number: u32, clock: &Clock, taken: &Option<Clock>)
         requires thread { event.now.thread < 64 }
+        requires child { (t : ℕ) → makes_thread t event.now ≡ true → t < 64 }
         requires number { number < 4294967295 }
         requires room { RowsRoom 1 self.old }
         requires above { All (λ entry. entry.event < suc number) (accesses_at self.old.fences.items event.now.thread) }
-        ensures added { RowsAdded self.old self.new number event.now gained.now taken.now result }
+        ensures added { RowsAdded self.old self.new number event.now clock.now taken.now }
         ensures room { (count : ℕ) → RowsRoom (count + 1) self.old → RowsRoom count self.new }
     {
-        let clock = advance(&mut self.threads, event.thread, gained, number);
-        start(&mut self.threads, event, &clock);
-        leave(&mut self.left, event, &clock);
-        wake(&mut self.wakes, event, number, &clock);
-        fence_off(&mut self.fenced, event, &clock);
+        self.threads.set(event.thread, clock);
+        start(&mut self.threads, event, clock);
+        leave(&mut self.left, event, clock);
+        wake(&mut self.wakes, event, number, clock);
+        fence_off(&mut self.fenced, event, clock);
         pend(&mut self.pending, event.thread, taken);
         keep_joined(&mut self.before, event, number, &self.joined);
-        join_fence(&mut self.joined, event, &clock);
+        join_fence(&mut self.joined, event, clock);
         index_fence(&mut self.fences, event, number);
         self.fence_room = self.fence_room.saturating_sub(1);
-        clock
     }
 }

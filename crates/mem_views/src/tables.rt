@@ -1,5 +1,6 @@
 // Clocks by number, made as they are needed.
 ghost use Rattle.std.specs.Prelude.{◌≡◌, ℕ, ◌+◌, ◌<◌, ◌≤◌, ◌==◌, cond, slice_index, OnOk};
+ghost use Rattle.mem_views.specs.Knowing.{known_by};
 ghost use Rattle.mem_views.specs.Tables.{table_at};
 
 use crate::clock::Clock;
@@ -41,16 +42,12 @@ impl ClockTable {
         self.clocks.reserve(count)
     }
 
-    /// Keeps a clock under a number. One that knows nothing takes no memory.
+    /// Keeps a clock under a number, in the place of one that was there.
     pub fn put(&mut self, number: u32, clock: &Clock)
         requires { 0 < self.old.spare }
         ensures put { (k u : ℕ) → table_at self.new k u ≡ cond (k == number) (slice_index clock.now u) (table_at self.old k u) }
         ensures spare { self.old.spare ≤ self.new.spare + 1 }
     {
-        if clock.is_nothing() {
-            self.clocks.remove(&number);
-            return;
-        }
         if let Some(kept) = self.clocks.get_mut(&number) {
             *kept = *clock;
             return;
@@ -59,24 +56,10 @@ impl ClockTable {
         kept.unwrap();
     }
 
-    /// The clock under a number.
-    pub fn of(&self, number: u32) -> Clock
-        ensures { (u : ℕ) → slice_index result u ≡ table_at self.now number u }
+    /// The clock under a number, if one is kept.
+    pub fn of(&self, number: u32) -> Option<Clock>
+        ensures { (u : ℕ) → known_by result u ≡ table_at self.now number u }
     {
-        if self.clocks.is_empty() {
-            return Clock::new();
-        }
-        match self.clocks.get(&number) {
-            Some(clock) => *clock,
-            None => Clock::new(),
-        }
-    }
-
-    /// Forgets all clocks.
-    pub fn clear(&mut self)
-        ensures nothing { (k u : ℕ) → table_at self.new k u ≡ 0 }
-        ensures spare { self.old.spare ≤ self.new.spare }
-    {
-        self.clocks.clear();
+        self.clocks.get(&number).copied()
     }
 }

@@ -1,5 +1,5 @@
 // The memory of histories and clocks.
-ghost use Rattle.std.specs.Prelude.{◌≡◌, ℕ, ◌+◌, ◌*◌, ◌^◌, ◌<◌, ◌≤◌, true, false, None, Some, List, [], ◌∷◌, ◌++◌, map, length, slice_index, slice_get, vec_len, vec_capacity, OnOk, OnErr, MatchOption, IsNone, IsSome};
+ghost use Rattle.std.specs.Prelude.{◌≡◌, ℕ, ◌+◌, ◌*◌, ◌^◌, ◌<◌, ◌≤◌, true, false, None, Some, List, [], ◌∷◌, ◌++◌, map, length, slice_index, slice_get, vec_len, vec_capacity, OnOk, OnErr, MatchOption, IsNone, IsSome, IfSome};
 ghost use Rattle.mem_axioms.specs.Events.{accesses, is_seq_cst};
 ghost use Rattle.mem_axioms.specs.Logs.{newest};
 ghost use Rattle.mem_axioms.specs.Form.{value_at};
@@ -13,9 +13,10 @@ ghost use Rattle.mem_axioms.specs.Rooms.{HasRoom, one_less};
 ghost use Rattle.mem_axioms.specs.Scalars.{scalars_of};
 ghost use Rattle.mem_axioms.specs.declared.types.Event.{Event};
 ghost use Rattle.mem_axioms.specs.declared.types.Kind.TheVariants.{NewThread};
-ghost use Rattle.clock_laws.specs.Clocks.{views, gains, pends};
+ghost use Rattle.clock_laws.specs.Clocks.{views, knew, knows, pends};
 ghost use Rattle.clock_laws.specs.ViewFloor.{view_limit};
-ghost use Rattle.mem_views.specs.Holding.{LogHolds, MadeHolds, RowsHold, CellHolds, CellsHold, IsUntouched};
+ghost use Rattle.mem_views.specs.Knowing.{known_by};
+ghost use Rattle.mem_views.specs.Holding.{LogHolds, MadeHolds, RowsHold, CellHolds, ClocksHold, CellsHold, IsUntouched};
 ghost use Rattle.mem_views.specs.RowsAdded.{RowsRoom};
 ghost use Rattle.mem_views.specs.Roominess.{CellFits};
 ghost use Rattle.mem_views.specs.Answers.{IsKnown};
@@ -25,9 +26,10 @@ ghost use Rattle.mem_axioms.proofs.Downward.{below};
 
 use crate::cell::CellViews;
 use crate::clock::Clock;
+use crate::clock_list::ClockList;
 use crate::event_facts::{cell_of, is_same_scalar, seq_cst};
 use crate::floors::{fences_before, found_floor, greatest_of_kinds, last_fence};
-use crate::gains::{gained_by, given_by, taken_from};
+use crate::gains::{gain, given_by, taken_from};
 use crate::kept_cells;
 use crate::places::Places;
 use crate::racing::first_racing;
@@ -54,6 +56,8 @@ pub struct ViewMemory {
     // The threads of the run, once there was room for an event.
     made: Vec<u32>,
     rows: Rows,
+    // The clocks of positions and sequences, which the cells name by numbers.
+    clocks: ClockList,
     places: Places,
     // What is kept of each touched cell, by its place.
     kept: Vec<CellViews>,
@@ -63,11 +67,12 @@ pub struct ViewMemory {
     ghost log_holds: { LogHolds rule (scalars_of objects.items) tape.events },
     ghost made_holds: { MadeHolds made.items tape.events },
     ghost rows_hold: { RowsHold rule tape.events rows },
-    ghost cells_hold: { CellsHold rule tape.events places.objects.items kept.items },
+    ghost cells_hold: { CellsHold rule tape.events clocks places.objects.items kept.items },
     ghost tape_fits: { room.events ≤ tape.spare },
     ghost made_fits: { vec_len made + room.events ≤ vec_capacity made },
     ghost made_some: { 0 < room.events → 0 < length made.items },
     ghost rows_fit: { RowsRoom room.events rows },
+    ghost clocks_fit: { room.events + room.events ≤ clocks.spare },
     ghost cell_fits: { CellFits room places.objects.items kept.items },
 }
 
@@ -111,6 +116,7 @@ impl ViewMemory {
             next: 0,
             made: Vec::new(alloc),
             rows: Rows::new(alloc),
+            clocks: ClockList::new(alloc),
             places: Places::new(alloc),
             kept: Vec::new(alloc),
             room: Room {
@@ -123,7 +129,8 @@ impl ViewMemory {
 
     /// What is kept of a cell, if it was touched.
     fn views_of(&self, cell: CellId) -> Option<&CellViews>
-        ensures { MatchOption result (IsUntouched self.now.tape.events cell) (λ kept. CellHolds self.now.rule self.now.tape.events cell kept.now) }
+        ensures views { MatchOption result (IsUntouched self.now.tape.events cell) (λ kept. CellHolds self.now.tape.events cell kept.now) }
+        ensures clocks { IfSome result (λ kept. ClocksHold self.now.rule self.now.tape.events self.now.clocks cell kept.now) }
     {
         match self.places.find(cell) {
             Some(place) => Some(&self.kept[place]),
@@ -132,31 +139,29 @@ impl ViewMemory {
     }
 
     /// What an event leaves for a later acquire fence of its thread.
-    fn taken(&self, event: &Event) -> Clock
-        ensures { (u : ℕ) → slice_index result u ≡ pends (views self.now.rule self.now.tape.events) event.now u }
+    fn taken(&self, event: &Event) -> Option<Clock>
+        ensures { (u : ℕ) → known_by result u ≡ pends (views self.now.rule self.now.tape.events) event.now u }
     {
-        let Some(cell) = cell_of(event) else {
-            return Clock::new();
-        };
-        match self.views_of(cell) {
-            Some(kept) => taken_from(kept, event),
-            None => Clock::new(),
-        }
+        let cell = cell_of(event)?;
+        let kept = self.views_of(cell)?;
+        taken_from(&self.clocks, kept, event)
     }
 
-    /// What an event gains.
-    fn gained(&self, event: &Event, taken: &Clock) -> Clock
+    /// What happens before an event, with what it gains.
+    fn known_before(&self, event: &Event, taken: &Option<Clock>) -> Clock
         requires fits { EventFits self.now.rule (scalars_of self.now.objects.items) self.now.tape.events event.now }
-        requires taken { (u : ℕ) → slice_index taken.now u ≡ pends (views self.now.rule self.now.tape.events) event.now u }
-        ensures { (u : ℕ) → slice_index result u ≡ gains (views self.now.rule self.now.tape.events) event.now u }
+        requires taken { (u : ℕ) → known_by taken.now u ≡ pends (views self.now.rule self.now.tape.events) event.now u }
+        ensures { (u : ℕ) → slice_index result u ≡ knew (views self.now.rule self.now.tape.events) event.now u }
     {
-        gained_by(&self.rows, event, taken)
+        let mut clock = *self.rows.threads.of(event.thread);
+        gain(&mut clock, &self.rows, event, taken);
+        clock
     }
 
-    /// The least earlier event that races with one that gains a clock.
-    fn race_of<L: Ledger>(&self, event: &Event, gained: &Clock, steps: &mut Steps<L>) -> Option<u32>
+    /// The least earlier event that races with one before which this is known.
+    fn race_of<L: Ledger>(&self, event: &Event, known: &Clock, steps: &mut Steps<L>) -> Option<u32>
         requires fits { EventFits self.now.rule (scalars_of self.now.objects.items) self.now.tape.events event.now }
-        requires gained { (u : ℕ) → slice_index gained.now u ≡ gains (views self.now.rule self.now.tape.events) event.now u }
+        requires known { (u : ℕ) → slice_index known.now u ≡ knew (views self.now.rule self.now.tape.events) event.now u }
         ensures race { result ≡ race self.now.rule self.now.tape.events event.now }
         ensures cost { (d : ℕ) → length self.now.tape.events < 2 ^ d → steps.new ≤ steps.old + search_bound self.now.tape.events d }
     {
@@ -164,7 +169,7 @@ impl ViewMemory {
             return None;
         };
         match self.views_of(cell) {
-            Some(kept) => self.race_in(cell, kept, event, gained, steps),
+            Some(kept) => self.race_in(cell, kept, event, known, steps),
             None => None,
         }
     }
@@ -175,42 +180,40 @@ impl ViewMemory {
         cell: CellId,
         kept: &CellViews,
         event: &Event,
-        gained: &Clock,
+        known: &Clock,
         steps: &mut Steps<L>,
     ) -> Option<u32>
         requires fits { EventFits self.now.rule (scalars_of self.now.objects.items) self.now.tape.events event.now }
         requires access { accesses cell event.now ≡ true }
-        requires holds { CellHolds self.now.rule self.now.tape.events cell kept.now }
-        requires gained { (u : ℕ) → slice_index gained.now u ≡ gains (views self.now.rule self.now.tape.events) event.now u }
+        requires holds { CellHolds self.now.tape.events cell kept.now }
+        requires known { (u : ℕ) → slice_index known.now u ≡ knew (views self.now.rule self.now.tape.events) event.now u }
         ensures race { result ≡ race self.now.rule self.now.tape.events event.now }
         ensures cost { (d : ℕ) → length self.now.tape.events < 2 ^ d → steps.new ≤ steps.old + search_bound self.now.tape.events d }
     {
-        let mut clock = self.rows.threads.of(event.thread);
-        clock.join(gained);
-        match first_racing(kept, &self.made, event, &clock, steps) {
+        match first_racing(kept, &self.made, event, known, steps) {
             Some(first) => Some(first - 1),
             None => None,
         }
     }
 
-    /// Adds an event that races with no earlier one.
-    fn add(&mut self, event: Event, taken: &Clock, gained: &Clock)
+    /// Adds an event that races with no earlier one, with what it knows and what it took.
+    fn add(&mut self, event: Event, clock: &Clock, taken: &Option<Clock>)
         requires fits { EventFits self.old.rule (scalars_of self.old.objects.items) self.old.tape.events event }
         requires alone { race self.old.rule self.old.tape.events event ≡ None }
         requires room { HasRoom self.old.room event }
         requires count { length self.old.tape.events + 1 < 4294967295 }
-        requires taken { (u : ℕ) → slice_index taken.now u ≡ pends (views self.old.rule self.old.tape.events) event u }
-        requires gained { (u : ℕ) → slice_index gained.now u ≡ gains (views self.old.rule self.old.tape.events) event u }
+        requires knows { (u : ℕ) → slice_index clock.now u ≡ knows (views self.old.rule self.old.tape.events) (length self.old.tape.events) event u }
+        requires taken { (u : ℕ) → known_by taken.now u ≡ pends (views self.old.rule self.old.tape.events) event u }
         ensures log { self.new.tape.events ≡ event ∷ self.old.tape.events }
         ensures room { self.new.room ≡ one_less self.old.room }
         ensures objects { self.new.objects.items ≡ self.old.objects.items }
         ensures rule { self.new.rule ≡ self.old.rule }
     {
-        let fenced = self.rows.fenced.of(event.thread);
-        let clock = self.rows.add(&event, self.next, gained, taken);
-        let given = given_by(&event, &clock, &fenced);
+        let given = given_by(&event, clock, self.rows.fenced.of(event.thread));
+        self.rows.add(&event, self.next, clock, taken);
         kept_cells::add_access(
             self.rule,
+            &mut self.clocks,
             &self.places,
             &mut self.kept,
             &event,
@@ -250,14 +253,14 @@ impl ViewMemory {
             return 0;
         };
         let known = self.rows.threads.of(thread);
-        let limit = self.limit(thread, &known, order, steps);
+        let limit = self.limit(thread, known, order, steps);
         // Without a fence neither SEQ_CST accesses nor fences raise the floor.
         if limit == 0 && !seq_cst(order) {
-            return found_floor(&kept.all, &self.made, &known, steps);
+            return found_floor(&kept.all, &self.made, known, steps);
         }
         let below = Clock::below(limit);
         let before = fences_before(&self.rows, order, limit);
-        greatest_of_kinds(kept, &self.made, &known, &below, &before, steps)
+        greatest_of_kinds(kept, &self.made, known, &below, &before, steps)
     }
 
     /// The newest position of the cell.
@@ -530,6 +533,7 @@ impl Memory for ViewMemory {
         };
         self.tape.reserve_many(events as usize)?;
         self.rows.reserve(self.alloc, events)?;
+        kept_cells::reserve_clocks(&mut self.clocks, events)?;
         reserve_threads(&mut self.made, events as usize)?;
         kept_cells::reserve_step(
             &mut self.places,
@@ -648,11 +652,12 @@ impl Memory for ViewMemory {
         ensures cost { (d : ℕ) → length self.old.tape.events < 2 ^ d → steps.new ≤ steps.old + search_bound self.old.tape.events d }
     {
         let taken = self.taken(&event);
-        let gained = self.gained(&event, &taken);
-        match self.race_of(&event, &gained, steps) {
+        let mut clock = self.known_before(&event, &taken);
+        match self.race_of(&event, &clock, steps) {
             Some(earlier) => Some(Race { earlier }),
             None => {
-                self.add(event, &taken, &gained);
+                clock.set(event.thread as usize, self.next);
+                self.add(event, &clock, &taken);
                 None
             }
         }

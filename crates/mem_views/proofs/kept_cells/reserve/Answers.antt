@@ -9,7 +9,7 @@ index_mut-requires c =
     omega (arith, below)
 
 pub returns-clause-holds : goal.returns-clause-holds
-returns-clause-holds c rule log h =
+returns-clause-holds c rule log clocks h =
     let e = c.in-Some.ensures in
     let below : c.in-Some.place < length c.args.kept.now.items = place-below c.args.places.now.objects.items c.args.places.now.owners.items (length c.args.kept.now.items) c.args.cell c.in-Some.place c.args.places.now.owned c.requires.placed (omega (arith, e)) in
-    cells-set rule log c.args.places.now.objects.items c.args.kept.now.items c.in-Some.place c.index_mut.result.now c.reserve.new.self below c.index_mut.ensures.value c.reserve.ensures.same h
+    cells-set rule log clocks c.args.places.now.objects.items c.args.kept.now.items c.in-Some.place c.index_mut.result.now c.reserve.new.self below c.index_mut.ensures.value c.reserve.ensures.same h

@@ -1,6 +1,6 @@
 use Rattle.std.proofs.Common.{◌≡◌, ◌∙◌, ℕ, Bool, true, false, cond, slice_index, refl, arith}
 use Rattle.std.specs.Prelude.{max}
-use Rattle.mem_views.specs.Tables.{table_at}
+use Rattle.mem_views.specs.Tables.{row_at}
 use Rattle.mem_views.proofs.rows.Rows.add.Goals as goal
 
 -- a thread that is made by its own event knows what the event does
@@ -12,12 +12,11 @@ pick false false x y = refl
 
 pub returns-clause-added : goal.returns-clause-added
 returns-clause-added c = record {
-  knows = c.advance-clock.ensures.known;
-  threads = λ t u. c.start.ensures.put t u ∙ rw (c.advance-clock.ensures.put t u) (pick _ _ (slice_index c.advance-clock.result u) (table_at c.args.self.now.threads t u));
+  threads = λ t u. c.start.ensures.joined t u ∙ rw (c.set.ensures.set t u) (pick _ _ (slice_index c.args.clock.now u) (row_at c.args.self.now.threads t u));
   left = c.leave.ensures.put;
   wakes = c.wake.ensures.put;
-  fenced = c.fence_off.ensures.put;
-  pending = c.pend.ensures.put;
+  fenced = c.fence_off.ensures.set;
+  pending = c.pend.ensures.joined;
   joined = c.join_fence.ensures;
   before = c.keep_joined.ensures.put;
   fences = c.index_fence.ensures.entries;

@@ -2,14 +2,20 @@ use Rattle.std.proofs.Common.{◌≡◌, ◌+◌, ◌-◌, arith}
 use Rattle.mem_axioms.specs.Scalars.{scalars_of}
 use Rattle.mem_views.proofs.Gained.{gives-are}
 use Rattle.mem_views.proofs.RowsKept.{rows-more, rows-below}
-use Rattle.mem_views.proofs.ThreadsMade.{log-more, made-more}
+use Rattle.mem_views.proofs.ThreadsMade.{log-more, made-more, child-small}
 use Rattle.mem_views.proofs.CellsKept.{can-add}
+use Rattle.mem_views.proofs.ValuesKept.{next-position}
 use Rattle.mem_views.proofs.Reading.{newest-few}
 use Rattle.mem_views.proofs.Roomy.{room-at, fits-less, made-longer}
 use Rattle.mem_views.proofs.view_memory.ViewMemory.add.Goals as goal
 
-pub add-clock-requires-clause-above : goal.add-clock-requires-clause-above
-add-clock-requires-clause-above c =
+pub add-requires-clause-child : goal.add-requires-clause-child
+add-requires-clause-child c t =
+    let memory = c.args.self.now in
+    child-small memory.rule (scalars_of memory.objects.items) memory.tape.events c.args.event t c.requires.fits
+
+pub add-requires-clause-above : goal.add-requires-clause-above
+add-requires-clause-above c =
     let memory = c.args.self.now in
     rw memory.counted (rows-below memory.rule memory.tape.events memory.rows c.args.event.thread memory.rows_hold)
 
@@ -19,7 +25,7 @@ add_access-requires-clause-can c cell a =
     let few = newest-few memory.tape.events cell in
     let count = c.requires.count in
     let room = room-at memory.room c.args.event cell memory.places.objects.items memory.kept.items memory.cell_fits c.requires.room (memory.log_holds.small c.args.event.thread c.requires.fits.thread) a in
-    rw memory.counted (can-add memory.rule memory.tape.events c.args.event memory.places.objects.items memory.places.owners.items memory.kept.items cell (memory.room.events - 1) memory.places.owned memory.placed memory.cells_hold (omega (arith, few, count)) room)
+    rw memory.counted (can-add memory.rule memory.tape.events c.args.event memory.clocks memory.places.objects.items memory.places.owners.items memory.kept.items cell (memory.room.events - 1) memory.places.owned memory.placed memory.cells_hold (omega (arith, few, count)) (next-position memory.rule (scalars_of memory.objects.items) memory.tape.events c.args.event cell c.requires.fits a) room)
 
 pub invariant_of-self-clause-log_holds : goal.invariant_of-self-clause-log_holds
 invariant_of-self-clause-log_holds c =
@@ -34,12 +40,12 @@ invariant_of-self-clause-made_holds c =
 pub invariant_of-self-clause-rows_hold : goal.invariant_of-self-clause-rows_hold
 invariant_of-self-clause-rows_hold c =
     let memory = c.args.self.now in
-    rw c.push.ensures.events (rows-more memory.rule memory.tape.events c.args.event memory.rows c.add-clock.new.self c.args.gained.now c.args.taken.now c.add-clock.result (rw memory.counted at c.add-clock.ensures.added) memory.rows_hold c.requires.gained c.requires.taken)
+    rw c.push.ensures.events (rows-more memory.rule memory.tape.events c.args.event memory.rows c.add.new.self c.args.clock.now c.args.taken.now (rw memory.counted at c.add.ensures.added) memory.rows_hold c.requires.knows c.requires.taken)
 
 pub invariant_of-self-clause-cells_hold : goal.invariant_of-self-clause-cells_hold
 invariant_of-self-clause-cells_hold c =
     let memory = c.args.self.now in
-    let given = gives-are memory.rule memory.tape.events c.args.event memory.rows c.add-clock.new.self c.args.gained.now c.args.taken.now c.add-clock.result c.given_by-given.result c.of-fenced.result (rw memory.counted at c.add-clock.ensures.added) memory.rows_hold c.requires.gained c.requires.taken c.of-fenced.ensures c.given_by-given.ensures in
+    let given = gives-are memory.rule memory.tape.events c.args.event memory.rows c.args.clock.now c.of.result.now c.given_by-given.result memory.rows_hold c.requires.knows c.of.ensures c.given_by-given.ensures in
     rw c.push.ensures.events (c.add_access.ensures.holds memory.tape.events memory.counted (λ u. rw memory.counted (given u)) memory.cells_hold)
 
 pub invariant_of-self-clause-made_some : goal.invariant_of-self-clause-made_some
@@ -50,7 +56,7 @@ invariant_of-self-clause-rows_fit c =
     let memory = c.args.self.now in
     let some = c.requires.room.0 in
     let n : memory.room.events - 1 + 1 ≡ memory.room.events = omega (arith, some) in
-    c.add-clock.ensures.room (memory.room.events - 1) (rw n memory.rows_fit)
+    c.add.ensures.room (memory.room.events - 1) (rw n memory.rows_fit)
 
 pub invariant_of-self-clause-cell_fits : goal.invariant_of-self-clause-cell_fits
 invariant_of-self-clause-cell_fits c =

@@ -23,24 +23,24 @@ overflow_sub-result g c =
     let memory = c.args.self.now in
     let log = memory.tape.events in
     let objects = scalars_of memory.objects.items in
-    let facts = race-facts memory.rule objects log c.args.cell c.args.event.now c.args.kept.now c.join.new.self c.of-clock.result c.args.gained.now memory.rows memory.log_holds memory.rows_hold c.requires.holds c.requires.fits c.requires.access c.of-clock.ensures c.join.ensures c.requires.gained in
-    one-positive (race memory.rule log c.args.event.now) c.in-Some.first (race-found memory.rule (initial_of objects) log c.args.cell c.args.event.now c.args.kept.now c.join.new.self facts (Some c.in-Some.first) c.in-Some.ensures.found)
+    let facts = race-facts memory.rule objects log c.args.cell c.args.event.now c.args.kept.now c.args.known.now memory.log_holds c.requires.holds c.requires.fits c.requires.access c.requires.known in
+    one-positive (race memory.rule log c.args.event.now) c.in-Some.first (race-found memory.rule (initial_of objects) log c.args.cell c.args.event.now c.args.kept.now c.args.known.now facts (Some c.in-Some.first) c.in-Some.ensures.found)
 
 pub returns-in-Some-clause-race : goal.returns-in-Some-clause-race
 returns-in-Some-clause-race g c =
     let memory = c.args.self.now in
     let log = memory.tape.events in
     let objects = scalars_of memory.objects.items in
-    let facts = race-facts memory.rule objects log c.args.cell c.args.event.now c.args.kept.now c.join.new.self c.of-clock.result c.args.gained.now memory.rows memory.log_holds memory.rows_hold c.requires.holds c.requires.fits c.requires.access c.of-clock.ensures c.join.ensures c.requires.gained in
-    one-lower (race memory.rule log c.args.event.now) c.in-Some.first (race-found memory.rule (initial_of objects) log c.args.cell c.args.event.now c.args.kept.now c.join.new.self facts (Some c.in-Some.first) c.in-Some.ensures.found)
+    let facts = race-facts memory.rule objects log c.args.cell c.args.event.now c.args.kept.now c.args.known.now memory.log_holds c.requires.holds c.requires.fits c.requires.access c.requires.known in
+    one-lower (race memory.rule log c.args.event.now) c.in-Some.first (race-found memory.rule (initial_of objects) log c.args.cell c.args.event.now c.args.kept.now c.args.known.now facts (Some c.in-Some.first) c.in-Some.ensures.found)
 
 pub returns-in-None-clause-race : goal.returns-in-None-clause-race
 returns-in-None-clause-race g c =
     let memory = c.args.self.now in
     let log = memory.tape.events in
     let objects = scalars_of memory.objects.items in
-    let facts = race-facts memory.rule objects log c.args.cell c.args.event.now c.args.kept.now c.join.new.self c.of-clock.result c.args.gained.now memory.rows memory.log_holds memory.rows_hold c.requires.holds c.requires.fits c.requires.access c.of-clock.ensures c.join.ensures c.requires.gained in
-    none-lower (race memory.rule log c.args.event.now) (race-found memory.rule (initial_of objects) log c.args.cell c.args.event.now c.args.kept.now c.join.new.self facts None c.in-None.ensures.found)
+    let facts = race-facts memory.rule objects log c.args.cell c.args.event.now c.args.kept.now c.args.known.now memory.log_holds c.requires.holds c.requires.fits c.requires.access c.requires.known in
+    none-lower (race memory.rule log c.args.event.now) (race-found memory.rule (initial_of objects) log c.args.cell c.args.event.now c.args.kept.now c.args.known.now facts None c.in-None.ensures.found)
 
 pub returns-in-Some-clause-cost : goal.returns-in-Some-clause-cost
 returns-in-Some-clause-cost g c d l =

@@ -5,4 +5,4 @@ pub returns-in_default-clause-race : goal.returns-in_default-clause-race
 returns-in_default-clause-race g c = other-no-race c.args.self.now.rule c.args.self.now.tape.events c.args.event.now c.in_default.ensures
 
 pub returns-in-None-clause-race : goal.returns-in-None-clause-race
-returns-in-None-clause-race g c = untouched-no-race c.args.self.now.rule c.args.self.now.tape.events c.args.event.now c.in-Some.cell c.in-Some.ensures c.in-None.ensures
+returns-in-None-clause-race g c = untouched-no-race c.args.self.now.rule c.args.self.now.tape.events c.args.event.now c.in-Some.cell c.in-Some.ensures c.in-None.ensures.views

@@ -10,8 +10,16 @@ index-requires c =
     let below = place-below memory.places.objects.items memory.places.owners.items (length memory.kept.items) c.args.cell c.in-Some.place memory.places.owned memory.placed (omega (arith, at)) in
     omega (arith, below)
 
-pub returns-in-Some : goal.returns-in-Some
-returns-in-Some c =
+pub returns-in-Some-clause-clocks : goal.returns-in-Some-clause-clocks
+returns-in-Some-clause-clocks c =
+    let memory = c.args.self.now in
+    let e = c.in-Some.ensures in
+    let at : place_in memory.places.objects.items c.args.cell ≡ suc c.in-Some.place = omega (arith, e) in
+    let below : c.in-Some.place < length memory.kept.items = place-below memory.places.objects.items memory.places.owners.items (length memory.kept.items) c.args.cell c.in-Some.place memory.places.owned memory.placed at in
+    rw c.index.ensures (memory.cells_hold.clocked c.args.cell c.in-Some.place c.index.result.now at below)
+
+pub returns-in-Some-clause-views : goal.returns-in-Some-clause-views
+returns-in-Some-clause-views c =
     let memory = c.args.self.now in
     let e = c.in-Some.ensures in
     let at : place_in memory.places.objects.items c.args.cell ≡ suc c.in-Some.place = omega (arith, e) in
