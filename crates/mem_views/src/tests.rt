@@ -565,6 +565,21 @@ static PASSING_TOO_EARLY: [Line; 4] = [
     Line::Load(1, X, Order::NotAtomic, 0),
 ];
 
+static PASSING_BY_A_PLAIN_FLAG: [Line; 4] = [
+    Line::Write(0, X, Order::NotAtomic),
+    Line::Write(0, Y, Order::NotAtomic),
+    Line::Load(1, Y, Order::Acquire, 0),
+    Line::Load(1, X, Order::NotAtomic, 0),
+];
+
+static PASSING_THROUGH_AN_UPDATE: [Line; 5] = [
+    Line::Write(0, X, Order::NotAtomic),
+    Line::Write(0, Y, Order::Release),
+    Line::Update(1, Y, Order::Relaxed),
+    Line::Load(2, Y, Order::Acquire, 0),
+    Line::Load(2, X, Order::NotAtomic, 0),
+];
+
 static FENCES_PASS: [Line; 6] = [
     Line::Write(0, X, Order::NotAtomic),
     by!(
@@ -676,15 +691,50 @@ static WAKES: [Line; 5] = [
     Line::Load(1, Y, Order::NotAtomic, 0),
 ];
 
-static MIGRATING_STACK: [Line; 8] = [
+static MIGRATING_STACK: [Line; 10] = [
     by!(0, Kind::NewStack { stack: 2 }),
     by!(0, Kind::Leave { stack: 0 }),
     by!(0, Kind::Enter { stack: 2 }),
     Line::Write(0, Z, Order::NotAtomic),
     by!(0, Kind::Leave { stack: 2 }),
     by!(0, Kind::Enter { stack: 0 }),
+    Line::Write(0, X, Order::Relaxed),
+    Line::Load(1, X, Order::Relaxed, 0),
     by!(1, Kind::Enter { stack: 2 }),
     Line::Load(1, Z, Order::NotAtomic, 0),
+];
+
+static STACK_OF_A_NEW_THREAD: [Line; 11] = [
+    by!(0, Kind::NewStack { stack: 1 }),
+    by!(0, Kind::Leave { stack: 0 }),
+    by!(0, Kind::Enter { stack: 1 }),
+    Line::Write(0, Z, Order::NotAtomic),
+    by!(0, Kind::Leave { stack: 1 }),
+    by!(0, Kind::Enter { stack: 0 }),
+    by!(0, Kind::NewThread { child: 4 }),
+    by!(4, Kind::Enter { stack: 1 }),
+    Line::Load(0, X, Order::Relaxed, 0),
+    Line::Load(4, Z, Order::NotAtomic, 0),
+    Line::Load(4, X, Order::Relaxed, 0),
+];
+
+static SWAPS_BACK_AND_FORTH: [Line; 8] = [
+    by!(0, Kind::NewStack { stack: 1 }),
+    by!(0, Kind::Leave { stack: 0 }),
+    by!(0, Kind::Enter { stack: 1 }),
+    by!(0, Kind::Leave { stack: 1 }),
+    by!(0, Kind::Enter { stack: 0 }),
+    by!(0, Kind::Leave { stack: 0 }),
+    by!(0, Kind::Enter { stack: 1 }),
+    by!(0, Kind::Enter { stack: 0 }),
+];
+
+static INITIAL_VALUES: [Line; 5] = [
+    Line::Load(0, X, Order::NotAtomic, 0),
+    Line::Load(0, Z, Order::NotAtomic, 0),
+    Line::Load(0, Y, Order::NotAtomic, 0),
+    Line::Load(0, X, Order::NotAtomic, 0),
+    Line::Load(0, Z, Order::NotAtomic, 0),
 ];
 
 static COMPARISONS: [Line; 6] = [
@@ -698,9 +748,11 @@ static COMPARISONS: [Line; 6] = [
 
 #[test]
 fn lists_have_the_same_answers(rt: HostRuntime) -> Result<(), Fail> {
-    let lists: [&[Line]; 14] = [
+    let lists: [&[Line]; 19] = [
         &MESSAGE_PASSING,
         &PASSING_TOO_EARLY,
+        &PASSING_BY_A_PLAIN_FLAG,
+        &PASSING_THROUGH_AN_UPDATE,
         &FENCES_PASS,
         &STORE_BUFFERING,
         &SEQ_CST_BUFFERING,
@@ -712,6 +764,9 @@ fn lists_have_the_same_answers(rt: HostRuntime) -> Result<(), Fail> {
         &UPDATE_GOES_ON,
         &WAKES,
         &MIGRATING_STACK,
+        &STACK_OF_A_NEW_THREAD,
+        &SWAPS_BACK_AND_FORTH,
+        &INITIAL_VALUES,
         &COMPARISONS,
     ];
     play_lists::<Brand>(&rt, rt.alloc(), &lists, Blank::new(1))?;
