@@ -11,9 +11,9 @@ use Rattle.mem_axioms.specs.declared.types.Kind.TheVariants.{Access, Fence, NewS
 use Rattle.mem_axioms.specs.declared.types.Mode.TheVariants.{Read, Write, Update}
 use Rattle.clock_laws.specs.Clocks.{views, gives}
 use Rattle.write_history.specs.Rooms.{Accesses}
-use Rattle.mem_views.specs.Knowing.{known_by}
-use Rattle.mem_views.specs.Spans.{Spans}
-use Rattle.mem_views.specs.KeptClocks.{kept_at, Grown}
+use Rattle.clocks.specs.Knowing.{known_by}
+use Rattle.clocks.specs.Spans.{Spans}
+use Rattle.clocks.specs.KeptClocks.{kept_at, Grown}
 use Rattle.mem_views.specs.Indexed.{accesses_at, entries_of, by_thread}
 use Rattle.mem_views.specs.Families.{is_any, is_not_atomic, is_not_atomic_modification, has_seq_cst_order}
 use Rattle.mem_views.specs.CellAdded.{CellAdded, CellBelow, SameCell, IsFresh, Indexes}

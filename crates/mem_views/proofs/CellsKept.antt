@@ -15,9 +15,9 @@ use Rattle.mem_axioms.specs.declared.types.Kind.{Kind}
 use Rattle.mem_axioms.specs.declared.types.Kind.TheVariants.{Access, Fence, NewStack, NewThread, Leave, Enter, Wake, Woken}
 use Rattle.mem_axioms.proofs.Numbers.{event-cases}
 use Rattle.clock_laws.specs.Clocks.{views, gives}
-use Rattle.mem_views.specs.Knowing.{known_by}
-use Rattle.mem_views.specs.Spans.{Spans}
-use Rattle.mem_views.specs.KeptClocks.{Grown}
+use Rattle.clocks.specs.Knowing.{known_by}
+use Rattle.clocks.specs.Spans.{Spans}
+use Rattle.clocks.specs.KeptClocks.{Grown}
 use Rattle.mem_views.specs.Placing.{place_in, Owned}
 use Rattle.mem_views.specs.CellAdded.{CellAdded, CellRoom, SameCell, IsFresh}
 use Rattle.mem_views.specs.CellRooms.{CellRoomAt}

@@ -14,9 +14,9 @@ use Rattle.mem_axioms.proofs.Numbers.{any-some}
 use Rattle.clock_laws.specs.Clocks.{Views, views, gains, knows, pends, gives}
 use Rattle.clock_laws.specs.NamedWakes.{names_wake}
 use Rattle.std.specs.Prelude.{Option}
-use Rattle.mem_views.specs.Knowing.{known_by}
-use Rattle.mem_views.specs.Tables.{table_at, row_at}
-use Rattle.mem_views.specs.Spans.{Spans}
+use Rattle.clocks.specs.Knowing.{known_by}
+use Rattle.clocks.specs.Tables.{table_at, row_at}
+use Rattle.clocks.specs.Spans.{Spans}
 use Rattle.mem_views.specs.CellClocks.{released_at}
 use Rattle.mem_views.specs.Gaining.{takes_atomic, given_of}
 use Rattle.mem_views.specs.RowsAdded.{row_gains}

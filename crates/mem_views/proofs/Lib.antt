@@ -1,4 +1,3 @@
-pub mod Zeros
 pub mod GoingOn
 pub mod Releasing
 pub mod Searching
@@ -17,5 +16,3 @@ pub mod RaceFound
 pub mod Reading
 pub mod Budget
 pub mod Roomy
-pub mod SpansKept
-pub mod PlacesKept

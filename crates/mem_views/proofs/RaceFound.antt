@@ -27,7 +27,7 @@ use Rattle.mem_views.proofs.Entries.{entries-after}
 use Rattle.mem_views.proofs.CellsKept.{one-access}
 use Rattle.mem_views.proofs.FloorFound.{form-of}
 use Rattle.mem_views.proofs.ThreadsMade.{fits-named}
-use Rattle.mem_views.specs.Tables.{table_at}
+use Rattle.clocks.specs.Tables.{table_at}
 use Rattle.mem_views.specs.Holding.{LogHolds, RowsHold}
 use Rattle.mem_views.specs.declared.rows.Rows.{Rows}
 use Rattle.mem_axioms.specs.Objects.{initial_of}

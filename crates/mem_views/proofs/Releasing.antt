@@ -8,8 +8,8 @@ use Rattle.mem_axioms.specs.Events.{is_update}
 use Rattle.mem_axioms.specs.Synchronizes.{continues}
 use Rattle.mem_axioms.specs.declared.types.Event.{Event}
 use Rattle.mem_axioms.specs.declared.types.Rule.{Rule}
-use Rattle.mem_views.specs.Spans.{Spans}
-use Rattle.mem_views.specs.KeptClocks.{kept_at, Grown}
+use Rattle.clocks.specs.Spans.{Spans}
+use Rattle.clocks.specs.KeptClocks.{kept_at, Grown}
 use Rattle.mem_views.proofs.GoingOn.{gone-on, released-on}
 
 -- a list with one number more

@@ -8,8 +8,8 @@ use Rattle.mem_axioms.specs.declared.types.Event.{Event}
 use Rattle.mem_axioms.specs.declared.types.Rule.{Rule}
 use Rattle.mem_axioms.proofs.Numbers.{event-cases}
 use Rattle.clock_laws.specs.Clocks.{views, knows, pends}
-use Rattle.mem_views.specs.Knowing.{known_by}
-use Rattle.mem_views.specs.Tables.{table_at, row_at}
+use Rattle.clocks.specs.Knowing.{known_by}
+use Rattle.clocks.specs.Tables.{table_at, row_at}
 use Rattle.mem_views.specs.RowsAdded.{RowsAdded}
 use Rattle.mem_views.specs.Holding.{RowsHold, fence_by}
 use Rattle.mem_views.specs.Indexed.{accesses_at}

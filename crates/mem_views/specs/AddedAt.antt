@@ -4,7 +4,7 @@ use Rattle.typed_heap.specs.declared.cells.CellId.{CellId}
 use Rattle.mem_axioms.specs.Events.{is_modification, position_of}
 use Rattle.mem_axioms.specs.declared.types.Rule.{Rule}
 use Rattle.mem_axioms.specs.declared.types.Event.{Event}
-use Rattle.mem_views.specs.Spans.{Spans}
+use Rattle.clocks.specs.Spans.{Spans}
 use Rattle.mem_views.specs.CellClocks.{Named}
 use Rattle.mem_views.specs.Placing.{place_in}
 use Rattle.mem_views.specs.CellAdded.{CellAdded, CellRoom, CellBelow}

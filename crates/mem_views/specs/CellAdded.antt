@@ -6,9 +6,9 @@ use Rattle.mem_axioms.specs.Synchronizes.{continues}
 use Rattle.mem_axioms.specs.declared.types.Rule.{Rule}
 use Rattle.mem_axioms.specs.declared.types.Event.{Event}
 use Rattle.write_history.specs.Rooms.{Accesses}
-use Rattle.mem_views.specs.Knowing.{known_by}
-use Rattle.mem_views.specs.Spans.{Spans}
-use Rattle.mem_views.specs.KeptClocks.{Grown}
+use Rattle.clocks.specs.Knowing.{known_by}
+use Rattle.clocks.specs.Spans.{Spans}
+use Rattle.clocks.specs.KeptClocks.{Grown}
 use Rattle.mem_views.specs.CellClocks.{released_at, sequence_at, Named}
 use Rattle.mem_views.specs.Indexed.{index_at, accesses_at}
 use Rattle.mem_views.specs.Families.{is_any, is_not_atomic, is_not_atomic_modification, has_seq_cst_order}

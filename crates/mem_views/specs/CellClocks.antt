@@ -1,7 +1,7 @@
 -- The clocks of a cell, by the numbers under which they are kept.
 use Rattle.std.specs.Prelude.{ℕ, ◌≤◌, length, slice_index}
-use Rattle.mem_views.specs.Spans.{Spans}
-use Rattle.mem_views.specs.KeptClocks.{kept_at}
+use Rattle.clocks.specs.Spans.{Spans}
+use Rattle.clocks.specs.KeptClocks.{kept_at}
 use Rattle.mem_views.specs.declared.cell.CellViews.{CellViews}
 
 -- what an acquire of a position takes

@@ -12,8 +12,8 @@ use Rattle.mem_axioms.specs.declared.types.Rule.{Rule}
 use Rattle.mem_axioms.specs.declared.types.Event.{Event}
 use Rattle.clock_laws.specs.Clocks.{views}
 use Rattle.clock_laws.specs.NamedWakes.{wakes_are_named}
-use Rattle.mem_views.specs.Tables.{table_at, row_at}
-use Rattle.mem_views.specs.Spans.{Spans}
+use Rattle.clocks.specs.Tables.{table_at, row_at}
+use Rattle.clocks.specs.Spans.{Spans}
 use Rattle.mem_views.specs.CellClocks.{released_at, sequence_at, Named}
 use Rattle.mem_views.specs.Indexed.{accesses_at, entries_by, entries_of, by_thread}
 use Rattle.mem_views.specs.Families.{is_any, is_not_atomic, is_not_atomic_modification, has_seq_cst_order}

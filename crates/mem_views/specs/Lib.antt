@@ -1,8 +1,3 @@
-pub mod Knowing
-pub mod Tables
-pub mod Spans
-pub mod KeptClocks
-pub mod EventSpans
 pub mod Indexed
 pub mod RowsAdded
 pub mod Families

@@ -4,8 +4,8 @@ use Rattle.mem_axioms.specs.Events.{order_of, is_fence, is_seq_cst_fence, is_wak
 use Rattle.mem_axioms.specs.Synchronizes.{acquires, releases, gives_up, makes_thread}
 use Rattle.mem_axioms.specs.declared.types.Kind.TheVariants.{Access, Fence, Enter, Woken}
 use Rattle.mem_axioms.specs.declared.types.Event.{Event}
-use Rattle.mem_views.specs.Knowing.{known_by}
-use Rattle.mem_views.specs.Tables.{table_at, row_at}
+use Rattle.clocks.specs.Knowing.{known_by}
+use Rattle.clocks.specs.Tables.{table_at, row_at}
 use Rattle.mem_views.specs.Indexed.{index_at, accesses_at}
 use Rattle.mem_views.specs.declared.rows.Rows.{Rows}
 

@@ -3,15 +3,13 @@ ghost use Rattle.std.specs.Prelude.{◌≡◌, true, ℕ, suc, ◌+◌, ◌-◌,
 ghost use Rattle.mem_axioms.specs.Events.{is_modification, is_update, position_of, value_of};
 ghost use Rattle.mem_axioms.specs.Synchronizes.{continues};
 ghost use Rattle.mem_views.specs.Families.{is_not_atomic, is_not_atomic_modification, has_seq_cst_order};
-ghost use Rattle.mem_views.specs.Knowing.{known_by};
-ghost use Rattle.mem_views.specs.KeptClocks.{kept_at, Grown};
+ghost use Rattle.clocks.specs.Knowing.{known_by};
+ghost use Rattle.clocks.specs.KeptClocks.{kept_at, Grown};
 ghost use Rattle.mem_views.specs.Indexed.{index_at, accesses_at};
 
-use crate::clock::Clock;
-use crate::clock_list::ClockList;
 use crate::event_facts::{atomic, modification, order_in, position_in, seq_cst, update};
 use crate::indexes;
-use crate::kept_clocks::keep_with;
+use clocks::{Clock, ClockList, keep_with};
 use mem_axioms::{Event, Kind, Rule};
 use mu_values::Scalar;
 use std::alloc::{AllocError, Global};

@@ -1,15 +1,15 @@
 // The floor of a load, by look-ups.
 ghost use Rattle.std.specs.Prelude.{◌≡◌, ℕ, ◌+◌, ◌*◌, ◌^◌, ◌<◌, ◌≤◌, ◌==◌, if◌then◌else◌, All, length, slice_index};
 ghost use Rattle.mem_axioms.specs.Events.{is_seq_cst};
-ghost use Rattle.mem_views.specs.Tables.{table_at};
+ghost use Rattle.clocks.specs.Tables.{table_at};
 ghost use Rattle.mem_views.specs.Looks.{IsMade, IsFew, AllMade, AllFew};
 ghost use Rattle.mem_views.specs.FloorLooks.{IsFound, FoundFloor};
 
 use crate::cell::CellViews;
-use crate::clock::Clock;
 use crate::event_facts::seq_cst;
 use crate::look_ups::{floor_over, greater};
 use crate::rows::Rows;
+use clocks::Clock;
 use mu_base::{Order, Steps};
 use std::sync::ledger::Ledger;
 use write_history::AccessIndex;

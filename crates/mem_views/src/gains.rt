@@ -2,19 +2,16 @@
 ghost use Rattle.std.specs.Prelude.{◌≡◌, ℕ, if◌then◌else◌, max, slice_index};
 ghost use Rattle.mem_axioms.specs.Events.{position_taken, order_of};
 ghost use Rattle.mem_axioms.specs.Synchronizes.{acquires};
-ghost use Rattle.mem_views.specs.Knowing.{known_by};
-ghost use Rattle.mem_views.specs.Tables.{row_at};
+ghost use Rattle.clocks.specs.Knowing.{known_by};
+ghost use Rattle.clocks.specs.Tables.{row_at};
 ghost use Rattle.mem_views.specs.CellClocks.{released_at};
 ghost use Rattle.mem_views.specs.RowsAdded.{row_gains};
 ghost use Rattle.mem_views.specs.Gaining.{takes_atomic, given_of};
 
 use crate::cell::{CellViews, number_at};
-use crate::clock::Clock;
-use crate::clock_list::ClockList;
 use crate::event_facts::{acquire, atomic, order_in, release, taken_by};
-use crate::kept_clocks::clock_under;
 use crate::rows::Rows;
-use crate::thread_clocks::ThreadClocks;
+use clocks::{Clock, ClockList, ThreadClocks, clock_under};
 use mem_axioms::{Event, Kind, Mode};
 use mu_base::Order;
 

@@ -5,8 +5,8 @@ ghost use Rattle.mem_axioms.specs.Events.{accesses, is_modification, position_of
 ghost use Rattle.mem_axioms.specs.declared.types.Rule.{Rule};
 ghost use Rattle.mem_axioms.specs.declared.types.Event.{Event};
 ghost use Rattle.clock_laws.specs.Clocks.{views, gives};
-ghost use Rattle.mem_views.specs.Knowing.{known_by};
-ghost use Rattle.mem_views.specs.Spans.{Spans};
+ghost use Rattle.clocks.specs.Knowing.{known_by};
+ghost use Rattle.clocks.specs.Spans.{Spans};
 ghost use Rattle.mem_views.specs.CellClocks.{Named};
 ghost use Rattle.mem_views.specs.Placing.{place_in};
 ghost use Rattle.mem_views.specs.CellAdded.{CellRoom, CellBelow};
@@ -17,10 +17,9 @@ ghost use Rattle.mem_views.specs.Holding.{CellsHold};
 ghost use Rattle.mem_views.specs.declared.cell.CellViews.{CellViews};
 
 use crate::cell::CellViews;
-use crate::clock::Clock;
-use crate::clock_list::ClockList;
 use crate::event_facts::cell_of;
 use crate::places::Places;
+use clocks::{Clock, ClockList};
 use mem_axioms::{Event, Rule};
 use std::alloc::{AllocError, Global};
 use typed_heap::CellId;

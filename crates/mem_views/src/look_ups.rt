@@ -4,7 +4,7 @@ ghost use Rattle.write_history.specs.Indexes.{last_position, first_after};
 ghost use Rattle.mem_views.specs.Indexed.{accesses_at};
 ghost use Rattle.mem_views.specs.LookUps.{position_known, FirstAfter, earlier, LeastOf};
 
-use crate::clock::Clock;
+use clocks::Clock;
 use mu_base::Steps;
 use std::sync::ledger::Ledger;
 use write_history::AccessIndex;

@@ -4,9 +4,9 @@ ghost use Rattle.mem_views.specs.Looks.{IsMade, IsFew, AllMade, AllFew};
 ghost use Rattle.mem_views.specs.Racing.{race_indexes, IsFirstUnknown};
 
 use crate::cell::{CellViews, not_atomic};
-use crate::clock::Clock;
 use crate::event_facts::modification;
 use crate::look_ups::first_unknown;
+use clocks::Clock;
 use mem_axioms::Event;
 use mu_base::Steps;
 use std::sync::ledger::Ledger;

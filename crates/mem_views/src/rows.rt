@@ -4,16 +4,13 @@ ghost use Rattle.mem_axioms.specs.Events.{order_of, is_fence, is_seq_cst_fence, 
 ghost use Rattle.mem_axioms.specs.Synchronizes.{releases, gives_up, makes_thread};
 ghost use Rattle.mem_axioms.specs.declared.types.Rule.{Rule};
 ghost use Rattle.mem_axioms.specs.declared.types.Event.{Event};
-ghost use Rattle.mem_views.specs.Knowing.{known_by};
-ghost use Rattle.mem_views.specs.Tables.{table_at, row_at};
+ghost use Rattle.clocks.specs.Knowing.{known_by};
+ghost use Rattle.clocks.specs.Tables.{table_at, row_at};
 ghost use Rattle.mem_views.specs.Indexed.{index_at, accesses_at};
 
-use crate::clock::Clock;
-use crate::event_clocks::EventClocks;
 use crate::event_facts::{fence, order_in, release, seq_cst_fence};
 use crate::indexes;
-use crate::tables::ClockTable;
-use crate::thread_clocks::ThreadClocks;
+use clocks::{Clock, ClockTable, EventClocks, ThreadClocks};
 use mem_axioms::{Event, Kind};
 use std::alloc::{AllocError, Global};
 use write_history::AccessIndex;

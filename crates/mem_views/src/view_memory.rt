@@ -15,7 +15,7 @@ ghost use Rattle.mem_axioms.specs.declared.types.Event.{Event};
 ghost use Rattle.mem_axioms.specs.declared.types.Kind.TheVariants.{NewThread};
 ghost use Rattle.clock_laws.specs.Clocks.{views, knew, knows, pends};
 ghost use Rattle.clock_laws.specs.ViewFloor.{view_limit};
-ghost use Rattle.mem_views.specs.Knowing.{known_by};
+ghost use Rattle.clocks.specs.Knowing.{known_by};
 ghost use Rattle.mem_views.specs.Holding.{LogHolds, MadeHolds, RowsHold, CellHolds, ClocksHold, CellsHold, IsUntouched};
 ghost use Rattle.mem_views.specs.RowsAdded.{RowsRoom};
 ghost use Rattle.mem_views.specs.Roominess.{CellFits};
@@ -25,8 +25,6 @@ ghost use Rattle.mem_views.specs.Differing.{differs_from, floor_bound, looks_bou
 ghost use Rattle.mem_axioms.proofs.Downward.{below};
 
 use crate::cell::CellViews;
-use crate::clock::Clock;
-use crate::clock_list::ClockList;
 use crate::event_facts::{cell_of, is_same_scalar, seq_cst};
 use crate::floors::{fences_before, found_floor, greatest_of_kinds, last_fence};
 use crate::gains::{gain, given_by, taken_from};
@@ -34,6 +32,7 @@ use crate::kept_cells;
 use crate::places::Places;
 use crate::racing::first_racing;
 use crate::rows::Rows;
+use clocks::{Clock, ClockList};
 use mem_axioms::{Chosen, Event, Kind, Memory, Race, Room, Rule, Wanted};
 use mu_base::{Order, Steps};
 use mu_values::{Scalar, Value};

@@ -1,8 +1,8 @@
 use Rattle.std.proofs.Common.{◌∙◌, cond, sym, slice_index}
 use Rattle.mem_axioms.specs.Events.{is_modification, is_update, position_of}
 use Rattle.mem_axioms.specs.Synchronizes.{continues}
-use Rattle.mem_views.specs.Knowing.{known_by}
-use Rattle.mem_views.specs.KeptClocks.{kept_at}
+use Rattle.clocks.specs.Knowing.{known_by}
+use Rattle.clocks.specs.KeptClocks.{kept_at}
 use Rattle.mem_views.proofs.Releasing.{released-put, sequence-put}
 use Rattle.mem_views.proofs.cell.release_position.Goals as goal
 

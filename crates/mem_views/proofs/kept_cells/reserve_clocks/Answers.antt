@@ -1,6 +1,6 @@
 use Rattle.std.proofs.Common.{ℕ, zero, suc, ◌≤◌, ◌≡◌, refl, length, arith}
-use Rattle.mem_views.specs.KeptClocks.{Grown, kept_at}
-use Rattle.mem_views.specs.Spans.{Spans, span_at}
+use Rattle.clocks.specs.KeptClocks.{Grown, kept_at}
+use Rattle.clocks.specs.Spans.{Spans, span_at}
 use Rattle.mem_views.proofs.CellsKept.{cells-grown}
 use Rattle.mem_views.proofs.kept_cells.reserve_clocks.Goals as goal
 

@@ -1,6 +1,6 @@
 use Rattle.std.proofs.Common.{◌≡◌, ◌∙◌, ℕ, Bool, true, false, cond, slice_index, refl, arith}
 use Rattle.std.specs.Prelude.{max}
-use Rattle.mem_views.specs.Tables.{row_at}
+use Rattle.clocks.specs.Tables.{row_at}
 use Rattle.mem_views.proofs.rows.Rows.add.Goals as goal
 
 -- a thread that is made by its own event knows what the event does

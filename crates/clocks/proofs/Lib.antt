@@ -1,0 +1,3 @@
+pub mod SpansKept
+pub mod PlacesKept
+pub mod Zeros

@@ -1,0 +1,6 @@
+-- What is known by a clock, and clocks in tables and lists.
+pub mod Knowing
+pub mod Tables
+pub mod Spans
+pub mod EventSpans
+pub mod KeptClocks

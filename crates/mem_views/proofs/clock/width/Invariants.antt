@@ -1,8 +1,0 @@
-use Rattle.std.proofs.Common.{◌≡◌, ℕ, ◌<◌, ◌≤◌, slice_index}
-use Rattle.mem_views.proofs.clock.width.Given as goal
-
-abbrev pub invariant-loop-t : goal.invariant-loop-t
-invariant-loop-t l = record {
-  small : l.width ≤ l.t;
-  rest : (u : ℕ) → l.width ≤ u → u < l.t → slice_index l.known u ≡ 0;
-}
