@@ -1,4 +1,4 @@
-ghost use Rattle.std.specs.Prelude.{◌≡◌, ◌&&◌, ◌==◌, ◌<◌, ◌↔◌, ℕ, [], ◌∷◌, true, Some, reverse, length, IsTrue, IfOk, IfSome};
+ghost use Rattle.std.specs.Prelude.{◌≡◌, ◌&&◌, ◌==◌, ◌<◌, ◌↔◌, ℕ, [], ◌∷◌, true, Some, reverse, length, IsTrue, IfOk, OnOk, IfSome};
 ghost use Rattle.mu_values.specs.declared.scalars.Scalar.TheVariants.{Int};
 ghost use Rattle.mem_axioms.specs.declared.types.Mode.TheVariants.{Read, Write, Update};
 ghost use Rattle.mem_axioms.specs.declared.types.Kind.TheVariants.{Access};
@@ -110,6 +110,18 @@ fn zero(alloc: Global) -> Result<Value, AllocError>
     Ok(value)
 }
 
+/// Adds three objects of one cell each, which holds 0, to a memory without objects.
+fn add_cells<M: Memory>(memory: &mut M, alloc: Global) -> Result<(), AllocError>
+    requires { M.objects memory.old ≡ [] }
+    ensures cells { OnOk result (M.objects memory.new ≡ (Int 64 0 ∷ []) ∷ (Int 64 0 ∷ []) ∷ (Int 64 0 ∷ []) ∷ []) }
+    ensures log { M.log memory.new ≡ M.log memory.old }
+    ensures rule { M.rule memory.new ≡ M.rule memory.old }
+{
+    memory.add_object(zero(alloc)?)?;
+    memory.add_object(zero(alloc)?)?;
+    memory.add_object(zero(alloc)?)
+}
+
 fn number(n: u32) -> Scalar {
     Scalar::Int {
         width: 64,
@@ -122,12 +134,8 @@ impl Pair {
     fn new(alloc: Global, rule: Rule) -> Result<Pair, AllocError> {
         let mut whole = LogMemory::new(alloc, rule);
         let mut views = ViewMemory::new(alloc, rule);
-        whole.add_object(zero(alloc)?)?;
-        whole.add_object(zero(alloc)?)?;
-        whole.add_object(zero(alloc)?)?;
-        views.add_object(zero(alloc)?)?;
-        views.add_object(zero(alloc)?)?;
-        views.add_object(zero(alloc)?)?;
+        add_cells(&mut whole, alloc)?;
+        add_cells(&mut views, alloc)?;
         Ok(Pair {
             whole,
             views,
