@@ -5,9 +5,8 @@ use Rattle.mu_base.specs.Outcome.{Outcome, got, failed, too_long}
 use Rattle.mu_texts.specs.declared.what.What.{What}
 use Rattle.mu_texts.specs.declared.what.What.TheVariants.{Bundle}
 use Rattle.mu_texts.specs.declared.ready.Ready.{Ready}
-use Rattle.mu_texts.specs.declared.ready.Ready.TheVariants as ready
 use Rattle.mu_texts.specs.What.{name_of}
-use Rattle.mu_texts.specs.Answer.{Answer, Part, ◌>>=◌, line, as_written, accepted, built, entered, ready_part}
+use Rattle.mu_texts.specs.Answer.{Answer, Part, ◌>>=◌, line, for_check, for_print, for_run, ready_part}
 use Rattle.mu_command.specs.declared.job.Job.{Job}
 use Rattle.mu_command.specs.declared.job.Job.TheVariants.{Check, Print, Run}
 use Rattle.mu_command.specs.Job.{word}
@@ -18,12 +17,11 @@ fetched what (got bytes) = Ok bytes
 fetched what failed = Err (line (codes "read fault " ++ name_of what) ReadFault)
 fetched what too_long = Err (line (codes "too long " ++ name_of what) TooLong)
 
--- what a job asks of the bundle's text: that it is accepted; the bundle as it is written; or a bundle that is accepted and built, and
--- a function of it
+-- what a job asks of the bundle's text is what its command asks; a run is to begin with the function that a word names
 abbrev pub asked : List (List ℕ) → Job → List ℕ → Part Ready
-asked words (Check file) bytes = accepted bytes >>= λ code. Ok ready.Accepted
-asked words (Print file) bytes = as_written bytes >>= λ bundle. Ok (ready.Canonical bundle)
-asked words (Run file name) bytes = accepted bytes >>= built >>= λ code. entered code (word words name) >>= λ n. Ok (ready.Entered code n)
+asked words (Check file) bytes = for_check bytes
+asked words (Print file) bytes = for_print bytes
+asked words (Run file name) bytes = for_run bytes (word words name)
 
 -- what is found on the way: the bundle's file, and what the job asks of it
 abbrev pub found : List (List ℕ) → Job → Outcome → Part Ready

@@ -3,8 +3,8 @@ use Rattle.std.proofs.Common.{◌≡◌, ℕ, List, refl}
 use Rattle.std.specs.Prelude.{Ok, Err}
 use Rattle.ir_tree.specs.declared.items.Item.{Item}
 use Rattle.mu_texts.specs.declared.ready.Ready.TheVariants as ready
-use Rattle.mu_texts.specs.Answer.{Answer, Part, ◌>>=◌, accepted, built, entered}
-use Rattle.mu_texts.specs.Comes.{begun, for_run}
+use Rattle.mu_texts.specs.Answer.{Answer, Part, ◌>>=◌, accepted, built, entered, for_run}
+use Rattle.mu_texts.specs.Comes.{begun}
 
 stops : {A B C : Type 0} (part : Part A) (f : A → Part B) (g : A → B → Part C) (answer : Answer) → (part >>= f) ≡ Err answer → (part >>= λ x. f x >>= g x) ≡ Err answer
 stops (Ok x) f g answer e = rw e refl

@@ -88,6 +88,17 @@ entry_part (Err fault) = Err (line (codes "refused entry " ++ entry_fault_name f
 abbrev pub entered : List Item → List ℕ → Part ℕ
 entered bundle name = entry_part (entry bundle name)
 
+-- what `mu check`, `mu print` and `mu run` ask of a text: that it is accepted; the bundle as it is written; or a bundle that is accepted
+-- and built, and a function of it
+abbrev pub for_check : List ℕ → Part Ready
+for_check bytes = accepted bytes >>= λ code. Ok ready.Accepted
+
+abbrev pub for_print : List ℕ → Part Ready
+for_print bytes = as_written bytes >>= λ bundle. Ok (ready.Canonical bundle)
+
+abbrev pub for_run : List ℕ → List ℕ → Part Ready
+for_run bytes name = accepted bytes >>= built >>= λ code. entered code name >>= λ n. Ok (ready.Entered code n)
+
 -- the lines of the run, a piece each, and then its ending; a run that is stuck would have no answer
 abbrev pub run_answer : Option RunOfMachine → Answer
 run_answer (Some r) = record { pieces = map line_text r.lines ++ ending_text r.ending ∷ []; status = ending_status r.ending }

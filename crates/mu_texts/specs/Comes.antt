@@ -7,17 +7,7 @@ use Rattle.mu_texts.specs.declared.ready.Ready.{Ready}
 use Rattle.mu_texts.specs.declared.ready.Ready.TheVariants as ready
 use Rattle.mu_step.specs.Run.{run}
 use Rattle.ir_tree.specs.declared.items.Item.{Item}
-use Rattle.mu_texts.specs.Answer.{Part, ◌>>=◌, line, refused, as_written, accepted, built, entered}
-
--- what `mu check`, `mu print` and `mu run` ask of a text
-abbrev pub for_check : List ℕ → Part Ready
-for_check bytes = accepted bytes >>= λ code. Ok ready.Accepted
-
-abbrev pub for_print : List ℕ → Part Ready
-for_print bytes = as_written bytes >>= λ bundle. Ok (ready.Canonical bundle)
-
-abbrev pub for_run : List ℕ → List ℕ → Part Ready
-for_run bytes name = accepted bytes >>= built >>= λ code. entered code name >>= λ n. Ok (ready.Entered code n)
+use Rattle.mu_texts.specs.Answer.{Part, ◌>>=◌, line, refused, built, entered}
 
 -- the function that the run of a bundle begins with, where all its functions are built
 abbrev pub begun : List Item → List ℕ → Part ℕ

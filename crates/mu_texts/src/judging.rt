@@ -3,8 +3,8 @@ ghost use Rattle.std.specs.Prelude.{◌≡◌, None, Ok, IfOk, OnOk, IsSome};
 ghost use Rattle.demands.specs.Demands.{first_unmet};
 ghost use Rattle.mu_step.specs.Built.{built_demands};
 ghost use Rattle.mu_step.specs.Run.{run};
-ghost use Rattle.mu_texts.specs.Answer.{as_written, named, checked, built, accepted, entered};
-ghost use Rattle.mu_texts.specs.Comes.{Comes, Passes, IsRefusal, CanRun, for_check, for_print, for_run, begun};
+ghost use Rattle.mu_texts.specs.Answer.{as_written, named, checked, built, accepted, entered, for_check, for_print, for_run};
+ghost use Rattle.mu_texts.specs.Comes.{Comes, Passes, IsRefusal, CanRun, begun};
 
 use crate::ready::Ready;
 use crate::refusals::{
