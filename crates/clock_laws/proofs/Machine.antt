@@ -3,8 +3,8 @@ use Rattle.std.proofs.Common.{◌≡◌, ℕ, suc, ◌-◌, ◌<◌, ◌≤◌, 
 use Rattle.std.specs.Prelude.{max}
 use Rattle.std.proofs.lemmas.Bool.{ne_eqb, eq-eqb, eqb-true, cases_eq, or_cases, or_left, or_right, and_from, and_parts, false≢true}
 use Rattle.mu_values.specs.declared.scalars.Scalar.{Scalar}
-use Rattle.typed_heap.specs.declared.cells.CellId.{CellId}
-use Rattle.typed_heap.proofs.Equal.{same_cell-refl}
+use Rattle.heap_cells.specs.declared.cells.CellId.{CellId}
+use Rattle.heap_cells.proofs.Equal.{same_cell-refl}
 use Rattle.mem_axioms.specs.Events.{is_atomic, position_of, position_taken, modifies, is_fence, is_update, order_of, loads}
 use Rattle.mem_axioms.specs.Logs.{event_at, newest}
 use Rattle.mem_axioms.specs.Synchronizes.{releases, continues, makes_thread, last_to_give_up, gives_up, heads, released, released_to}

@@ -3,8 +3,8 @@ use Rattle.std.proofs.Common.{◌≡◌, ℕ, suc, ◌+◌, ◌-◌, ◌<◌, �
 use Rattle.std.proofs.lemmas.List.{get_or_append_left, get_or_push, get_or-replicate, get_or_past, length-replicate}
 use Rattle.std.proofs.lemmas.Bool.{cases_lt, cases_eq, and_from, false≢true}
 use Rattle.mu_values.specs.declared.scalars.Scalar.{Scalar}
-use Rattle.typed_heap.specs.declared.cells.CellId.{CellId}
-use Rattle.typed_heap.proofs.Equal.{same_cell-true}
+use Rattle.heap_cells.specs.declared.cells.CellId.{CellId}
+use Rattle.heap_cells.proofs.Equal.{same_cell-true}
 use Rattle.mem_axioms.specs.Events.{accesses}
 use Rattle.mem_axioms.specs.HappensBefore.{happens_before}
 use Rattle.mem_axioms.specs.Axioms.{is_coherent, is_seq_cst_ordered, meets_axioms}

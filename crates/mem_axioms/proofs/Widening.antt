@@ -3,7 +3,7 @@ use Rattle.std.proofs.Common.{◌≡◌, List, [], ◌∷◌, ◌++◌, length-a
 use Rattle.std.proofs.lemmas.List.{get_or_append_left}
 use Rattle.mu_values.specs.declared.scalars.Scalar.{Scalar}
 use Rattle.mu_values.specs.declared.scalars.Scalar.TheVariants.{Null}
-use Rattle.typed_heap.specs.declared.cells.CellId.{CellId}
+use Rattle.heap_cells.specs.declared.cells.CellId.{CellId}
 use Rattle.mem_axioms.specs.Objects.{initial_of, HasCell}
 use Rattle.mem_axioms.specs.Known.{HasCells}
 use Rattle.mem_axioms.specs.Sound.{IsSound}

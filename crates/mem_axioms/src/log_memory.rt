@@ -20,11 +20,11 @@ use crate::racing::least_race;
 use crate::read_test::may_come_next;
 use crate::rows::{Row, fill_row};
 use crate::types::{Chosen, Event, Kind, Mode, Race, Room, Rule, Wanted};
+use heap_cells::CellId;
 use mu_base::{Order, Steps};
 use mu_values::{Scalar, Value};
 use std::alloc::{AllocError, Global};
 use std::sync::ledger::Ledger;
-use typed_heap::CellId;
 
 /// A memory that keeps the log of its run and tests each read and each event against the axioms on the whole of it. It is
 /// slow and plain: what an access may read, and whether it races, is the text of the definitions. Beside each event stands

@@ -12,11 +12,11 @@ ghost use Rattle.mem_axioms.specs.Rooms.{HasRoom, one_less};
 ghost use Rattle.mem_axioms.specs.Sound.{IsSound};
 
 use crate::types::{Chosen, Event, Race, Wanted};
+use heap_cells::CellId;
 use mu_base::Steps;
 use mu_values::Value;
 use std::alloc::AllocError;
 use std::sync::ledger::Ledger;
-use typed_heap::CellId;
 
 /// The memory of a run. It says what an access may read, and whether an event races.
 ///

@@ -11,6 +11,7 @@ ghost use Rattle.mem_axioms.specs.EventFits.{EventFits, is_thread, wakes_at};
 use super::*;
 use crate::cell_values::newest_position;
 use crate::event_facts::{makes, wake};
+use heap_cells::CellId;
 use mu_base::{Order, Steps};
 use mu_values::{Scalar, Value};
 use std::alloc::{AllocError, Global};
@@ -18,7 +19,6 @@ use std::marker::Brand;
 use std::process::Abort;
 use std::sync::ledger::{Blank, Ledger};
 use std::test::Fail;
-use typed_heap::CellId;
 
 const X: CellId = CellId { object: 0, at: 0 };
 

@@ -1,7 +1,7 @@
 // The types of the memory model.
+use heap_cells::CellId;
 use mu_base::Order;
 use mu_values::Scalar;
-use typed_heap::CellId;
 
 /// Which writes go on a release sequence after its head.
 #[derive(Clone, Copy, Debug, PartialEq, Eq)]

@@ -1,8 +1,8 @@
 -- What an event takes, gains and gives, by what is kept.
 use Rattle.std.proofs.Common.{◌≡◌, ℕ, Bool, true, false, cond, ◌&&◌, eqb, List, length, refl, sym, ap, ◌∙◌, slice_index}
 use Rattle.std.proofs.lemmas.Bool.{false≢true, and_parts, eqb-true}
-use Rattle.typed_heap.specs.declared.cells.CellId.{CellId}
-use Rattle.typed_heap.proofs.Equal.{same_cell-true, same_cell-refl}
+use Rattle.heap_cells.specs.declared.cells.CellId.{CellId}
+use Rattle.heap_cells.proofs.Equal.{same_cell-true, same_cell-refl}
 use Rattle.mem_axioms.specs.Events.{accesses, position_taken, loads, is_atomic, is_wake}
 use Rattle.mem_axioms.specs.Logs.{event_at}
 use Rattle.mem_axioms.specs.Synchronizes.{acquires}

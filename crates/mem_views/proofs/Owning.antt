@@ -1,9 +1,9 @@
 -- A new place has its owner.
 use Rattle.std.proofs.Common.{◌≡◌, ℕ, suc, zero, ◌+◌, Bool, true, false, cond, ◌&&◌, eqb, List, [], ◌∷◌, ◌++◌, length, Some, refl, sym, ◌∙◌, arith}
 use Rattle.std.specs.Prelude.{slice_get}
-use Rattle.typed_heap.specs.declared.cells.CellId.{CellId}
-use Rattle.typed_heap.specs.SameCell.{same_cell}
-use Rattle.typed_heap.proofs.Equal.{same_cell-true}
+use Rattle.heap_cells.specs.declared.cells.CellId.{CellId}
+use Rattle.heap_cells.specs.SameCell.{same_cell}
+use Rattle.heap_cells.proofs.Equal.{same_cell-true}
 use Rattle.mem_views.specs.Placing.{number_at, place_in, Owned}
 
 get-kept : (xs : List CellId) (y x : CellId) (p : ℕ) → slice_get xs p ≡ Some x → slice_get (xs ++ y ∷ []) p ≡ Some x

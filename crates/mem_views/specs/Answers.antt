@@ -1,7 +1,7 @@
 -- What the answers of look-ups rest on. No clause of a public call speaks of it.
 use Rattle.std.specs.Prelude.{◌≡◌, ℕ, suc, true, List, length, slice_index, Option, Some, None}
 use Rattle.mu_values.specs.declared.scalars.Scalar.{Scalar}
-use Rattle.typed_heap.specs.declared.cells.CellId.{CellId}
+use Rattle.heap_cells.specs.declared.cells.CellId.{CellId}
 use Rattle.mem_axioms.specs.Axioms.{meets_axioms}
 use Rattle.mem_axioms.specs.Events.{accesses}
 use Rattle.mem_axioms.specs.Form.{fits_form, has_form}

@@ -1,6 +1,6 @@
 -- Room for accesses of a cell by a thread.
 use Rattle.std.specs.Prelude.{◌≡◌, ℕ, suc, ◌<◌, List, length, slice_index_or}
-use Rattle.typed_heap.specs.declared.cells.CellId.{CellId}
+use Rattle.heap_cells.specs.declared.cells.CellId.{CellId}
 use Rattle.mem_views.specs.Placing.{place_in}
 use Rattle.mem_views.specs.CellAdded.{CellRoom}
 use Rattle.mem_views.specs.declared.cell.CellViews.{CellViews}

@@ -1,6 +1,6 @@
 -- Which place a cell has: one less than its number. A cell whose number is 0 has none.
 use Rattle.std.specs.Prelude.{ℕ, suc, ◌≡◌, List, [], slice_index, slice_index_or, slice_get, Some}
-use Rattle.typed_heap.specs.declared.cells.CellId.{CellId}
+use Rattle.heap_cells.specs.declared.cells.CellId.{CellId}
 
 abbrev pub number_at : List (List ℕ) → ℕ → ℕ → ℕ
 number_at objects o i = slice_index (slice_index_or objects o []) i

@@ -1,6 +1,6 @@
 -- Room for the events of one step.
 use Rattle.std.specs.Prelude.{◌≡◌, ℕ, ◌<◌, List, Some}
-use Rattle.typed_heap.specs.declared.cells.CellId.{CellId}
+use Rattle.heap_cells.specs.declared.cells.CellId.{CellId}
 use Rattle.mem_axioms.specs.declared.types.Room.{Room}
 use Rattle.mem_views.specs.CellRooms.{CellRoomAt}
 use Rattle.mem_views.specs.declared.cell.CellViews.{CellViews}

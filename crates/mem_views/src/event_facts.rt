@@ -1,14 +1,14 @@
 // What an event is: the tests of the definitions, of one event.
 ghost use Rattle.std.specs.Prelude.{◌≡◌, ◌&&◌, ◌||◌, true, false, MatchOption};
-ghost use Rattle.typed_heap.specs.declared.cells.CellId.{CellId};
+ghost use Rattle.heap_cells.specs.declared.cells.CellId.{CellId};
 ghost use Rattle.mu_values.specs.SameScalar.{same_scalar};
 ghost use Rattle.mem_axioms.specs.Events.{is_atomic, is_seq_cst, loads, accesses, is_update, is_modification, order_of, position_of, position_taken, is_fence, is_seq_cst_fence, is_wake};
 ghost use Rattle.mem_axioms.specs.Synchronizes.{acquires, releases, makes_thread};
 
+use heap_cells::CellId;
 use mem_axioms::{Event, Kind, Mode};
 use mu_base::Order;
 use mu_values::Scalar;
-use typed_heap::CellId;
 
 /// Whether two scalars are one.
 pub fn is_same_scalar(a: Scalar, b: Scalar) -> bool

@@ -1,6 +1,6 @@
 // What is kept of the touched cells, each at its place.
 ghost use Rattle.std.specs.Prelude.{◌≡◌, ℕ, suc, ◌+◌, ◌<◌, ◌≤◌, true, false, List, ◌∷◌, length, slice_index_or, OnOk, IfOk};
-ghost use Rattle.typed_heap.specs.declared.cells.CellId.{CellId};
+ghost use Rattle.heap_cells.specs.declared.cells.CellId.{CellId};
 ghost use Rattle.mem_axioms.specs.Events.{accesses, is_modification, position_of};
 ghost use Rattle.mem_axioms.specs.declared.types.Rule.{Rule};
 ghost use Rattle.mem_axioms.specs.declared.types.Event.{Event};
@@ -20,9 +20,9 @@ use crate::cell::CellViews;
 use crate::event_facts::cell_of;
 use crate::places::Places;
 use clocks::{Clock, ClockList};
+use heap_cells::CellId;
 use mem_axioms::{Event, Rule};
 use std::alloc::{AllocError, Global};
-use typed_heap::CellId;
 
 /// Adds an access to what is kept at a place.
 fn add_at(

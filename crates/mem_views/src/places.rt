@@ -1,12 +1,12 @@
 // The place of each cell that was touched.
 ghost use Rattle.std.specs.Prelude.{◌≡◌, ℕ, ◌+◌, ◌<◌, ◌≤◌, ◌==◌, ◌&&◌, if◌then◌else◌, length, slice_index, slice_index_or, slice_get, vec_len, vec_capacity, Some, [], OnErr, IfOk, OnOk, MatchOption};
-ghost use Rattle.typed_heap.specs.declared.cells.CellId.{CellId};
-ghost use Rattle.typed_heap.specs.SameCell.{same_cell};
+ghost use Rattle.heap_cells.specs.declared.cells.CellId.{CellId};
+ghost use Rattle.heap_cells.specs.SameCell.{same_cell};
 ghost use Rattle.mem_views.specs.Placing.{number_at, place_in, Owned};
 
+use heap_cells::CellId;
 use std::alloc::{AllocError, Global};
 use std::marker::Model;
-use typed_heap::CellId;
 
 /// A number for each of some offsets, made as they are needed; 0 for the others.
 #[derive(Drop)]

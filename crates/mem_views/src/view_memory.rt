@@ -33,12 +33,12 @@ use crate::places::Places;
 use crate::racing::first_racing;
 use crate::rows::Rows;
 use clocks::{Clock, ClockList};
+use heap_cells::CellId;
 use mem_axioms::{Chosen, Event, Kind, Memory, Race, Room, Rule, Wanted};
 use mu_base::{Order, Steps};
 use mu_values::{Scalar, Value};
 use std::alloc::{AllocError, Global};
 use std::sync::ledger::Ledger;
-use typed_heap::CellId;
 use write_history::Tape;
 
 /// A memory that keeps clocks, the values of each touched cell, and its accesses by thread, in place of whole logs. What it

@@ -1,5 +1,5 @@
 use Rattle.std.proofs.Common.{◌+◌, ◌∙◌, length, cond, ap, ℕ}
-use Rattle.typed_heap.specs.SameCell.{same_cell}
+use Rattle.heap_cells.specs.SameCell.{same_cell}
 use Rattle.mem_views.specs.Placing.{place_in}
 use Rattle.mem_views.proofs.CellsKept.{cells-touched, cells-moved, place-below}
 use Rattle.mem_views.proofs.kept_cells.make_place.Goals as goal

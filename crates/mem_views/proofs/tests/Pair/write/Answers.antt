@@ -1,7 +1,7 @@
 use Rattle.std.proofs.Common.{◌≡◌, ◌∙◌, ◌+◌, suc, sym, ap, refl, reverse, List, true, arith}
 use Rattle.mu_base.specs.declared.order.Order.{Order}
 use Rattle.mu_values.specs.declared.scalars.Scalar.{Scalar}
-use Rattle.typed_heap.specs.declared.cells.CellId.{CellId}
+use Rattle.heap_cells.specs.declared.cells.CellId.{CellId}
 use Rattle.mem_axioms.specs.Objects.{HasCell, initial_of}
 use Rattle.mem_axioms.specs.EventFits.{EventFits, is_thread}
 use Rattle.mem_axioms.specs.Scalars.{scalars_of}

@@ -1,8 +1,8 @@
 -- The test of two cells is their equality.
 use Rattle.std.proofs.Common.{◌≡◌, ◌↔◌, eqb, ℕ, true, refl, ap, ◌∙◌}
 use Rattle.std.proofs.lemmas.Bool.{eq-eqb, eqb-true, and_from, and_parts}
-use Rattle.typed_heap.specs.SameCell.{same_cell}
-use Rattle.typed_heap.specs.declared.cells.CellId.{CellId}
+use Rattle.heap_cells.specs.SameCell.{same_cell}
+use Rattle.heap_cells.specs.declared.cells.CellId.{CellId}
 
 pub same_cell-true : (a b : CellId) → same_cell a b ≡ true → a ≡ b
 same_cell-true a b h =
