@@ -1,30 +1,82 @@
 #!/bin/sh
-# Runs mu with the given words, in the caller's folder. Builds the program first where it was not built since its
-# sources last changed. `mu --build` only builds.
+# Runs mu with the given words, in the caller's folder; the status is the program's. Where the program was not built yet from
+# the sources as they are, it is built first.
+#   mu --build               only builds
+#   mu --explain WORDS..     runs mu with WORDS, and says on standard error where a refusal stands and what it means.
+#                            Where standard error is a terminal, this is said without being asked.
+# Status 14: the program could not be built.
 set -u
-top=$(cd "$(dirname "$0")" && pwd) || exit 14
-program=$top/crates/mu/out/mu
-log=$top/crates/mu/out/build.log
+unset CDPATH
+script=$(readlink -f -- "$0") || exit 14
+top=$(dirname -- "$script")
+out=$top/crates/mu/out
 
-is_stale() {
-  [ ! -x "$program" ] ||
-    [ -n "$(find "$top/crates" "$top/crates.txt" -name out -prune -o -type f -newer "$program" -print | head -n 1)" ]
+fail() {
+  echo "mu: $1" >&2
+  exit 14
 }
 
+# A number of all sources, their names among them: a file that is deleted or renamed changes it as well.
+number_of_sources() {
+  (
+    cd "$top" || exit 14
+    { echo ./crates.txt; find ./crates -name out -prune -o -type f \( -name '*.rt' -o -name '*.antt' \) -print; } |
+      LC_ALL=C sort | tr '\n' '\0' | xargs -0 sha256sum | sha256sum | cut -c 1-32
+  )
+}
+
+# Proves and links once. What an earlier build left is removed first, so a program that is there afterwards is of this one.
+# The first command proves crates side by side that do not stand on one another; the second proves what is left and links. With
+# no words the program prints its usage.
+make_program() {
+  rm -f "$out/mu"
+  (cd "$top" && rt all check --jobs "$(nproc)") > "$out/build.log" 2>&1 < /dev/null
+  (cd "$top/crates/mu" && rt run) >> "$out/build.log" 2>&1 < /dev/null
+  [ -x "$out/mu" ]
+}
+
+# Builds the program that has the number of its sources in its name: so no call runs an older one, or half of one. Where sources
+# change while they are built, nobody knows what was built, and it is done again.
 build() {
   echo "mu: building the program; the first time this proves each crate, which takes some minutes" >&2
-  mkdir -p "$top/crates/mu/out"
-  # With no words the program prints its usage and ends with status 1.
-  (cd "$top/crates/mu" && rt run > "$log" 2>&1)
-  if [ ! -x "$program" ]; then
-    echo "mu: the build failed; the end of what it said:" >&2
-    tail -n 20 "$log" >&2
-    exit 14
-  fi
-  # Built from the sources as they are, also where the build found nothing to do.
-  touch "$program"
+  while :; do
+    number=$(number_of_sources)
+    if ! make_program; then
+      echo "mu: the build failed; the end of what it said:" >&2
+      tail -n 20 "$out/build.log" >&2
+      return 14
+    fi
+    [ "$(number_of_sources)" = "$number" ] && break
+  done
+  rm -f "$out"/program-*
+  cp "$out/mu" "$out/unfinished" && mv "$out/unfinished" "$out/program-$number"
 }
 
-if is_stale; then build; fi
-[ "${1-}" = --build ] && exit 0
-exec "$program" "$@"
+# Of several calls one builds, and the others wait for it.
+build_alone() {
+  mkdir -p "$out" || fail "no folder for the program"
+  (
+    flock 9
+    [ -x "$out/program-$(number_of_sources)" ] || build
+  ) 9> "$out/build.lock"
+}
+
+program=$out/program-$(number_of_sources)
+if [ ! -x "$program" ]; then
+  build_alone || exit 14
+  program=$out/program-$(number_of_sources)
+fi
+
+case ${1-} in
+--build)
+  [ $# -eq 1 ] || fail "--build takes no further word"
+  exit 0
+  ;;
+--explain) shift ;;
+*) [ -t 2 ] || exec "$program" "$@" ;;
+esac
+
+"$program" "$@"
+status=$?
+[ "$status" -ne 3 ] || "$top/scripts/explain" "$program" "$@"
+exit "$status"
