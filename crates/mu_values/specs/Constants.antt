@@ -126,9 +126,9 @@ abbrev pub Judged : Demands ConstKind → Result (Unit {0}) ConstFault → Type 
 Judged ds (Ok x) = first_unmet ds ≡ None
 Judged ds (Err fault) = first_unmet ds ≡ Some (At fault.kind fault.place)
 
--- a number is for an int of 1 to 64 bits, and is less than 2^w
+-- a number is for an int of 1 to 128 bits, and is less than 2^w
 abbrev pub FitsWidth : Option ℕ → LiteralKind → Type 0
-FitsWidth width (literals.Number negative magnitude) = IfSome width (λ w. (1 ≤ w) × (w ≤ 64) × (magnitude < 2 ^ w))
+FitsWidth width (literals.Number negative magnitude) = IfSome width (λ w. (1 ≤ w) × (w ≤ 128) × (magnitude < 2 ^ w))
 FitsWidth width literals.Null = Unit {0}
 FitsWidth width (literals.Members members places) = Unit {0}
 

@@ -77,7 +77,7 @@ fn number(
     negative: bool,
     magnitude: u128,
 ) -> Result<Value, AllocError>
-    requires width { IfSome width (λ w. (1 ≤ w) × (w ≤ 64) × (magnitude < 2 ^ w)) }
+    requires width { IfSome width (λ w. (1 ≤ w) × (w ≤ 128) × (magnitude < 2 ^ w)) }
     ensures { IfOk result (λ v. v.members ≡ number_value width negative magnitude) }
 {
     match width {
@@ -116,7 +116,7 @@ fn joined(alloc: Global, made: &Made, constants: &[u32]) -> Result<Value, AllocE
 
 /// The value of a literal as a constant of its type: of a number the integer of that width, of NULL itself, of a list the scalars
 /// of its members, which have to be made before (one that is not made has no scalars). A number has to fit the int's width, which
-/// is at most 64. It takes memory and time for the scalars that it has.
+/// is at most 128. It takes memory and time for the scalars that it has.
 pub fn make_const(
     alloc: Global,
     classes: &Classes,
