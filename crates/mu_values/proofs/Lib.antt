@@ -3,3 +3,4 @@ pub mod Signed
 pub mod Cuts
 pub mod Members
 pub mod Masks
+pub mod Widths

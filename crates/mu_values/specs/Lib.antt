@@ -1,5 +1,6 @@
 pub mod SameScalar
 pub mod Integers
+pub mod Updates
 pub mod Comparisons
 pub mod Constants
 pub mod Slots

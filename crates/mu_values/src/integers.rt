@@ -7,7 +7,7 @@ use crate::operators::{BinOp, ConvOp};
 
 /// The integer whose bits are all 1.
 #[tactic(auto, using(crate::proofs::Masks::all_ones))]
-fn ones(width: u32) -> u128
+pub fn ones(width: u32) -> u128
     requires { (1 ≤ width) × (width ≤ 128) }
     ensures { result ≡ 2 ^ width - 1 }
 {
@@ -25,7 +25,7 @@ fn low_bits(width: u32, n: u128) -> u128
 
 /// The low bits of a sum, which may need more than 128.
 #[tactic(auto, using(crate::proofs::Masks::low_of_wrapped))]
-fn add(width: u32, a: u128, b: u128) -> u128
+pub fn add(width: u32, a: u128, b: u128) -> u128
     requires { (1 ≤ width) × (width ≤ 128) }
     ensures { result ≡ (a + b) % 2 ^ width }
 {
@@ -81,7 +81,7 @@ pub fn negated(width: u32, n: u128) -> u128
     if n == 0 { 0 } else { ones(width) - n + 1 }
 }
 
-fn subtract(width: u32, a: u128, b: u128) -> u128
+pub fn subtract(width: u32, a: u128, b: u128) -> u128
     requires a { IsInteger width a }
     requires b { IsInteger width b }
     ensures { result ≡ bits_of width (pos a -ℤ pos b) }
