@@ -16,7 +16,7 @@ pub fn ones(width: u32) -> u128
 
 /// The low bits.
 #[tactic(auto, using(std::proofs::lemmas::Nat::and_mask))]
-fn low_bits(width: u32, n: u128) -> u128
+pub fn low_bits(width: u32, n: u128) -> u128
     requires { (1 ≤ width) × (width ≤ 128) }
     ensures { result ≡ n % 2 ^ width }
 {
