@@ -1,6 +1,6 @@
 -- Masks of low bits, and what is left of a number in 128 bits.
 use Rattle.std.proofs.Common.{◌≡◌, ℕ, zero, suc, ◌+◌, ◌-◌, ◌*◌, ◌/◌, ◌%◌, ◌^◌, ◌<◌, ◌≤◌, sym, ap, ◌∙◌, suc-mul, arith}
-use Rattle.std.proofs.lemmas.Nat.{pow_pos, pow-add, shr_high, mod_low, mod-pow-add, mod_below, and_mask}
+use Rattle.std.proofs.lemmas.Nat.{pow_pos, pow-add, shr_high, mod_low, mod-pow-add, mod_below}
 
 -- 2^(w+k) - 1 without its k low bits
 ones_shifted : (w k : ℕ) → (2 ^ (w + k) - 1) / 2 ^ k ≡ 2 ^ w - 1

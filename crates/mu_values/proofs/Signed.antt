@@ -39,7 +39,7 @@ bits_neg w (suc m) p l = bits_negsuc w m (omega (arith, l)) ∙ omega arith
 -- of a number only the low bits count
 pub bits_neg_low : (w m : ℕ) → bits_of w (neg_ℤ (pos (m % 2 ^ w))) ≡ bits_of w (neg_ℤ (pos m))
 bits_neg_low w zero = ap (λ (n : ℕ). bits_of w (neg_ℤ (pos n))) (zero-mod (2 ^ w))
-bits_neg_low w (suc m) = elim (cases_lt 0 (suc m % 2 ^ w)) [ | inl some ↦ partly some | inr none ↦ evenly (omega (arith, none)) ]
+bits_neg_low w (suc m) = elim (cases_lt 0 (suc m % 2 ^ w)) [ inl some ↦ partly some | inr none ↦ evenly (omega (arith, none)) ]
   where
     partly : 0 < suc m % 2 ^ w → bits_of w (neg_ℤ (pos (suc m % 2 ^ w))) ≡ bits_of w (negsuc m)
     partly some =

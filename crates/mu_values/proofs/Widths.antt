@@ -1,7 +1,6 @@
 -- What is computed with integers stays within their width.
-use Rattle.std.proofs.Common.{◌≡◌, ℕ, ◌-◌, ◌*◌, ◌/◌, ◌%◌, ◌^◌, ◌<◌, ◌≤◌, Bool, true, false, Option, Some, None, if◌then◌else◌, subst, arith}
+use Rattle.std.proofs.Common.{◌≡◌, ℕ, ◌/◌, ◌%◌, ◌^◌, ◌<◌, Bool, true, false, Some, None, if◌then◌else◌, arith}
 use Rattle.std.specs.Prelude.{ℤ, pos, negsuc, nat_eq, nat_lt, int_lt, bit_and}
-
 use Rattle.std.proofs.lemmas.Nat.{pow_pos, mod_below, and_le_l, or_lt, xor_lt}
 use Rattle.std.proofs.Math.Nat.{mod-le, div-le_self}
 use Rattle.mu_values.specs.declared.operators.BinOp.{BinOp}
@@ -10,7 +9,7 @@ use Rattle.mu_values.specs.declared.operators.ConvOp.{ConvOp}
 use Rattle.mu_values.specs.declared.operators.ConvOp.TheVariants as conversions
 use Rattle.mu_values.specs.declared.operators.UpdateOp.{UpdateOp}
 use Rattle.mu_values.specs.declared.operators.UpdateOp.TheVariants as updates
-use Rattle.mu_values.specs.Integers.{signed, bits_of, divided, shift, binary_value, converted, IsConversion}
+use Rattle.mu_values.specs.Integers.{signed, bits_of, shift, binary_value, converted, IsConversion}
 use Rattle.mu_values.specs.Updates.{updated_bits}
 use Rattle.mu_values.proofs.Signed.{pow_up}
 

@@ -5,5 +5,6 @@ pub mod Comparisons
 pub mod Constants
 pub mod Slots
 pub mod IntegerExamples
+pub mod UpdateExamples
 pub mod ComparisonExamples
 pub mod ConstantExamples
