@@ -194,3 +194,10 @@ is_not_wider from to = is_int to && nat_le (width_of to) (width_of from)
 
 abbrev pub is_not_narrower : Option TypeDef → Option TypeDef → Bool
 is_not_narrower from to = is_int to && nat_le (width_of from) (width_of to)
+
+-- an index or a count of elements is an int of at most 64 bits
+abbrev pub most_bits_of_an_index : ℕ
+most_bits_of_an_index = 64
+
+abbrev pub is_index_type : Option TypeDef → Bool
+is_index_type d = is_int d && nat_le (width_of d) most_bits_of_an_index

@@ -1,7 +1,7 @@
 // What the forms of instructions ask of the types that they name.
 ghost use Rattle.std.specs.Prelude.{◌≡◌, Some, is_some, option_map, IfSome};
 ghost use Rattle.check_tables.specs.Lookups.{definition_named, leaves_named};
-ghost use Rattle.check_tables.specs.TypeTests.{is_int, is_scalar, is_sized, is_no_hybrid, is_value_type, is_castable, are_cast, is_hybrid, is_struct, fields_of, fixed_fields_of, field_at, element_of, repeated_of, width_of, is_not_wider, is_not_narrower};
+ghost use Rattle.check_tables.specs.TypeTests.{is_int, is_scalar, is_sized, is_no_hybrid, is_value_type, is_castable, are_cast, is_hybrid, is_struct, fields_of, fixed_fields_of, field_at, element_of, repeated_of, width_of, is_not_wider, is_not_narrower, is_index_type};
 
 use crate::tables::Tables;
 use ir_lex::{Name, Number};
@@ -9,6 +9,9 @@ use mu_types::TypeDef;
 
 /// The most leaves of a variable's type.
 const MOST_LEAVES_OF_A_VARIABLE: usize = 256;
+
+/// The most bits of an index.
+const MOST_BITS_OF_AN_INDEX: u128 = 64;
 
 /// A field that is there: its number, and the number of its type.
 #[derive(Clone, Copy, Debug, PartialEq, Eq)]
@@ -199,5 +202,12 @@ impl Tables {
         ensures { result ≡ is_not_narrower (definition_named self.now from.now) (definition_named self.now to.now) }
     {
         self.is_int(to) && self.width(from) <= self.width(to)
+    }
+
+    /// Whether the name is that of an int that indexes and counts of elements may have.
+    pub fn is_index_type(&self, name: &Name) -> bool
+        ensures { result ≡ is_index_type (definition_named self.now name.now) }
+    {
+        self.is_int(name) && self.width(name) <= MOST_BITS_OF_AN_INDEX
     }
 }

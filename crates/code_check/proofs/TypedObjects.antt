@@ -11,7 +11,7 @@ use Rattle.check_tables.specs.declared.fault.CheckKind.TheVariants.{OperandType}
 use Rattle.check_tables.specs.declared.tables.Tables.{Tables}
 use Rattle.check_tables.specs.Types.{class_like, definition_at, definition_in, is_type_there, ref_in, iref_in}
 use Rattle.check_tables.specs.Lookups.{or_zero, type_named, ref_named, definition_named}
-use Rattle.check_tables.specs.TypeTests.{is_int, is_sized, is_no_hybrid, is_hybrid, fixed_fields_of, element_of, repeated_of}
+use Rattle.check_tables.specs.TypeTests.{is_index_type, is_sized, is_no_hybrid, is_hybrid, fixed_fields_of, element_of, repeated_of}
 use Rattle.code_check.specs.declared.scopes.Locals.{Locals}
 use Rattle.code_check.specs.Operands.{source_of}
 use Rattle.code_check.specs.Objects.{allocation_demands, allocation_gives, allocation_code, fixed_field_named, addressing_demands, addressing_gives, addressing_code}
@@ -41,7 +41,7 @@ allocation_fits p ls (allocations.New t e) fits m =
 allocation_fits p ls (allocations.Newhybrid h i n e) fits m =
     let type : TypeIn p (type_named p h) is_hybrid = type_of p h is_hybrid refl m.0 in (
       type.type,
-      (type_of p i is_int refl m.1.0).type,
+      (type_of p i is_index_type refl m.1.0).type,
       of_type_fits p ls n i fits m.1.1,
       gives_object p type.type.number (allocation_gives p (allocations.Newhybrid h i n e)) (hybrid_is_there (definition_at p.types type.type.number) type.type.passes)
           (ap (λ o. or_zero (ref_in p.types o) ∷ []) type.is),
@@ -102,7 +102,7 @@ addressing_fits p ls (addressings.Getfieldiref t n l) tables fits m =
 addressing_fits p ls (addressings.Getelemiref t i l x) tables fits m =
     let type : TypeIn p (type_named p t) has_element = type_of p t has_element refl m.0 in (
       type.type,
-      (type_of p i is_int refl m.1.0).type,
+      (type_of p i is_index_type refl m.1.0).type,
       place_fits p ls l (type_named p t) type.type.number fits type.is m.1.1.0,
       of_type_fits p ls x i fits m.1.1.1,
       part_gives_place p (element_of (definition_at p.types type.type.number)) (addressing_gives p (addressings.Getelemiref t i l x))
@@ -112,7 +112,7 @@ addressing_fits p ls (addressings.Getelemiref t i l x) tables fits m =
 addressing_fits p ls (addressings.Shiftiref t i l x) tables fits m =
     let type : TypeIn p (type_named p t) is_sized = type_of p t is_sized refl m.0 in (
       type.type,
-      (type_of p i is_int refl m.1.0).type,
+      (type_of p i is_index_type refl m.1.0).type,
       place_fits p ls l (type_named p t) type.type.number fits type.is m.1.1.0,
       of_type_fits p ls x i fits m.1.1.1,
       gives_place p type.type.number (addressing_gives p (addressings.Shiftiref t i l x)) (sized_is_there (definition_at p.types type.type.number) type.type.passes)

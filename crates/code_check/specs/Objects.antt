@@ -14,7 +14,7 @@ use Rattle.check_tables.specs.declared.fault.CheckKind.TheVariants.{OperandType,
 use Rattle.check_tables.specs.declared.tables.Tables.{Tables}
 use Rattle.check_tables.specs.Types.{iref_in}
 use Rattle.check_tables.specs.Lookups.{or_zero, noted_class, definition_named, ref_named, iref_named}
-use Rattle.check_tables.specs.TypeTests.{is_int, is_sized, is_no_hybrid, is_hybrid, fixed_fields_of, field_at, element_of, repeated_of}
+use Rattle.check_tables.specs.TypeTests.{is_index_type, is_sized, is_no_hybrid, is_hybrid, fixed_fields_of, field_at, element_of, repeated_of}
 use Rattle.code_check.specs.declared.code.AllocationForm.{AllocationForm}
 use Rattle.code_check.specs.declared.code.AllocationForm.TheVariants as makings
 use Rattle.code_check.specs.declared.code.AddressingForm.{AddressingForm}
@@ -27,9 +27,9 @@ use Rattle.code_check.specs.Operands.{operand_demands, of_type, type_demand, sou
 abbrev pub allocation_demands : Tables → Locals → Allocation → Demands CheckKind
 -- NEW < T > exc?: T no hybrid
 allocation_demands p ls (allocations.New t e) = type_demand t (is_no_hybrid (definition_named p t))
--- NEWHYBRID < H I > n exc?: H hybrid; I int; n: I
+-- NEWHYBRID < H I > n exc?: H hybrid; I int of at most 64 bits; n: I
 allocation_demands p ls (allocations.Newhybrid h i n e) =
-    type_demand h (is_hybrid (definition_named p h)) ⨾ type_demand i (is_int (definition_named p i)) ⨾ of_type p ls n i
+    type_demand h (is_hybrid (definition_named p h)) ⨾ type_demand i (is_index_type (definition_named p i)) ⨾ of_type p ls n i
 -- ALLOCA < T > exc?: T no hybrid
 allocation_demands p ls (allocations.Alloca t e) = type_demand t (is_no_hybrid (definition_named p t))
 
@@ -63,12 +63,12 @@ addressing_demands p ls (addressings.Getiref t r) = object_of_type p ls r t
 -- GETFIELDIREF < T n > p: T struct or hybrid; n a field or a fixed field; p: iref<T>
 addressing_demands p ls (addressings.Getfieldiref t n l) =
     type_demand t (is_some (fixed_fields_of (definition_named p t))) ⨾ demand n.place BadIndex (is_some (fixed_field_named p t n)) ⨾ place_of_type p ls l t
--- GETELEMIREF < T I > p i: T array; I int; p: iref<T>; i: I
+-- GETELEMIREF < T I > p i: T array; I int of at most 64 bits; p: iref<T>; i: I
 addressing_demands p ls (addressings.Getelemiref t i l x) =
-    type_demand t (is_some (element_of (definition_named p t))) ⨾ type_demand i (is_int (definition_named p i)) ⨾ place_of_type p ls l t ⨾ of_type p ls x i
--- SHIFTIREF < T I > p i: T neither void nor hybrid; I int; p: iref<T>; i: I
+    type_demand t (is_some (element_of (definition_named p t))) ⨾ type_demand i (is_index_type (definition_named p i)) ⨾ place_of_type p ls l t ⨾ of_type p ls x i
+-- SHIFTIREF < T I > p i: T neither void nor hybrid; I int of at most 64 bits; p: iref<T>; i: I
 addressing_demands p ls (addressings.Shiftiref t i l x) =
-    type_demand t (is_sized (definition_named p t)) ⨾ type_demand i (is_int (definition_named p i)) ⨾ place_of_type p ls l t ⨾ of_type p ls x i
+    type_demand t (is_sized (definition_named p t)) ⨾ type_demand i (is_index_type (definition_named p i)) ⨾ place_of_type p ls l t ⨾ of_type p ls x i
 -- GETVARPARTIREF < H > p: H hybrid; p: iref<H>
 addressing_demands p ls (addressings.Getvarpartiref h l) = type_demand h (is_hybrid (definition_named p h)) ⨾ place_of_type p ls l h
 

@@ -23,7 +23,7 @@ use Rattle.check_tables.specs.declared.tables.Signature.{Signature}
 use Rattle.check_tables.specs.declared.tables.Tables.{Tables}
 use Rattle.check_tables.specs.Types.{definition_at, class_at, leaves_at, is_type_there, ref_at, iref_at, funcref_at, int1, int32, stackref, threadref, ref_void}
 use Rattle.check_tables.specs.Lookups.{signature_in, funcref_of}
-use Rattle.check_tables.specs.TypeTests.{is_int, is_scalar, is_sized, is_no_hybrid, is_value_type, is_castable, are_cast, is_hybrid, fields_of, fixed_fields_of, element_of, repeated_of}
+use Rattle.check_tables.specs.TypeTests.{is_int, is_index_type, is_scalar, is_sized, is_no_hybrid, is_value_type, is_castable, are_cast, is_hybrid, fields_of, fixed_fields_of, element_of, repeated_of}
 use Rattle.code_check.specs.declared.code.Source.{Source}
 use Rattle.code_check.specs.declared.code.Source.TheVariants as sources
 use Rattle.code_check.specs.declared.code.Target.{Target}
@@ -260,7 +260,7 @@ abbrev pub AllocationFits : Tables → List ℕ → AllocationForm → List ℕ 
 -- no hybrid; the result is a reference to an object of the type
 AllocationFits p ks (making.New c) gs = (t : HasType p is_no_hybrid c) × GivesObject p t.number gs
 -- a hybrid, and an int type, which the length has; the result is a reference to an object of the hybrid
-AllocationFits p ks (making.Newhybrid c d n) gs = (t : HasType p is_hybrid c) × HasType p is_int d × SourceFits p ks n d × GivesObject p t.number gs
+AllocationFits p ks (making.Newhybrid c d n) gs = (t : HasType p is_hybrid c) × HasType p is_index_type d × SourceFits p ks n d × GivesObject p t.number gs
 -- no hybrid; the result is a reference to a place of the type
 AllocationFits p ks (making.Alloca c) gs = (t : HasType p is_no_hybrid c) × GivesPlace p t.number gs
 
@@ -272,11 +272,11 @@ AddressingFits p ks (finding.Getfieldiref c n l) gs =
     (t : HasType p (has_fixed_field n) c) × PlaceFits p ks l t.number × IsSomeAnd (nth_fixed_field n (definition_at p.types t.number)) (λ k. GivesPlace p k gs)
 -- an array, and an int type, which the index has; a reference to a place of the array; the result is one to a place of its elements' type
 AddressingFits p ks (finding.Getelemiref c d l x) gs =
-    (t : HasType p has_element c) × HasType p is_int d × PlaceFits p ks l t.number × SourceFits p ks x d
+    (t : HasType p has_element c) × HasType p is_index_type d × PlaceFits p ks l t.number × SourceFits p ks x d
     × IsSomeAnd (element_of (definition_at p.types t.number)) (λ k. GivesPlace p k gs)
 -- neither void nor a hybrid, and an int type, which the offset has; a reference to a place of the first, and so is the result
 AddressingFits p ks (finding.Shiftiref c d l x) gs =
-    (t : HasType p is_sized c) × HasType p is_int d × PlaceFits p ks l t.number × SourceFits p ks x d × GivesPlace p t.number gs
+    (t : HasType p is_sized c) × HasType p is_index_type d × PlaceFits p ks l t.number × SourceFits p ks x d × GivesPlace p t.number gs
 -- a hybrid; a reference to a place of it; the result is one to a place of the type of which it has any number
 AddressingFits p ks (finding.Getvarpartiref c l) gs =
     (t : HasType p is_hybrid c) × PlaceFits p ks l t.number × IsSomeAnd (repeated_of (definition_at p.types t.number)) (λ k. GivesPlace p k gs)

@@ -5,7 +5,7 @@ ghost use Rattle.demands.specs.Names.{found};
 ghost use Rattle.check_tables.specs.declared.fault.CheckKind.TheVariants.{NotLocal, OperandType};
 ghost use Rattle.check_tables.specs.Types.{ref_void};
 ghost use Rattle.check_tables.specs.Lookups.{noted_class, definition_named};
-ghost use Rattle.check_tables.specs.TypeTests.{is_int};
+ghost use Rattle.check_tables.specs.TypeTests.{is_int, is_index_type};
 ghost use Rattle.code_check.specs.Operands.{is_class, operand_demands, of_type, member_demands, argument_demands, type_demand, value_type_demand, value_type_demands, noted_list, variable_demands, global_source, source_of, sources_of, numbers_in};
 
 use crate::code::Source;
@@ -167,6 +167,14 @@ pub fn int_type(tables: &Tables, name: &Name) -> Result<u32, CheckFault>
     ensures { Judges (type_demand name.now (is_int (definition_named tables.now name.now))) (noted_class tables.now name.now) result }
 {
     type_demand(name, tables.is_int(name))?;
+    Ok(tables.noted_class(name))
+}
+
+/// A type of indexes.
+pub fn index_type(tables: &Tables, name: &Name) -> Result<u32, CheckFault>
+    ensures { Judges (type_demand name.now (is_index_type (definition_named tables.now name.now))) (noted_class tables.now name.now) result }
+{
+    type_demand(name, tables.is_index_type(name))?;
     Ok(tables.noted_class(name))
 }
 

@@ -7,7 +7,7 @@ use std::test::Fail;
 
 // Definitions that stand behind the text of a row.
 const DEFINITIONS: &str =
-    " .typedef @i1 = int<1> .typedef @i8 = int<8> .typedef @i32 = int<32> .typedef @i64 = int<64> \
+    " .typedef @i1 = int<1> .typedef @i8 = int<8> .typedef @i32 = int<32> .typedef @i64 = int<64> .typedef @wide = int<128> \
     .typedef @void = void .typedef @rv = ref<@void> .typedef @ii = iref<@i64> .typedef @st = stackref .typedef @th = threadref \
     .typedef @pair = struct<@i64 @i32> .typedef @rp = ref<@pair> .typedef @ip = iref<@pair> .typedef @row = array<@i64 3> \
     .typedef @hy = hybrid<@i32 @i64> .typedef @ih = iref<@hy> .typedef @var = hybrid<@i64> .typedef @iv = iref<@var> \
@@ -464,7 +464,7 @@ fn names_of_another_kind(rt: HostRuntime) -> Result<(), Fail> {
 
 // Arguments of types.
 const GOOD_ARGUMENTS_OF_TYPES: [&str; 2] = [
-    ".typedef @a = int<1> .typedef @b = int<8> .typedef @c = int<16> .typedef @d = int<32> .typedef @e = int<64>",
+    ".typedef @a = int<1> .typedef @b = int<8> .typedef @c = int<16> .typedef @d = int<32> .typedef @e = int<64> .typedef @f = int<128>",
     ".typedef @a = array<@i1 1> .typedef @b = array<@i1 4096> .typedef @c = struct<@b>",
 ];
 
@@ -473,7 +473,7 @@ const BAD_ARGUMENTS_OF_TYPES: [Row; 18] = [
     (".typedef @a = int<2>", "refused bundle 18 WrongArgument\n"),
     (".typedef @a = int<63>", "refused bundle 18 WrongArgument\n"),
     (
-        ".typedef @a = int<128>",
+        ".typedef @a = int<129>",
         "refused bundle 18 WrongArgument\n",
     ),
     (".typedef @a = int<-8>", "refused bundle 18 WrongArgument\n"),
@@ -610,13 +610,14 @@ fn endless_and_large_types(rt: HostRuntime) -> Result<(), Fail> {
 }
 
 // Constants that do not fit their width.
-const GOOD_WIDTHS_OF_CONSTANTS: [&str; 3] = [
+const GOOD_WIDTHS_OF_CONSTANTS: [&str; 4] = [
     ".const @a <@i1> = 0 .const @b <@i1> = 1 .const @c <@i1> = -1",
     ".const @a <@i8> = 255 .const @b <@i8> = -128 .const @c <@i8> = -0",
     ".const @a <@i64> = 18446744073709551615 .const @b <@i64> = -9223372036854775808",
+    ".const @a <@wide> = 340282366920938463463374607431768211455 .const @b <@wide> = -170141183460469231731687303715884105728",
 ];
 
-const BAD_WIDTHS_OF_CONSTANTS: [Row; 8] = [
+const BAD_WIDTHS_OF_CONSTANTS: [Row; 10] = [
     (".const @a <@i1> = 2", "refused bundle 18 OutOfWidth\n"),
     (".const @a <@i1> = -2", "refused bundle 18 OutOfWidth\n"),
     (".const @a <@i8> = 256", "refused bundle 18 OutOfWidth\n"),
@@ -636,6 +637,14 @@ const BAD_WIDTHS_OF_CONSTANTS: [Row; 8] = [
     (
         ".const @a <@i8> = 340282366920938463463374607431768211455",
         "refused bundle 18 OutOfWidth\n",
+    ),
+    (
+        ".const @a <@wide> = 340282366920938463463374607431768211456",
+        "refused bundle 20 NumberTooLarge\n",
+    ),
+    (
+        ".const @a <@wide> = -170141183460469231731687303715884105729",
+        "refused bundle 20 OutOfWidth\n",
     ),
 ];
 
@@ -1451,7 +1460,7 @@ const GOOD_OBJECTS_AND_PLACES: [&str; 2] = [
     "%o = GETFIELDIREF <@pair 0> %q STORE RELEASE <@i64> %o %x %w = GETFIELDIREF <@hy 0> %h %v = LOAD <@i32> %w RET (%x)",
 ];
 
-const BAD_OBJECTS_AND_PLACES: [Row; 15] = [
+const BAD_OBJECTS_AND_PLACES: [Row; 16] = [
     (
         "%o = NEW <@var> RET (%x)",
         "refused bundle 160 OperandType\n",
@@ -1470,6 +1479,10 @@ const BAD_OBJECTS_AND_PLACES: [Row; 15] = [
     ),
     (
         "%o = NEWHYBRID <@var @rv> %r RET (%x)",
+        "refused bundle 171 OperandType\n",
+    ),
+    (
+        "%o = NEWHYBRID <@var @wide> %x RET (%x)",
         "refused bundle 171 OperandType\n",
     ),
     (
@@ -1532,13 +1545,17 @@ const GOOD_ELEMENTS_AND_SHIFTS: [&str; 2] = [
     "%o = GETELEMIREF <@row @i32> @cells %n %w = ATOMICRMW ACQUIRE NAND <@i64> %o %x RET (%w)",
 ];
 
-const BAD_ELEMENTS_AND_SHIFTS: [Row; 11] = [
+const BAD_ELEMENTS_AND_SHIFTS: [Row; 13] = [
     (
         "%o = GETELEMIREF <@pair @i64> %q %x RET (%x)",
         "refused bundle 168 OperandType\n",
     ),
     (
         "%o = GETELEMIREF <@row @rv> @cells %r RET (%x)",
+        "refused bundle 173 OperandType\n",
+    ),
+    (
+        "%o = GETELEMIREF <@row @wide> @cells %x RET (%x)",
         "refused bundle 173 OperandType\n",
     ),
     (
@@ -1559,6 +1576,10 @@ const BAD_ELEMENTS_AND_SHIFTS: [Row; 11] = [
     ),
     (
         "%o = SHIFTIREF <@i64 @pair> %p %x RET (%x)",
+        "refused bundle 171 OperandType\n",
+    ),
+    (
+        "%o = SHIFTIREF <@i64 @wide> %p %x RET (%x)",
         "refused bundle 171 OperandType\n",
     ),
     (

@@ -1,7 +1,7 @@
 // What is allowed of numbers.
 
 /// The widths that an int may have.
-pub const WIDTHS: [u128; 5] = [1, 8, 16, 32, 64];
+pub const WIDTHS: [u128; 6] = [1, 8, 16, 32, 64, 128];
 
 /// The greatest length of an array.
 pub const LONGEST_ARRAY: u128 = 4096;

@@ -60,7 +60,7 @@ fn names_first_faults(rt: HostRuntime) -> Result<(), Fail> {
     assert!(rt; long == fault(TypeKind::WrongArgument, 24));
     let octal = fault_of(alloc, TypeDef::Int { width: 10 })?;
     assert!(rt; octal == fault(TypeKind::WrongArgument, 18));
-    let good = fault_of(alloc, TypeDef::Int { width: 64 })?;
+    let good = fault_of(alloc, TypeDef::Int { width: 128 })?;
     assert!(rt; good == None);
     Ok(())
 }

@@ -2,3 +2,5 @@ pub mod Equal
 pub mod Signed
 pub mod Cuts
 pub mod Members
+pub mod Masks
+pub mod Widths

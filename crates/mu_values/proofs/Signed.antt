@@ -1,10 +1,10 @@
 -- Signed integers and their bits.
-use Rattle.std.proofs.Common.{◌≡◌, ℕ, zero, suc, ◌-◌, ◌/◌, ◌%◌, ◌^◌, ◌<◌, ◌≤◌, Bool, true, false, not, if◌then◌else◌, refl, sym, ap, ◌∙◌, arith, inl, inr}
+use Rattle.std.proofs.Common.{◌≡◌, ℕ, zero, suc, ◌+◌, ◌-◌, ◌*◌, ◌/◌, ◌%◌, ◌^◌, ◌<◌, ◌≤◌, Bool, true, false, not, if◌then◌else◌, refl, sym, ap, ◌∙◌, suc-mul, arith, inl, inr}
 use Rattle.std.specs.Prelude.{ℤ, pos, negsuc, neg_ℤ, ◌-ℤ◌, nat_lt, int_lt, int_le, int_div, int_rem, unsigned_abs}
 use Rattle.std.specs.Int.Signed.{shr_z}
 use Rattle.std.proofs.lemmas.Bool.{lt-ltb, le-ltb, ltb-true, ltb-false, cases_lt}
 use Rattle.std.proofs.lemmas.Int.{ints}
-use Rattle.std.proofs.lemmas.Nat.{pow_pos, pow_below}
+use Rattle.std.proofs.lemmas.Nat.{pow_pos, pow_below, shr_split, mod_low, mod_below}
 use Rattle.std.proofs.Math.Nat.{mod-eq_of_lt, zero-mod, mod-le, div-le_self}
 use mathlib.Core.Bool.{beq}
 use Rattle.mu_values.specs.Integers.{signed, bits_of}
@@ -35,6 +35,35 @@ bits_neg_zero w = zero-mod (2 ^ w)
 pub bits_neg : (w m : ℕ) → 0 < m → m < 2 ^ w → bits_of w (neg_ℤ (pos m)) ≡ 2 ^ w - m
 bits_neg w zero p l = absurd (omega (arith, p))
 bits_neg w (suc m) p l = bits_negsuc w m (omega (arith, l)) ∙ omega arith
+
+-- of a number only the low bits count
+pub bits_neg_low : (w m : ℕ) → bits_of w (neg_ℤ (pos (m % 2 ^ w))) ≡ bits_of w (neg_ℤ (pos m))
+bits_neg_low w zero = ap (λ (n : ℕ). bits_of w (neg_ℤ (pos n))) (zero-mod (2 ^ w))
+bits_neg_low w (suc m) = elim (cases_lt 0 (suc m % 2 ^ w)) [ inl some ↦ partly some | inr none ↦ evenly (omega (arith, none)) ]
+  where
+    partly : 0 < suc m % 2 ^ w → bits_of w (neg_ℤ (pos (suc m % 2 ^ w))) ≡ bits_of w (negsuc m)
+    partly some =
+        let split = shr_split (suc m) w in
+        let few = mod_below (suc m) (2 ^ w) (pow_pos w) in
+        let one_less : m ≡ suc m / 2 ^ w * 2 ^ w + (suc m % 2 ^ w - 1) = omega (arith, split, some) in
+        let left : m % 2 ^ w ≡ suc m % 2 ^ w - 1 = ap (λ n. n % 2 ^ w) one_less ∙ mod_low (suc m / 2 ^ w) w (suc m % 2 ^ w - 1) (omega (arith, few, some)) in
+        let rest : 2 ^ w - suc m % 2 ^ w ≡ 2 ^ w - 1 - m % 2 ^ w = omega (arith, left, some, few) in
+        bits_neg w (suc m % 2 ^ w) some few ∙ rest
+
+    evenly : suc m % 2 ^ w ≡ 0 → bits_of w (neg_ℤ (pos (suc m % 2 ^ w))) ≡ bits_of w (negsuc m)
+    evenly none =
+        let split = shr_split (suc m) w in
+        let one = pow_pos w in
+        let left : m % 2 ^ w ≡ 2 ^ w - 1 = below (suc m / 2 ^ w) (omega (arith, split, none)) in
+        let gone : 0 ≡ 2 ^ w - 1 - m % 2 ^ w = omega (arith, left) in
+        ap (λ (n : ℕ). bits_of w (neg_ℤ (pos n))) none ∙ bits_neg_zero w ∙ gone
+      where
+        below : (q : ℕ) → q * 2 ^ w ≡ suc m → m % 2 ^ w ≡ 2 ^ w - 1
+        below zero e = absurd (omega (arith, e))
+        below (suc q) e =
+            let one = pow_pos w in
+            let one_less : m ≡ q * 2 ^ w + (2 ^ w - 1) = omega (arith, suc-mul q (2 ^ w), e, one) in
+            ap (λ n. n % 2 ^ w) one_less ∙ mod_low q w (2 ^ w - 1) (omega (arith, one))
 
 -- ---- quotients and remainders by the absolute values
 

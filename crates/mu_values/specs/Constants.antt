@@ -1,5 +1,5 @@
 -- Constants: the demands on a literal by its type, and the value that it has.
-use Rattle.std.specs.Prelude.{◌≡◌, ℕ, ◌<◌, ◌≤◌, IfSome, Result, Ok, Err, zero, suc, ◌-◌, ◌^◌, Bool, true, false, pos, neg_ℤ, List, [], ◌∷◌, length, Option, Some, None, slice_get, slice_index, nat_eq, nat_lt, nat_le, if◌then◌else◌}
+use Rattle.std.specs.Prelude.{◌≡◌, ℕ, ◌<◌, Result, Ok, Err, zero, suc, ◌-◌, ◌^◌, Bool, true, false, pos, neg_ℤ, List, [], ◌∷◌, length, Option, Some, None, slice_get, slice_index, nat_eq, nat_lt, nat_le, if◌then◌else◌}
 use Rattle.std.specs.List.{All, flat_map}
 use Rattle.std.specs.BTreeMap.{get}
 use Rattle.std.specs.Ordering.{nat_cmp}
@@ -125,12 +125,6 @@ HasMembers many (literals.Members members places) = All (λ n. n < many) members
 abbrev pub Judged : Demands ConstKind → Result (Unit {0}) ConstFault → Type 0
 Judged ds (Ok x) = first_unmet ds ≡ None
 Judged ds (Err fault) = first_unmet ds ≡ Some (At fault.kind fault.place)
-
--- a number is for an int of 1 to 64 bits, and is less than 2^w
-abbrev pub FitsWidth : Option ℕ → LiteralKind → Type 0
-FitsWidth width (literals.Number negative magnitude) = IfSome width (λ w. (1 ≤ w) × (w ≤ 64) × (magnitude < 2 ^ w))
-FitsWidth width literals.Null = Unit {0}
-FitsWidth width (literals.Members members places) = Unit {0}
 
 -- ---- values
 

@@ -424,3 +424,9 @@ the_sign_comes_in_front :
     × (converted conversions.Sext 64 64 9223372036854775808 ≡ 9223372036854775808)
     × (converted conversions.Sext 64 64 18446744073709551615 ≡ 18446744073709551615)
 the_sign_comes_in_front = (refl, refl, refl, refl, refl, refl, refl, refl, refl, refl, refl, refl, refl, refl, refl, refl, refl, refl, refl, refl, refl, refl, refl, refl, refl, refl, refl, refl, refl, refl, refl, refl, refl, refl, refl, refl, refl, refl, refl, refl)
+
+the_widest_integers :
+    (binary_value binaries.Mul 128 340282366920938463463374607431768211455 340282366920938463463374607431768211455 ≡ Some 1)
+    × (binary_value binaries.Sdiv 128 170141183460469231731687303715884105728 340282366920938463463374607431768211455 ≡ Some 170141183460469231731687303715884105728)
+    × (converted conversions.Sext 64 128 9223372036854775808 ≡ 340282366920938463454151235394913435648)
+the_widest_integers = (refl, refl, refl)

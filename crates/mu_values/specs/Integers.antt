@@ -7,9 +7,9 @@ use Rattle.mu_values.specs.declared.operators.BinOp.TheVariants as binaries
 use Rattle.mu_values.specs.declared.operators.ConvOp.{ConvOp}
 use Rattle.mu_values.specs.declared.operators.ConvOp.TheVariants as conversions
 
--- n is an integer of w bits; integers of more than 64 bits are not built yet
+-- n is an integer of w bits, of which there are at most 128
 abbrev pub IsInteger : ℕ → ℕ → Type 0
-IsInteger w n = (1 ≤ w) × (w ≤ 64) × (n < 2 ^ w)
+IsInteger w n = (1 ≤ w) × (w ≤ 128) × (n < 2 ^ w)
 
 -- the whole number that the bits write in two's complement: from 2^(w-1) on it is negative
 abbrev pub signed : ℕ → ℕ → ℤ

@@ -1,8 +1,10 @@
 pub mod SameScalar
 pub mod Integers
+pub mod Updates
 pub mod Comparisons
 pub mod Constants
 pub mod Slots
 pub mod IntegerExamples
+pub mod UpdateExamples
 pub mod ComparisonExamples
 pub mod ConstantExamples

@@ -6,19 +6,39 @@ ghost use Rattle.mu_values.specs.Integers.{IsInteger, signed, bits_of, shift, bi
 use crate::operators::{BinOp, ConvOp};
 
 /// The integer whose bits are all 1.
-fn ones(width: u32) -> u128
-    requires { width ≤ 64 }
+#[tactic(auto, using(crate::proofs::Masks::all_ones))]
+pub fn ones(width: u32) -> u128
+    requires { (1 ≤ width) × (width ≤ 128) }
     ensures { result ≡ 2 ^ width - 1 }
 {
-    (1 << width) - 1
+    u128::MAX >> (128 - width)
 }
 
 /// The low bits.
-fn low_bits(width: u32, n: u128) -> u128
-    requires { width ≤ 64 }
+#[tactic(auto, using(std::proofs::lemmas::Nat::and_mask))]
+pub fn low_bits(width: u32, n: u128) -> u128
+    requires { (1 ≤ width) × (width ≤ 128) }
     ensures { result ≡ n % 2 ^ width }
 {
-    n % (1 << width)
+    n & ones(width)
+}
+
+/// The low bits of a sum, which may need more than 128.
+#[tactic(auto, using(crate::proofs::Masks::low_of_wrapped))]
+pub fn add(width: u32, a: u128, b: u128) -> u128
+    requires { (1 ≤ width) × (width ≤ 128) }
+    ensures { result ≡ (a + b) % 2 ^ width }
+{
+    low_bits(width, a.wrapping_add(b))
+}
+
+/// The low bits of a product, which may need more than 128.
+#[tactic(auto, using(crate::proofs::Masks::low_of_wrapped))]
+fn multiply(width: u32, a: u128, b: u128) -> u128
+    requires { (1 ≤ width) × (width ≤ 128) }
+    ensures { result ≡ (a * b) % 2 ^ width }
+{
+    low_bits(width, a.wrapping_mul(b))
 }
 
 pub fn is_negative(width: u32, n: u128) -> bool
@@ -61,7 +81,7 @@ pub fn negated(width: u32, n: u128) -> u128
     if n == 0 { 0 } else { ones(width) - n + 1 }
 }
 
-fn subtract(width: u32, a: u128, b: u128) -> u128
+pub fn subtract(width: u32, a: u128, b: u128) -> u128
     requires a { IsInteger width a }
     requires b { IsInteger width b }
     ensures { result ≡ bits_of width (pos a -ℤ pos b) }
@@ -110,12 +130,13 @@ fn distance(width: u32, b: u128) -> u32
     (b % width as u128) as u32
 }
 
+#[tactic(auto, using(crate::proofs::Masks::low_of_wrapped))]
 fn shift_left(width: u32, a: u128, b: u128) -> u128
     requires a { IsInteger width a }
     requires b { IsInteger width b }
     ensures { result ≡ (a * shift width b) % 2 ^ width }
 {
-    low_bits(width, a * (1 << distance(width, b)))
+    low_bits(width, a << distance(width, b))
 }
 
 fn shift_right(width: u32, a: u128, b: u128) -> u128
@@ -139,7 +160,7 @@ fn shift_signed(width: u32, a: u128, b: u128) -> u128
     }
 }
 
-/// What the operation makes of two integers of that many bits, 1 to 64. None comes exactly where a divisor is 0. The least
+/// What the operation makes of two integers of that many bits, 1 to 128. None comes exactly where a divisor is 0. The least
 /// integer divided by -1 is itself, with remainder 0. It takes constant time and no memory.
 pub fn binary(op: BinOp, width: u32, a: u128, b: u128) -> Option<u128>
     requires a { IsInteger width a }
@@ -147,9 +168,9 @@ pub fn binary(op: BinOp, width: u32, a: u128, b: u128) -> Option<u128>
     ensures { result ≡ binary_value op width a b }
 {
     match op {
-        BinOp::Add => Some(low_bits(width, a + b)),
+        BinOp::Add => Some(add(width, a, b)),
         BinOp::Sub => Some(subtract(width, a, b)),
-        BinOp::Mul => Some(low_bits(width, a * b)),
+        BinOp::Mul => Some(multiply(width, a, b)),
         BinOp::Sdiv => if b == 0 {
             None
         } else {
@@ -174,7 +195,7 @@ pub fn binary(op: BinOp, width: u32, a: u128, b: u128) -> Option<u128>
 /// What the integer of width `from` is at width `to`. It takes constant time and no memory.
 pub fn convert(op: ConvOp, from: u32, to: u32, bits: u128) -> u128
     requires bits { IsInteger from bits }
-    requires to { (1 ≤ to) × (to ≤ 64) }
+    requires to { (1 ≤ to) × (to ≤ 128) }
     requires fits { IsConversion op from to }
     ensures { result ≡ converted op from to bits }
 {
@@ -188,7 +209,7 @@ pub fn convert(op: ConvOp, from: u32, to: u32, bits: u128) -> u128
 fn extend(from: u32, to: u32, bits: u128) -> u128
     requires bits { IsInteger from bits }
     requires to { from ≤ to }
-    requires low { to ≤ 64 }
+    requires low { to ≤ 128 }
     ensures { result ≡ bits_of to (signed from bits) }
 {
     if is_negative(from, bits) {

@@ -10,16 +10,21 @@ mod made;
 mod operators;
 mod scalars;
 mod slots;
+mod updates;
 
 pub use comparing::compare;
 pub use constants::judge_const;
 pub use integers::{binary, convert};
-pub use laws::same_scalar_is_equality;
+pub use laws::{
+    conversions_keep_the_width, results_keep_the_width, same_scalar_is_equality,
+    updates_keep_the_width,
+};
 pub use literals::{ConstFault, ConstKind, Literal, LiteralKind};
 pub use made::{Made, make_const};
-pub use operators::{BinOp, CmpOp, ConvOp};
+pub use operators::{BinOp, CmpOp, ConvOp, UpdateOp};
 pub use scalars::{Scalar, Value};
 pub use slots::{Passed, Slots};
+pub use updates::updated;
 
 #[cfg(test)]
 mod tests;

@@ -1,11 +1,10 @@
 // Making the values of constants.
 ghost use Rattle.std.specs.Prelude.{◌≡◌, ◌≢◌, ℕ, ◌<◌, ◌≤◌, ◌^◌, [], ◌∷◌, ◌++◌, Some, None, length, slice_get, IfOk, IfSome, OnOk, OnErr};
 ghost use Rattle.std.specs.List.{flat_map};
-ghost use Rattle.mu_values.specs.Integers.{IsInteger};
-ghost use Rattle.mu_values.specs.Constants.{width_of, number_bits, number_value, constant_value, value_at, FitsWidth};
+ghost use Rattle.mu_values.specs.Constants.{width_of, number_bits, number_value, constant_value, value_at};
 
 use crate::constants::int_width;
-use crate::integers::negated;
+use crate::integers::{low_bits, negated};
 use crate::literals::{Literal, LiteralKind};
 use crate::scalars::{Scalar, Value};
 use mu_base::Items;
@@ -60,15 +59,13 @@ fn one(alloc: Global, scalar: Scalar) -> Result<Value, AllocError>
     Ok(value)
 }
 
+#[tactic(auto, using(crate::proofs::Signed::bits_neg_low))]
 fn bits_of_number(width: u32, negative: bool, magnitude: u128) -> u128
-    requires { IsInteger width magnitude }
+    requires { (1 ≤ width) × (width ≤ 128) }
     ensures { result ≡ number_bits width negative magnitude }
 {
-    if negative {
-        negated(width, magnitude)
-    } else {
-        magnitude
-    }
+    let low = low_bits(width, magnitude);
+    if negative { negated(width, low) } else { low }
 }
 
 fn number(
@@ -77,7 +74,7 @@ fn number(
     negative: bool,
     magnitude: u128,
 ) -> Result<Value, AllocError>
-    requires width { IfSome width (λ w. (1 ≤ w) × (w ≤ 64) × (magnitude < 2 ^ w)) }
+    requires width { IfSome width (λ w. (1 ≤ w) × (w ≤ 128)) }
     ensures { IfOk result (λ v. v.members ≡ number_value width negative magnitude) }
 {
     match width {
@@ -116,7 +113,7 @@ fn joined(alloc: Global, made: &Made, constants: &[u32]) -> Result<Value, AllocE
 
 /// The value of a literal as a constant of its type: of a number the integer of that width, of NULL itself, of a list the scalars
 /// of its members, which have to be made before (one that is not made has no scalars). A number has to fit the int's width, which
-/// is at most 64. It takes memory and time for the scalars that it has.
+/// is at most 128. It takes memory and time for the scalars that it has.
 pub fn make_const(
     alloc: Global,
     classes: &Classes,
@@ -125,7 +122,7 @@ pub fn make_const(
     made: &Made,
 ) -> Result<Value, AllocError>
     requires t { t < length classes.now.definitions }
-    requires fits { FitsWidth (width_of (slice_get classes.now.definitions t)) literal.now.kind }
+    requires width { IfSome (width_of (slice_get classes.now.definitions t)) (λ w. (1 ≤ w) × (w ≤ 128)) }
     ensures { IfOk result (λ v. v.members ≡ constant_value classes.now.definitions (value_at made.now) t literal.now) }
 {
     match &literal.kind {

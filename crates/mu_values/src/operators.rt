@@ -47,3 +47,25 @@ pub enum ConvOp {
     /// Copies of the sign in front.
     Sext,
 }
+
+/// An update of a cell that holds an integer.
+#[derive(Clone, Copy, Debug, PartialEq, Eq)]
+pub enum UpdateOp {
+    /// What is given takes the place of what was there.
+    Xchg,
+    Add,
+    Sub,
+    And,
+    /// The complement of `And`.
+    Nand,
+    Or,
+    Xor,
+    /// The greater one of the two as signed integers.
+    Max,
+    /// The less one of the two as signed integers.
+    Min,
+    /// The greater one of the two as unsigned integers.
+    Umax,
+    /// The less one of the two as unsigned integers.
+    Umin,
+}

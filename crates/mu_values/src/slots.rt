@@ -72,11 +72,67 @@ impl Slots {
         ensures spare { self.old.spare ≤ self.new.spare + 1 }
         ensures scalars { self.old.spare_scalars ≤ self.new.spare_scalars + length member.members }
     {
+        self.push_slice(member.as_slice())
+    }
+
+    /// Adds a value of one scalar at the end. It is refused only where there is no room for one more value or for a scalar, and
+    /// leaves the values as they were.
+    #[inline(always)]
+    pub fn push_scalar(&mut self, scalar: Scalar) -> Result<(), AllocError>
+        ensures ok { OnOk result (self.new.values ≡ self.old.values ++ (scalar ∷ []) ∷ []) }
+        ensures err { OnErr result (self.new.values ≡ self.old.values) }
+        ensures refused { OnErr result ((self.old.spare ≡ 0) ⊎ (self.old.spare_scalars ≡ 0)) }
+        ensures spare { self.old.spare ≤ self.new.spare + 1 }
+        ensures scalars { self.old.spare_scalars ≤ self.new.spare_scalars + 1 }
+    {
+        self.scalars.reserve(1)?;
+        let end = self.scalars.len() + 1;
+        self.ends.push(end)?;
+        self.scalars.push(scalar)?;
+        Ok(())
+    }
+
+    /// Adds a value at the end that is given by its scalars. It is refused only where there is no room for one more value or for its
+    /// scalars, and leaves the values as they were. It takes time for the scalars of the value.
+    #[inline]
+    pub fn push_slice(&mut self, member: &[Scalar]) -> Result<(), AllocError>
+        ensures ok { OnOk result (self.new.values ≡ self.old.values ++ member.now ∷ []) }
+        ensures err { OnErr result (self.new.values ≡ self.old.values) }
+        ensures refused { OnErr result ((self.old.spare ≡ 0) ⊎ (self.old.spare_scalars < length member.now)) }
+        ensures spare { self.old.spare ≤ self.new.spare + 1 }
+        ensures scalars { self.old.spare_scalars ≤ self.new.spare_scalars + length member.now }
+    {
+        match member {
+            [only] => self.push_scalar(*only),
+            _ => self.push_scalars(member),
+        }
+    }
+
+    /// Adds a value of none or many scalars, out of the way of those that have one.
+    #[cold]
+    #[inline(never)]
+    fn push_scalars(&mut self, member: &[Scalar]) -> Result<(), AllocError>
+        ensures ok { OnOk result (self.new.values ≡ self.old.values ++ member.now ∷ []) }
+        ensures err { OnErr result (self.new.values ≡ self.old.values) }
+        ensures refused { OnErr result ((self.old.spare ≡ 0) ⊎ (self.old.spare_scalars < length member.now)) }
+        ensures spare { self.old.spare ≤ self.new.spare + 1 }
+        ensures scalars { self.old.spare_scalars ≤ self.new.spare_scalars + length member.now }
+    {
         self.scalars.reserve(member.len())?;
         let end = self.scalars.len() + member.len();
         self.ends.push(end)?;
-        self.scalars.extend_from_slice(member.as_slice())?;
+        self.scalars.extend_from_slice(member)?;
         Ok(())
+    }
+
+    /// Takes all values out. The room stays, so that as many values with as many scalars may come again without a refusal.
+    pub fn clear(&mut self)
+        ensures values { self.new.values ≡ [] }
+        ensures spare { self.old.spare ≤ self.new.spare }
+        ensures scalars { self.old.spare_scalars ≤ self.new.spare_scalars }
+    {
+        self.scalars.clear();
+        self.ends.clear();
     }
 }
 

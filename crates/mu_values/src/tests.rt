@@ -5,7 +5,7 @@ ghost use Rattle.mu_values.specs.Integers.{IsInteger};
 
 use crate::{
     BinOp, CmpOp, ConstFault, ConstKind, ConvOp, Literal, LiteralKind, Made, Passed, Scalar, Slots,
-    Value, binary, compare, convert, judge_const, make_const,
+    UpdateOp, Value, binary, compare, convert, judge_const, make_const, updated,
 };
 use mu_base::{Ids, Types};
 use mu_types::{Classes, TypeDef, TypeFault, TypeGraph, classes};
@@ -15,7 +15,7 @@ use std::test::Fail;
 fn is_integer(width: u32, n: u128) -> bool
     ensures { IsTrue result → IsInteger width n }
 {
-    1 <= width && width <= 64 && n < 1 << width
+    1 <= width && width <= 128 && (width == 128 || n < 1 << width)
 }
 
 #[test]
@@ -270,6 +270,93 @@ fn computes_with_integers(rt: HostRuntime) -> Result<(), Fail> {
     Ok(())
 }
 
+/// The integer of 128 bits that are all 1: as a signed one -1.
+const ONES: u128 = u128::MAX;
+
+/// The least signed integer of 128 bits.
+const LEAST: u128 = 170141183460469231731687303715884105728;
+
+#[test]
+fn computes_with_the_widest_integers(rt: HostRuntime) -> Result<(), Fail> {
+    let rows: [(BinOp, u128, u128, u128); 26] = [
+        (BinOp::Add, ONES, 1, 0),
+        (BinOp::Add, LEAST, LEAST, 0),
+        (BinOp::Add, LEAST - 1, 1, LEAST),
+        (BinOp::Sub, 0, 1, ONES),
+        (BinOp::Sub, LEAST, 1, LEAST - 1),
+        (BinOp::Mul, ONES, ONES, 1),
+        (BinOp::Mul, LEAST, 2, 0),
+        (
+            BinOp::Mul,
+            1512366075204170947332355369683137040,
+            338770000845734292516042252062085074415,
+            250830954792862432417646302229912718576,
+        ),
+        (BinOp::Mul, LEAST - 1, LEAST - 1, 1),
+        (BinOp::Sdiv, LEAST, ONES, LEAST),
+        (BinOp::Sdiv, LEAST, 1, LEAST),
+        (BinOp::Sdiv, ONES - 6, 2, ONES - 2),
+        (BinOp::Srem, LEAST, ONES, 0),
+        (BinOp::Srem, ONES - 6, 2, ONES),
+        (BinOp::Srem, 7, ONES - 1, 1),
+        (BinOp::Udiv, ONES, 2, LEAST - 1),
+        (BinOp::Udiv, ONES, LEAST, 1),
+        (BinOp::Urem, ONES, LEAST, LEAST - 1),
+        (BinOp::Shl, 1, 127, LEAST),
+        (BinOp::Shl, ONES, 128, ONES),
+        (BinOp::Shl, 1512366075204170947332355369683137040, 127, 0),
+        (BinOp::Lshr, ONES, 127, 1),
+        (BinOp::Lshr, ONES, 128, ONES),
+        (BinOp::Ashr, LEAST, 127, ONES),
+        (BinOp::Ashr, LEAST, 128, LEAST),
+        (
+            BinOp::Ashr,
+            LEAST - 1,
+            1,
+            85070591730234615865843651857942052863,
+        ),
+    ];
+    for (op, a, b, expected) in rows {
+        assert_eq!(rt; binary(op, 128, a, b), Some(expected));
+    }
+    Ok(())
+}
+
+#[test]
+fn converts_the_widest_integers(rt: HostRuntime) -> Result<(), Fail> {
+    let least = Scalar::Int {
+        width: 128,
+        bits: LEAST,
+    };
+    let one = Scalar::Int {
+        width: 128,
+        bits: 1,
+    };
+    assert!(rt; compare(CmpOp::Slt, &least, &one));
+    assert!(rt; compare(CmpOp::Ugt, &least, &one));
+    assert_eq!(rt; convert(ConvOp::Trunc, 128, 64, LEAST + 5), 5);
+    assert_eq!(rt; convert(ConvOp::Trunc, 128, 128, ONES), ONES);
+    assert_eq!(rt;
+        convert(ConvOp::Zext, 64, 128, 9223372036854775808),
+        9223372036854775808
+    );
+    assert_eq!(rt;
+        convert(ConvOp::Sext, 64, 128, 9223372036854775808),
+        ONES - 9223372036854775807
+    );
+    assert_eq!(rt; convert(ConvOp::Sext, 1, 128, 1), ONES);
+    Ok(())
+}
+
+#[test]
+fn updates_integers(rt: HostRuntime) -> Result<(), Fail> {
+    assert_eq!(rt; updated(UpdateOp::Nand, 8, 12, 10), 247);
+    assert_eq!(rt; updated(UpdateOp::Max, 8, 128, 127), 127);
+    assert_eq!(rt; updated(UpdateOp::Umax, 8, 128, 127), 128);
+    assert_eq!(rt; updated(UpdateOp::Nand, 128, ONES, ONES), 0);
+    Ok(())
+}
+
 #[test]
 fn compares_and_converts(rt: HostRuntime) -> Result<(), Fail> {
     let least = Scalar::Int {
@@ -302,32 +389,38 @@ fn keeps_values_in_a_row(rt: HostRuntime) -> Result<(), Fail> {
     slots.reserve(2, 2)?;
     slots.push(value(rt.alloc(), &[Scalar::Null, Scalar::Func(7)])?)?;
     slots.push(value(rt.alloc(), &[])?)?;
-    slots.push(value(rt.alloc(), &[Scalar::Stack(1)])?)?;
-    assert_eq!(rt; slots.len(), 3);
+    slots.push_scalar(Scalar::Stack(1))?;
+    slots.push_slice(&[Scalar::Thread(2), Scalar::Null])?;
+    assert_eq!(rt; slots.len(), 4);
     assert_eq!(rt; slots.at(0), [Scalar::Null, Scalar::Func(7)].as_slice());
     assert_eq!(rt; slots.at(1).len(), 0);
     assert_eq!(rt; slots.at(2), [Scalar::Stack(1)].as_slice());
+    assert_eq!(rt; slots.at(3), [Scalar::Thread(2), Scalar::Null].as_slice());
     let mut types = Types::new(rt.alloc());
-    for class in 4..7 {
+    for class in 4..8 {
         types.push(class)?;
     }
     if types.len() == slots.len() {
         let passed = Passed::new(types, slots);
-        assert_eq!(rt; passed.types().len(), 3);
-        assert_eq!(rt; passed.values().len(), 3);
-        let (types, slots) = passed.into_parts();
+        assert_eq!(rt; passed.types().len(), 4);
+        assert_eq!(rt; passed.values().len(), 4);
+        let (types, mut slots) = passed.into_parts();
         assert_eq!(rt; types.at(1), 5);
         assert_eq!(rt; slots.at(0).len(), 2);
+        slots.clear();
+        assert_eq!(rt; slots.len(), 0);
     }
     Ok(())
 }
 
-/// The types of a bundle that has `int<8>` alone
-fn one_type(alloc: Global) -> Result<Classes, TypeFault>
-    ensures { IfOk result (λ c. slice_get c.definitions 0 ≡ Some (types.Int 8)) }
+/// The types of a bundle that has `int<8>` and `int<128>` alone
+fn two_types(alloc: Global) -> Result<Classes, TypeFault>
+    ensures narrow { IfOk result (λ c. slice_get c.definitions 0 ≡ Some (types.Int 8)) }
+    ensures wide { IfOk result (λ c. slice_get c.definitions 1 ≡ Some (types.Int 128)) }
 {
     let mut graph = TypeGraph::new(alloc);
     graph.add(TypeDef::Int { width: 8 }, Ids::new(alloc))?;
+    graph.add(TypeDef::Int { width: 128 }, Ids::new(alloc))?;
     classes(alloc, graph)
 }
 
@@ -346,7 +439,7 @@ fn number(negative: bool, magnitude: u128) -> Literal
 #[test]
 fn judges_and_makes_constants(rt: HostRuntime) -> Result<(), Fail> {
     let types = Ids::new(rt.alloc());
-    let classes = one_type(rt.alloc())?;
+    let classes = two_types(rt.alloc())?;
     assert_eq!(rt;
         judge_const(&classes, 0, &number(false, 255), &types),
         Ok(())
@@ -365,6 +458,18 @@ fn judges_and_makes_constants(rt: HostRuntime) -> Result<(), Fail> {
     );
     assert_eq!(rt;
         judge_const(&classes, 0, &number(true, 129), &types),
+        Err(too_wide)
+    );
+    assert_eq!(rt;
+        judge_const(&classes, 1, &number(false, ONES), &types),
+        Ok(())
+    );
+    assert_eq!(rt;
+        judge_const(&classes, 1, &number(true, LEAST), &types),
+        Ok(())
+    );
+    assert_eq!(rt;
+        judge_const(&classes, 1, &number(true, LEAST + 1), &types),
         Err(too_wide)
     );
     let mut made = Made::new(rt.alloc());

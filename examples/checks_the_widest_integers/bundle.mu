@@ -1,0 +1,1 @@
+.typedef @w = int<128> .funcsig @q = () -> (@w @w @w) .const @a <@w> = -1 .const @l <@w> = -170141183460469231731687303715884105728 .funcdef @main VERSION %v <@q> { %e(): %c = ADD <@w> @a @a %d = MUL <@w> @a @a %s = SDIV <@w> @l @a RET (%c %d %s) }
