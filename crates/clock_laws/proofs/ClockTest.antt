@@ -16,8 +16,8 @@ use Rattle.mem_axioms.specs.declared.types.Mode.{Mode}
 use Rattle.mem_axioms.specs.declared.types.Mode.TheVariants.{Read, Write, Update}
 use Rattle.mem_axioms.specs.declared.types.Kind.{Kind}
 use Rattle.mem_axioms.specs.declared.types.Kind.TheVariants.{Access, Fence, NewStack, NewThread, Leave, Enter, Wake, Woken}
-use Rattle.mem_axioms.proofs.Numbers.{any-from, any-some, event-below, event-kept, event-cases, event-newest, event-exists}
-use Rattle.mem_axioms.proofs.Steps.{Step, newest-step, step-newest, before-older}
+use Rattle.mem_axioms.specs.Lemmas.Numbers.{any-from, any-some, event-below, event-kept, event-cases, event-newest, event-exists}
+use Rattle.mem_axioms.specs.Lemmas.Steps.{Step, newest-step, step-newest, before-older}
 use Rattle.clock_laws.specs.NamedWakes.{names_wake}
 use Rattle.clock_laws.specs.Clocks.{Views, gains, knew, knows}
 use Rattle.clock_laws.proofs.Stands.{Stands, Upto, stands-none, stands-same, stands-or, stands-new, Gains, before-parts}

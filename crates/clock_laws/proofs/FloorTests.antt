@@ -13,8 +13,8 @@ use Rattle.mem_axioms.specs.declared.types.Event.{Event}
 use Rattle.mem_axioms.specs.declared.types.Rule.{Rule}
 use Rattle.mem_axioms.specs.declared.types.Kind.{Kind}
 use Rattle.mem_axioms.specs.declared.types.Kind.TheVariants.{Access, Fence, NewStack, NewThread, Leave, Enter, Wake, Woken}
-use Rattle.mem_axioms.proofs.Numbers.{any-from, any-some, event-below, event-kept, event-newest, event-exists}
-use Rattle.mem_axioms.proofs.Floors.{last-is}
+use Rattle.mem_axioms.specs.Lemmas.Numbers.{any-from, any-some, event-below, event-kept, event-newest, event-exists}
+use Rattle.mem_axioms.specs.Lemmas.Floors.{last-is}
 use Rattle.clock_laws.specs.Clocks.{Clock, views}
 use Rattle.clock_laws.specs.NamedWakes.{wakes_are_named}
 use Rattle.clock_laws.specs.ViewFloor.{known_access, view_limit, fences_knew, raises_view_floor, view_floor}

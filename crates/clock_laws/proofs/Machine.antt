@@ -4,7 +4,7 @@ use Rattle.std.specs.Prelude.{max}
 use Rattle.std.proofs.lemmas.Bool.{ne_eqb, eq-eqb, eqb-true, cases_eq, or_cases, or_left, or_right, and_from, and_parts, false≢true}
 use Rattle.mu_values.specs.declared.scalars.Scalar.{Scalar}
 use Rattle.heap_cells.specs.declared.cells.CellId.{CellId}
-use Rattle.heap_cells.proofs.Equal.{same_cell-refl}
+use Rattle.heap_cells.specs.CellLaws.{same_cell-refl}
 use Rattle.mem_axioms.specs.Events.{is_atomic, position_of, position_taken, modifies, is_fence, is_update, order_of, loads}
 use Rattle.mem_axioms.specs.Logs.{event_at, newest}
 use Rattle.mem_axioms.specs.Synchronizes.{releases, continues, makes_thread, last_to_give_up, gives_up, heads, released, released_to}
@@ -14,9 +14,9 @@ use Rattle.mem_axioms.specs.declared.types.Event.{Event}
 use Rattle.mem_axioms.specs.declared.types.Rule.{Rule}
 use Rattle.mem_axioms.specs.declared.types.Kind.{Kind}
 use Rattle.mem_axioms.specs.declared.types.Kind.TheVariants.{Access, Fence, NewStack, NewThread, Leave, Enter, Wake, Woken}
-use Rattle.mem_axioms.proofs.Numbers.{any-from, any-some, event-below, event-kept, event-cases, event-newest}
-use Rattle.mem_axioms.proofs.Steps.{before-less}
-use Rattle.mem_axioms.proofs.Positions.{fits-next, form-position, newest-changed, newest-same, heads-below}
+use Rattle.mem_axioms.specs.Lemmas.Numbers.{any-from, any-some, event-below, event-kept, event-cases, event-newest}
+use Rattle.mem_axioms.specs.Lemmas.Steps.{before-less}
+use Rattle.mem_axioms.specs.Lemmas.Positions.{fits-next, form-position, newest-changed, newest-same, heads-below}
 use Rattle.clock_laws.specs.NamedWakes.{names_wake, wakes_are_named}
 use Rattle.clock_laws.specs.Clocks.{Views, start, join, knows, gives, pends, after, views}
 use Rattle.clock_laws.proofs.Stands.{Stands, Upto, upto-less, upto-older, stands-none, stands-same, stands-or, stands-ext, stands-older}

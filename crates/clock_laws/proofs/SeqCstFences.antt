@@ -8,7 +8,7 @@ use Rattle.mem_axioms.specs.Logs.{event_at}
 use Rattle.mem_axioms.specs.Form.{fits_form_by, has_form_by}
 use Rattle.mem_axioms.specs.declared.types.Event.{Event}
 use Rattle.mem_axioms.specs.declared.types.Rule.{Rule}
-use Rattle.mem_axioms.proofs.Numbers.{event-below, event-kept, event-cases, event-newest}
+use Rattle.mem_axioms.specs.Lemmas.Numbers.{event-below, event-kept, event-cases, event-newest}
 use Rattle.clock_laws.specs.NamedWakes.{names_wake, wakes_are_named}
 use Rattle.clock_laws.specs.Clocks.{Clock, Views, join, knows, after, views}
 use Rattle.clock_laws.proofs.Stands.{Stands, Upto, upto-less, upto-older, stands-none, stands-same, stands-or, stands-ext, stands-older}

@@ -9,9 +9,9 @@ use Rattle.mem_axioms.specs.Synchronizes.{heads, continues, releases}
 use Rattle.mem_axioms.specs.declared.types.Event.{Event}
 use Rattle.mem_axioms.specs.declared.types.Rule.{Rule}
 use Rattle.mem_axioms.specs.declared.types.Rule.TheVariants.{C11, Rmw}
-use Rattle.mem_axioms.proofs.Numbers.{event-below, event-kept, event-older, event-newest}
-use Rattle.mem_axioms.proofs.Steps.{step-newest}
-use Rattle.mem_axioms.proofs.Positions.{heads-below}
+use Rattle.mem_axioms.specs.Lemmas.Numbers.{event-below, event-kept, event-older, event-newest}
+use Rattle.mem_axioms.specs.Lemmas.Steps.{step-newest}
+use Rattle.mem_axioms.specs.Lemmas.Positions.{heads-below}
 use Rattle.clock_laws.specs.Clocks.{Clock, Views, knows, gives}
 use Rattle.clock_laws.proofs.Stands.{Stands, Upto, upto-less, upto-older, stands-none, stands-same, stands-or, stands-if, stands-older}
 use Rattle.clock_laws.proofs.ClockTest.{Frees, Sent, SentBy, Fenced}

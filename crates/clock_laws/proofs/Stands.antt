@@ -5,8 +5,8 @@ use Rattle.mem_axioms.specs.Logs.{event_at}
 use Rattle.mem_axioms.specs.HappensBefore.{happens_before}
 use Rattle.mem_axioms.specs.Synchronizes.{synchronizes, synchronizes_by_release, synchronizes_by_stack, synchronizes_by_wake, makes_thread}
 use Rattle.mem_axioms.specs.Floor.{plain, is_known}
-use Rattle.mem_axioms.proofs.Numbers.{event-cases}
-use Rattle.mem_axioms.proofs.Steps.{Step, newest-step, step-newest, before-older, before-less}
+use Rattle.mem_axioms.specs.Lemmas.Numbers.{event-cases}
+use Rattle.mem_axioms.specs.Lemmas.Steps.{Step, newest-step, step-newest, before-older, before-less}
 use Rattle.mem_axioms.specs.declared.types.Event.{Event}
 use Rattle.mem_axioms.specs.declared.types.Rule.{Rule}
 use Rattle.clock_laws.specs.Clocks.{Clock, nothing, join, bump}

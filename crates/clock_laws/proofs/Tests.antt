@@ -10,7 +10,7 @@ use Rattle.mem_axioms.specs.Form.{fits_form_by, has_form_by}
 use Rattle.mem_axioms.specs.Floor.{is_known}
 use Rattle.mem_axioms.specs.declared.types.Event.{Event}
 use Rattle.mem_axioms.specs.declared.types.Rule.{Rule}
-use Rattle.mem_axioms.proofs.Steps.{before-less}
+use Rattle.mem_axioms.specs.Lemmas.Steps.{before-less}
 use Rattle.clock_laws.specs.Clocks.{Clock, knew, views}
 use Rattle.clock_laws.specs.NamedWakes.{names_wake, wakes_are_named}
 use Rattle.clock_laws.proofs.Stands.{Stands, Upto}

@@ -1,1 +1,2 @@
 pub mod SameCell
+pub mod CellLaws

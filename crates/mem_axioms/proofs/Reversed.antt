@@ -4,7 +4,7 @@ use Rattle.std.proofs.lemmas.List.{take_more, reverse-append, length-reverse, ge
 use Rattle.std.proofs.lemmas.Bool.{cases_eq}
 use Rattle.mem_axioms.specs.Logs.{event_at}
 use Rattle.mem_axioms.specs.declared.types.Event.{Event}
-use Rattle.mem_axioms.proofs.Numbers.{event-older, event-newest}
+use Rattle.mem_axioms.specs.Lemmas.Numbers.{event-older, event-newest}
 
 -- one more event, in order, is one in front
 pub reverse_more : (xs : List Event) (i : ℕ) (d : Event) → i < length xs → reverse (take (i + 1) xs) ≡ get_or xs i d ∷ reverse (take i xs)

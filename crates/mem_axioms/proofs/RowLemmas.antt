@@ -8,7 +8,7 @@ use Rattle.mem_axioms.specs.HappensBefore.{precedes, happens_before}
 use Rattle.mem_axioms.specs.Flags.{flag}
 use Rattle.mem_axioms.specs.declared.types.Event.{Event}
 use Rattle.mem_axioms.specs.declared.types.Rule.{Rule}
-use Rattle.mem_axioms.proofs.Steps.{before-newest, leads}
+use Rattle.mem_axioms.specs.Lemmas.Steps.{before-newest, leads}
 
 or_true : (b : Bool) → (b || true) ≡ true
 or_true true = refl

@@ -41,16 +41,19 @@ pub mod EventFits
 -- The memory of a run: what it promises.
 pub mod Rooms
 pub mod Sound
+pub mod Known
 -- What the memory that judges whole logs keeps and tests, for its own functions alone.
 pub mod Scalars
 pub mod Flags
 pub mod Blanks
-pub mod Known
 pub mod PassedOver
 pub mod Reads
 -- Its laws.
 pub mod Theorems
 pub mod OptionTheorems
+pub mod RunTheorems
+-- Their lemmas, with the proofs.
+pub mod Lemmas
 -- Worked examples: litmus tests and logs of whole runs.
 pub mod ExampleNames
 pub mod StackExamples

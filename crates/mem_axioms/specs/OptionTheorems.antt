@@ -8,7 +8,7 @@ use Rattle.heap_cells.specs.declared.cells.CellId.{CellId}
 use Rattle.mem_axioms.specs.Events.{is_access, modifies, position_of}
 use Rattle.mem_axioms.specs.Logs.{newest}
 use Rattle.mem_axioms.specs.Axioms.{meets_axioms}
-use Rattle.mem_axioms.specs.Choices.{down_from, is_option, options, choices}
+use Rattle.mem_axioms.specs.Choices.{down_from, is_option, options, chosen_at, choices}
 use Rattle.mem_axioms.specs.Floor.{floor}
 use Rattle.mem_axioms.specs.Objects.{initial_of, HasCell}
 use Rattle.mem_axioms.specs.EventFits.{is_thread, EventFits}
@@ -52,6 +52,11 @@ NewestIsOption = (rule : Rule) (initial : CellId → Scalar) (log : List Event) 
 abbrev pub NewestIsFirst : Type 0
 NewestIsFirst = (rule : Rule) (initial : CellId → Scalar) (log : List Event) (thread : ℕ) (cell : CellId) (order : Order) → meets_axioms rule initial log ≡ true →
     slice_get (options rule initial log thread cell order) 0 ≡ Some (newest log cell)
+
+-- So choice 0 of a load is the newest position, with its value.
+abbrev pub NewestIsFirstChoice : Type 0
+NewestIsFirstChoice = (rule : Rule) (initial : CellId → Scalar) (log : List Event) (thread : ℕ) (cell : CellId) (order : Order) → meets_axioms rule initial log ≡ true →
+    slice_get (choices rule initial log thread cell (Load order)) 0 ≡ Some (chosen_at initial log cell false (newest log cell))
 
 abbrev pub SomeChoice : Type 0
 SomeChoice = (rule : Rule) (initial : CellId → Scalar) (log : List Event) (thread : ℕ) (cell : CellId) (wanted : Wanted) → meets_axioms rule initial log ≡ true →

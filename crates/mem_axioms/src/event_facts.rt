@@ -1,6 +1,7 @@
-// What an event is: the tests of the definitions, of one event.
-ghost use Rattle.std.specs.Prelude.{◌≡◌, ◌&&◌, ◌||◌};
+//! What an event is: the tests of the definitions, of one event. Each takes constant time and no memory.
+ghost use Rattle.std.specs.Prelude.{◌≡◌, ◌&&◌, ◌||◌, true, false, MatchOption};
 ghost use Rattle.mu_values.specs.SameScalar.{same_scalar};
+ghost use Rattle.heap_cells.specs.declared.cells.CellId.{CellId};
 ghost use Rattle.heap_cells.specs.SameCell.{same_cell};
 ghost use Rattle.mem_axioms.specs.Events.{is_atomic, is_seq_cst, loads, accesses, modifies, is_update, is_modification, order_of, position_of, position_taken, is_fence, is_seq_cst_fence, is_wake};
 ghost use Rattle.mem_axioms.specs.Synchronizes.{acquires, releases, gives_up, makes_thread};
@@ -65,6 +66,16 @@ pub fn release(order: Order) -> bool
     matches!(order, Order::Release | Order::AcqRel | Order::SeqCst)
 }
 
+/// The cell that the event accesses, if it is an access.
+pub fn cell_of(event: &Event) -> Option<CellId>
+    ensures { MatchOption result ((cell : CellId) → accesses cell event.now ≡ false) (λ cell. accesses cell event.now ≡ true) }
+{
+    match event.kind {
+        Kind::Access { cell, .. } => Some(cell),
+        _ => None,
+    }
+}
+
 /// Whether the event is an access of the cell.
 pub fn is_of_cell(event: &Event, cell: CellId) -> bool
     ensures { result ≡ accesses cell event.now }
@@ -109,7 +120,7 @@ pub fn update(event: &Event) -> bool
     }
 }
 
-/// The order of an access or a fence.
+/// The order of an access or a fence. Of any other event it is NOT_ATOMIC.
 pub fn order_in(event: &Event) -> Order
     ensures { result ≡ order_of event.now }
 {
@@ -120,7 +131,7 @@ pub fn order_in(event: &Event) -> Order
     }
 }
 
-/// The position that an access reads or makes.
+/// The position that an access reads or makes. Of any other event it is 0.
 pub fn position_in(event: &Event) -> u32
     ensures { result ≡ position_of event.now }
 {
@@ -130,7 +141,8 @@ pub fn position_in(event: &Event) -> u32
     }
 }
 
-/// The position whose value a read or update takes.
+/// The position whose value a read or update takes: an update takes the one under its own. Of an event that is no access it
+/// is 0.
 pub fn taken_by(event: &Event) -> u32
     ensures { result ≡ position_taken event.now }
 {

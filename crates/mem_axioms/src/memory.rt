@@ -36,10 +36,10 @@ pub trait Memory {
     /// What is left of the room that the last `reserve` made.
     ghost room: { Self → Room };
 
-    /// Adds an object with these initial scalars, under the next number. A refusal leaves all as it was.
+    /// Adds an object with these initial scalars, under the next number. A cell names its object and its place by numbers of
+    /// 32 bits, so objects and scalars past those can be added and not accessed. A refusal leaves all as it was. It takes the
+    /// time of a push, and no memory beside the list of objects.
     fn add_object(&mut self, initial: Value) -> Result<(), AllocError>
-        requires count { length (objects self.old) + 1 < 4294967295 }
-        requires cells { length initial.members < 4294967295 }
         ensures added { OnOk result (objects self.new ≡ objects self.old ++ initial.members ∷ []) }
         ensures refused { OnErr result (objects self.new ≡ objects self.old) }
         ensures same_log { log self.new ≡ log self.old }

@@ -20,8 +20,8 @@ use Rattle.mem_views.specs.CellAdded.{CellAdded, CellBelow, SameCell, IsFresh, I
 use Rattle.mem_views.specs.Looks.{IsFew, AllFew}
 use Rattle.mem_views.specs.Holding.{values_of, CellHolds, ClocksHold, IsUntouched}
 use Rattle.mem_views.specs.declared.cell.CellViews.{CellViews}
-use Rattle.mem_axioms.proofs.Numbers.{event-newest}
-use Rattle.mem_axioms.proofs.Positions.{newest-changed, newest-same}
+use Rattle.mem_axioms.specs.Lemmas.Numbers.{event-newest}
+use Rattle.mem_axioms.specs.Lemmas.Positions.{newest-changed, newest-same}
 use Rattle.mem_axioms.specs.Logs.{newest}
 use Rattle.std.proofs.lemmas.Bool.{false≢true}
 use Rattle.mem_views.proofs.Entries.{entries-few, entries-below, entries-none}

@@ -6,14 +6,14 @@ use Rattle.std.proofs.lemmas.List.{get_or_default, get_or_append_left, get_or_pu
 use Rattle.mu_values.specs.declared.scalars.Scalar.{Scalar}
 use Rattle.heap_cells.specs.declared.cells.CellId.{CellId}
 use Rattle.heap_cells.specs.SameCell.{same_cell}
-use Rattle.heap_cells.proofs.Equal.{same_cell-true}
+use Rattle.heap_cells.specs.CellLaws.{same_cell-true}
 use Rattle.mem_axioms.specs.Events.{accesses, is_modification, position_of}
 use Rattle.mem_axioms.specs.Logs.{newest}
 use Rattle.mem_axioms.specs.declared.types.Event.{Event}
 use Rattle.mem_axioms.specs.declared.types.Rule.{Rule}
 use Rattle.mem_axioms.specs.declared.types.Kind.{Kind}
 use Rattle.mem_axioms.specs.declared.types.Kind.TheVariants.{Access, Fence, NewStack, NewThread, Leave, Enter, Wake, Woken}
-use Rattle.mem_axioms.proofs.Numbers.{event-cases}
+use Rattle.mem_axioms.specs.Lemmas.Numbers.{event-cases}
 use Rattle.clock_laws.specs.Clocks.{views, gives}
 use Rattle.clocks.specs.Knowing.{known_by}
 use Rattle.clocks.specs.Spans.{Spans}

@@ -4,7 +4,7 @@ use Rattle.std.specs.Prelude.{unwrap_or, All}
 use Rattle.std.proofs.lemmas.Bool.{le-leb, lt-leb, lt-ltb, le-ltb, cases_lt}
 use Rattle.mem_axioms.specs.Logs.{event_at, least_event}
 use Rattle.mem_axioms.specs.declared.types.Event.{Event}
-use Rattle.mem_axioms.proofs.Numbers.{event-kept, event-newest}
+use Rattle.mem_axioms.specs.Lemmas.Numbers.{event-kept, event-newest}
 use Rattle.write_history.specs.Indexes.{last_position, first_after}
 use Rattle.mem_views.specs.Indexed.{entries_by}
 use Rattle.mem_views.specs.Answers.{one_higher}

@@ -12,9 +12,9 @@ use Rattle.mem_axioms.specs.Axioms.{is_coherent, is_seq_cst_ordered, meets_axiom
 use Rattle.mem_axioms.specs.Floor.{seq_cst_limit, first_kind, second_kind, raises_floor, floor}
 use Rattle.mem_axioms.specs.declared.types.Event.{Event}
 use Rattle.mem_axioms.specs.declared.types.Rule.{Rule}
-use Rattle.mem_axioms.proofs.Numbers.{event-kept, event-cases, event-newest}
-use Rattle.mem_axioms.proofs.Relations.{Coherence, coherence-is}
-use Rattle.mem_axioms.proofs.Floors.{greatest-at, greatest-below}
+use Rattle.mem_axioms.specs.Lemmas.Numbers.{event-kept, event-cases, event-newest}
+use Rattle.mem_axioms.specs.Lemmas.Relations.{Coherence, coherence-is}
+use Rattle.mem_axioms.specs.Lemmas.Floors.{greatest-at, greatest-below}
 use Rattle.clock_laws.specs.Clocks.{views}
 use Rattle.clock_laws.specs.NamedWakes.{wakes_are_named}
 use Rattle.clock_laws.specs.ViewFloor.{known_access, view_limit, fences_knew, raises_view_floor, view_floor}

@@ -11,11 +11,11 @@ use Rattle.mem_axioms.specs.declared.types.Rule.{Rule}
 use Rattle.mem_axioms.specs.declared.types.Mode.TheVariants.{Read, Write, Update}
 use Rattle.mem_axioms.specs.declared.types.Kind.{Kind}
 use Rattle.mem_axioms.specs.declared.types.Kind.TheVariants.{Access, Fence, NewStack, NewThread, Leave, Enter, Wake, Woken}
-use Rattle.mem_axioms.proofs.Numbers.{event-kept, event-cases, event-newest}
-use Rattle.mem_axioms.proofs.Steps.{in-order}
-use Rattle.mem_axioms.proofs.Positions.{form-less}
-use Rattle.mem_axioms.proofs.Relations.{Coherence}
-use Rattle.mem_axioms.proofs.Kept.{on_one}
+use Rattle.mem_axioms.specs.Lemmas.Numbers.{event-kept, event-cases, event-newest}
+use Rattle.mem_axioms.specs.Lemmas.Steps.{in-order}
+use Rattle.mem_axioms.specs.Lemmas.Positions.{form-less}
+use Rattle.mem_axioms.specs.Lemmas.Relations.{Coherence}
+use Rattle.mem_axioms.specs.Lemmas.Kept.{on_one}
 use Rattle.write_history.specs.Rooms.{Accesses}
 use Rattle.mem_views.specs.Indexed.{accesses_at, entries_by}
 use Rattle.mem_views.specs.LookUps.{position_known}

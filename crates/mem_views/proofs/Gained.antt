@@ -2,7 +2,7 @@
 use Rattle.std.proofs.Common.{◌≡◌, ℕ, Bool, true, false, cond, ◌&&◌, eqb, List, length, refl, sym, ap, ◌∙◌, slice_index}
 use Rattle.std.proofs.lemmas.Bool.{false≢true, and_parts, eqb-true}
 use Rattle.heap_cells.specs.declared.cells.CellId.{CellId}
-use Rattle.heap_cells.proofs.Equal.{same_cell-true, same_cell-refl}
+use Rattle.heap_cells.specs.CellLaws.{same_cell-true, same_cell-refl}
 use Rattle.mem_axioms.specs.Events.{accesses, position_taken, loads, is_atomic, is_wake}
 use Rattle.mem_axioms.specs.Logs.{event_at}
 use Rattle.mem_axioms.specs.Synchronizes.{acquires}
@@ -10,7 +10,7 @@ use Rattle.mem_axioms.specs.declared.types.Event.{Event}
 use Rattle.mem_axioms.specs.declared.types.Rule.{Rule}
 use Rattle.mem_axioms.specs.declared.types.Kind.{Kind}
 use Rattle.mem_axioms.specs.declared.types.Kind.TheVariants.{Access, Fence, NewStack, NewThread, Leave, Enter, Wake, Woken}
-use Rattle.mem_axioms.proofs.Numbers.{any-some}
+use Rattle.mem_axioms.specs.Lemmas.Numbers.{any-some}
 use Rattle.clock_laws.specs.Clocks.{Views, views, gains, knows, pends, gives}
 use Rattle.clock_laws.specs.NamedWakes.{names_wake}
 use Rattle.std.specs.Prelude.{Option}

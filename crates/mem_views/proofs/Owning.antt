@@ -3,7 +3,7 @@ use Rattle.std.proofs.Common.{◌≡◌, ℕ, suc, zero, ◌+◌, Bool, true, fa
 use Rattle.std.specs.Prelude.{slice_get}
 use Rattle.heap_cells.specs.declared.cells.CellId.{CellId}
 use Rattle.heap_cells.specs.SameCell.{same_cell}
-use Rattle.heap_cells.proofs.Equal.{same_cell-true}
+use Rattle.heap_cells.specs.CellLaws.{same_cell-true}
 use Rattle.mem_views.specs.Placing.{number_at, place_in, Owned}
 
 get-kept : (xs : List CellId) (y x : CellId) (p : ℕ) → slice_get xs p ≡ Some x → slice_get (xs ++ y ∷ []) p ≡ Some x

@@ -10,8 +10,8 @@ use Rattle.mem_axioms.specs.HappensBefore.{happens_before}
 use Rattle.mem_axioms.specs.Races.{may_race, races, race}
 use Rattle.mem_axioms.specs.declared.types.Event.{Event}
 use Rattle.mem_axioms.specs.declared.types.Rule.{Rule}
-use Rattle.mem_axioms.proofs.Racings.{LeastOr, least-is}
-use Rattle.mem_axioms.proofs.Kept.{on_one, one_cell}
+use Rattle.mem_axioms.specs.Lemmas.Racings.{LeastOr, least-is}
+use Rattle.mem_axioms.specs.Lemmas.Kept.{on_one, one_cell}
 use Rattle.clock_laws.specs.Clocks.{views, knew}
 use Rattle.clock_laws.proofs.Tests.{next-test}
 use Rattle.write_history.specs.Indexes.{first_after}
@@ -32,8 +32,8 @@ use Rattle.mem_views.specs.Holding.{LogHolds, RowsHold}
 use Rattle.mem_views.specs.declared.rows.Rows.{Rows}
 use Rattle.mem_axioms.specs.Objects.{initial_of}
 use Rattle.mem_axioms.specs.EventFits.{EventFits}
-use Rattle.mem_axioms.proofs.Positions.{form-parts}
-use Rattle.mem_axioms.proofs.Kept.{keeps-fit}
+use Rattle.mem_axioms.specs.Lemmas.Positions.{form-parts}
+use Rattle.mem_axioms.specs.Lemmas.Kept.{keeps-fit}
 use Rattle.clock_laws.specs.Clocks.{gains}
 
 -- of the accesses of its cell, those that may race with e

@@ -13,11 +13,11 @@ use Rattle.mem_axioms.specs.Reads.{reads}
 use Rattle.mem_axioms.specs.Floor.{floor}
 use Rattle.mem_axioms.specs.declared.types.Event.{Event}
 use Rattle.mem_axioms.specs.declared.types.Rule.{Rule}
-use Rattle.mem_axioms.proofs.Positions.{form-parts, fits-next}
-use Rattle.mem_axioms.proofs.Values.{value-kept}
-use Rattle.mem_axioms.proofs.Downward.{below, below-same}
-use Rattle.mem_axioms.proofs.Offers.{may_take, reads-below}
-use Rattle.mem_axioms.proofs.Options.{floor-option, floor-below, options-number, options-nth}
+use Rattle.mem_axioms.specs.Lemmas.Positions.{form-parts, fits-next}
+use Rattle.mem_axioms.specs.Lemmas.Values.{value-kept}
+use Rattle.mem_axioms.specs.Lemmas.Downward.{below, below-same}
+use Rattle.mem_axioms.specs.Lemmas.Offers.{may_take, reads-below}
+use Rattle.mem_axioms.specs.Lemmas.Options.{floor-option, floor-below, options-number, options-nth}
 use Rattle.mem_views.specs.Differing.{differs_from}
 use Rattle.mem_views.specs.Holding.{CellHolds}
 use Rattle.mem_views.specs.declared.cell.CellViews.{CellViews}

@@ -6,7 +6,7 @@ use Rattle.mem_axioms.specs.Events.{is_wake, is_seq_cst_fence}
 use Rattle.mem_axioms.specs.Logs.{event_at}
 use Rattle.mem_axioms.specs.declared.types.Event.{Event}
 use Rattle.mem_axioms.specs.declared.types.Rule.{Rule}
-use Rattle.mem_axioms.proofs.Numbers.{event-cases}
+use Rattle.mem_axioms.specs.Lemmas.Numbers.{event-cases}
 use Rattle.clock_laws.specs.Clocks.{views, knows, pends}
 use Rattle.clocks.specs.Knowing.{known_by}
 use Rattle.clocks.specs.Tables.{table_at, row_at}

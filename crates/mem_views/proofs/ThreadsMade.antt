@@ -15,9 +15,9 @@ use Rattle.mem_axioms.specs.declared.types.Event.{Event}
 use Rattle.mem_axioms.specs.declared.types.Rule.{Rule}
 use Rattle.mem_axioms.specs.declared.types.Kind.{Kind}
 use Rattle.mem_axioms.specs.declared.types.Kind.TheVariants.{Access, Fence, NewStack, NewThread, Leave, Enter, Wake, Woken}
-use Rattle.mem_axioms.proofs.Numbers.{event-cases}
-use Rattle.mem_axioms.proofs.Growing.{cells-more, sound-more, sound-none, cells-none}
-use Rattle.mem_axioms.proofs.Widening.{cells-wider, sound-wider}
+use Rattle.mem_axioms.specs.Lemmas.Numbers.{event-cases}
+use Rattle.mem_axioms.specs.Lemmas.Growing.{cells-more, sound-more, sound-none, cells-none}
+use Rattle.mem_axioms.specs.Lemmas.Widening.{cells-wider, sound-wider}
 use Rattle.clock_laws.specs.NamedWakes.{names_wake, wakes_are_named}
 use Rattle.mem_views.specs.Threads.{threads_of}
 use Rattle.mem_views.specs.Holding.{LogHolds, MadeHolds, CellHolds}
@@ -152,8 +152,8 @@ log-none rule objects = record {
 
 pub log-wider : (rule : Rule) (objects : List (List Scalar)) (more : List Scalar) (log : List Event) → LogHolds rule objects log → LogHolds rule (objects ++ more ∷ []) log
 log-wider rule objects more log h = record {
-  sound = sound-wider rule objects more log h.cells h.sound;
-  cells = cells-wider objects more log h.cells;
+  sound = sound-wider objects (more ∷ []) rule log h.cells h.sound;
+  cells = cells-wider objects (more ∷ []) log h.cells;
   named = h.named;
   threads = h.threads;
   small = h.small;

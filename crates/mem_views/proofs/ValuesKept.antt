@@ -4,7 +4,7 @@ use Rattle.std.specs.Prelude.{slice_get}
 use Rattle.std.proofs.lemmas.Bool.{false≢true, cases_lt}
 use Rattle.mu_values.specs.declared.scalars.Scalar.{Scalar}
 use Rattle.heap_cells.specs.declared.cells.CellId.{CellId}
-use Rattle.heap_cells.proofs.Equal.{same_cell-true}
+use Rattle.heap_cells.specs.CellLaws.{same_cell-true}
 use Rattle.mem_axioms.specs.EventFits.{EventFits}
 use Rattle.mem_axioms.specs.Events.{modifies, is_modification, position_of, value_of, accesses}
 use Rattle.mem_axioms.specs.declared.types.Rule.{Rule}
@@ -14,9 +14,9 @@ use Rattle.mem_axioms.specs.declared.types.Event.{Event}
 use Rattle.mem_axioms.specs.declared.types.Kind.{Kind}
 use Rattle.mem_axioms.specs.declared.types.Kind.TheVariants.{Access, Fence, NewStack, NewThread, Leave, Enter, Wake, Woken}
 use Rattle.mem_axioms.specs.declared.types.Mode.TheVariants.{Read, Write, Update}
-use Rattle.mem_axioms.proofs.Numbers.{event-kept, event-newest}
-use Rattle.mem_axioms.proofs.Positions.{form-parts, fits-next, newest-changed, newest-same}
-use Rattle.mem_axioms.proofs.Values.{value-kept, value-made, value-older}
+use Rattle.mem_axioms.specs.Lemmas.Numbers.{event-kept, event-newest}
+use Rattle.mem_axioms.specs.Lemmas.Positions.{form-parts, fits-next, newest-changed, newest-same}
+use Rattle.mem_axioms.specs.Lemmas.Values.{value-kept, value-made, value-older}
 use Rattle.mem_views.specs.Holding.{values_of, IsUntouched}
 
 get-kept : {X : Type 0} (xs : List X) (y x : X) (p : ℕ) → slice_get xs p ≡ Some x → slice_get (xs ++ y ∷ []) p ≡ Some x

@@ -6,7 +6,7 @@ ghost use Rattle.mem_views.specs.Looks.{IsMade, IsFew, AllMade, AllFew};
 ghost use Rattle.mem_views.specs.FloorLooks.{IsFound, FoundFloor};
 
 use crate::cell::CellViews;
-use crate::event_facts::seq_cst;
+use mem_axioms::event_facts::seq_cst;
 use crate::look_ups::{floor_over, greater};
 use crate::rows::Rows;
 use clocks::Clock;

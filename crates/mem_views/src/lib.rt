@@ -3,7 +3,6 @@
 #![tactic(auto)]
 
 mod cell;
-mod event_facts;
 mod floors;
 mod gains;
 mod indexes;
@@ -17,5 +16,3 @@ mod view_memory;
 pub use clocks::Clock;
 pub use view_memory::ViewMemory;
 
-#[cfg(test)]
-mod tests;

@@ -22,10 +22,10 @@ ghost use Rattle.mem_views.specs.Roominess.{CellFits};
 ghost use Rattle.mem_views.specs.Answers.{IsKnown};
 ghost use Rattle.mem_views.specs.Bounds.{search_bound, values_bound};
 ghost use Rattle.mem_views.specs.Differing.{differs_from, floor_bound, looks_bound};
-ghost use Rattle.mem_axioms.proofs.Downward.{below};
+ghost use Rattle.mem_axioms.specs.Lemmas.Downward.{below};
 
 use crate::cell::CellViews;
-use crate::event_facts::{cell_of, is_same_scalar, seq_cst};
+use mem_axioms::event_facts::{cell_of, is_same_scalar, seq_cst};
 use crate::floors::{fences_before, found_floor, greatest_of_kinds, last_fence};
 use crate::gains::{gain, given_by, taken_from};
 use crate::kept_cells;

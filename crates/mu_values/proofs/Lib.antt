@@ -1,4 +1,3 @@
-pub mod Equal
 pub mod Signed
 pub mod Cuts
 pub mod Members

@@ -1,4 +1,5 @@
 pub mod SameScalar
+pub mod ScalarLaws
 pub mod Integers
 pub mod Updates
 pub mod Comparisons

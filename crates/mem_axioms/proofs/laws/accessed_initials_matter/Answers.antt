@@ -1,5 +1,5 @@
-use Rattle.mem_axioms.proofs.Values.{form-alone}
-use Rattle.mem_axioms.proofs.Initials.{form-with-some, meets-same}
+use Rattle.mem_axioms.specs.Lemmas.Values.{form-alone}
+use Rattle.mem_axioms.specs.Lemmas.Initials.{form-with-some, meets-same}
 use Rattle.mem_axioms.proofs.laws.accessed_initials_matter.Goals as goal
 
 pub returns-clause-alone : goal.returns-clause-alone

@@ -1,4 +1,4 @@
-use Rattle.mem_axioms.proofs.Kept.{keeps-next, keeps-no_access, keeps-fit}
+use Rattle.mem_axioms.specs.Lemmas.Kept.{keeps-next, keeps-no_access, keeps-fit}
 use Rattle.mem_axioms.proofs.laws.axioms_are_kept.Goals as goal
 
 pub returns-clause-modifications : goal.returns-clause-modifications

@@ -1,4 +1,4 @@
-use Rattle.mem_axioms.proofs.Relations.{coherent-iff, seq_cst_ordered-iff, meets-iff}
+use Rattle.mem_axioms.specs.Lemmas.Relations.{coherent-iff, seq_cst_ordered-iff, meets-iff}
 use Rattle.mem_axioms.proofs.laws.axioms_are_relations.Goals as goal
 
 pub returns-clause-coherent : goal.returns-clause-coherent

@@ -1,4 +1,4 @@
-use Rattle.mem_axioms.proofs.Options.{choice-stands, choice-fits}
+use Rattle.mem_axioms.specs.Lemmas.Options.{choice-stands, choice-fits}
 use Rattle.mem_axioms.proofs.laws.choices_may_be_taken.Goals as goal
 
 pub returns-clause-stand : goal.returns-clause-stand

@@ -1,5 +1,5 @@
-use Rattle.mem_axioms.proofs.Least.{before-iff}
-use Rattle.mem_axioms.proofs.Steps.{before-less}
+use Rattle.mem_axioms.specs.Lemmas.Least.{before-iff}
+use Rattle.mem_axioms.specs.Lemmas.Steps.{before-less}
 use Rattle.mem_axioms.proofs.laws.happens_before_is_least.Goals as goal
 
 pub returns-clause-least : goal.returns-clause-least

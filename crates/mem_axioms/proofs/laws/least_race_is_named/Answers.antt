@@ -1,4 +1,4 @@
-use Rattle.mem_axioms.proofs.Racings.{race-is, race_free-is, race_free-from}
+use Rattle.mem_axioms.specs.Lemmas.Racings.{race-is, race_free-is, race_free-from}
 use Rattle.mem_axioms.proofs.laws.least_race_is_named.Goals as goal
 
 pub returns-clause-race : goal.returns-clause-race

@@ -1,5 +1,5 @@
-use Rattle.mem_axioms.proofs.Floors.{options-floor}
-use Rattle.mem_axioms.proofs.Options.{floor-option, floor-below, options-number, options-nth}
+use Rattle.mem_axioms.specs.Lemmas.Floors.{options-floor}
+use Rattle.mem_axioms.specs.Lemmas.Options.{floor-option, floor-below, options-number, options-nth}
 use Rattle.mem_axioms.proofs.laws.options_reach_a_floor.Goals as goal
 
 pub returns-clause-options : goal.returns-clause-options

@@ -1,4 +1,4 @@
-use Rattle.mem_axioms.proofs.Positions.{before-head, released-allows}
+use Rattle.mem_axioms.specs.Lemmas.Positions.{before-head, released-allows}
 use Rattle.mem_axioms.proofs.laws.released_position_is_allowed.Goals as goal
 
 pub returns-clause-heads : goal.returns-clause-heads

@@ -3,7 +3,7 @@ use Rattle.std.proofs.lemmas.List.{length-reverse}
 use Rattle.mem_axioms.specs.Logs.{least_event}
 use Rattle.mem_axioms.specs.Races.{races}
 use Rattle.mem_axioms.specs.declared.types.Event.{Event}
-use Rattle.mem_axioms.proofs.Numbers.{event-exists}
+use Rattle.mem_axioms.specs.Lemmas.Numbers.{event-exists}
 use Rattle.mem_axioms.proofs.Reversed.{reverse_more}
 use Rattle.mem_axioms.proofs.racing.least_up_to.Goals as goal
 

@@ -2,7 +2,7 @@ use Rattle.std.proofs.Common.{◌≡◌, ◌∙◌, sym, ap, true, [], reverse, 
 use Rattle.std.proofs.lemmas.List.{get_or_read, length-reverse}
 use Rattle.mem_axioms.specs.Flags.{flag}
 use Rattle.mem_axioms.specs.HappensBefore.{precedes, happens_before}
-use Rattle.mem_axioms.proofs.Steps.{before-not}
+use Rattle.mem_axioms.specs.Lemmas.Steps.{before-not}
 use Rattle.mem_axioms.proofs.RowLemmas.{marked_joined}
 use Rattle.mem_axioms.proofs.rows.add_flags.Goals as goal
 

@@ -3,7 +3,8 @@ use Rattle.std.proofs.lemmas.List.{reverse-append, length-reverse}
 use Rattle.mem_axioms.specs.HappensBefore.{happens_before}
 use Rattle.mem_axioms.specs.Scalars.{scalars_of}
 use Rattle.mem_axioms.specs.declared.types.Event.{Event}
-use Rattle.mem_axioms.proofs.Growing.{rows-more, cells-more, sound-more, blanks-less}
+use Rattle.mem_axioms.specs.Lemmas.Growing.{cells-more, sound-more}
+use Rattle.mem_axioms.proofs.RowsKept.{rows-more, blanks-less}
 use Rattle.mem_axioms.proofs.log_memory.LogMemory.add.Goals as goal
 
 pub invariant_of-self-clause-flags : goal.invariant_of-self-clause-flags

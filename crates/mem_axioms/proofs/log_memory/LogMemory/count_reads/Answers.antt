@@ -3,7 +3,7 @@ use Rattle.mem_axioms.specs.Logs.{newest}
 use Rattle.mem_axioms.specs.Objects.{initial_of}
 use Rattle.mem_axioms.specs.Scalars.{scalars_of}
 use Rattle.mem_axioms.specs.declared.types.Event.{Event}
-use Rattle.mem_axioms.proofs.Offers.{reads-at}
+use Rattle.mem_axioms.specs.Lemmas.Offers.{reads-at}
 use Rattle.mem_axioms.proofs.log_memory.LogMemory.count_reads.Goals as goal
 
 pub returns-clause-count : goal.returns-clause-count

@@ -8,7 +8,7 @@ use Rattle.mem_axioms.specs.PassedOver.{may_read}
 use Rattle.mem_axioms.specs.declared.types.Event.{Event}
 use Rattle.mem_axioms.specs.declared.types.Mode.TheVariants.{Read}
 use Rattle.mem_axioms.specs.declared.types.Kind.TheVariants.{Access}
-use Rattle.mem_axioms.proofs.Offers.{option-is}
+use Rattle.mem_axioms.specs.Lemmas.Offers.{option-is}
 use Rattle.mem_axioms.proofs.log_memory.LogMemory.is_load_option.Goals as goal
 
 pub returns : goal.returns

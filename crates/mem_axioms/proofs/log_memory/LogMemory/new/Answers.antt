@@ -1,4 +1,5 @@
-use Rattle.mem_axioms.proofs.Growing.{rows-none, cells-none, sound-none, blanks-none}
+use Rattle.mem_axioms.specs.Lemmas.Growing.{cells-none, sound-none}
+use Rattle.mem_axioms.proofs.RowsKept.{rows-none, blanks-none}
 use Rattle.mem_axioms.proofs.log_memory.LogMemory.new.Goals as goal
 
 pub invariant_of-result-clause-flags : goal.invariant_of-result-clause-flags

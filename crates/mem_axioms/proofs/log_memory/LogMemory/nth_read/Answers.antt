@@ -3,8 +3,8 @@ use Rattle.mem_axioms.specs.Logs.{newest}
 use Rattle.mem_axioms.specs.Objects.{initial_of}
 use Rattle.mem_axioms.specs.Scalars.{scalars_of}
 use Rattle.mem_axioms.specs.declared.types.Event.{Event}
-use Rattle.mem_axioms.proofs.Downward.{below-in, below-in-length, below-out}
-use Rattle.mem_axioms.proofs.Offers.{may_take, reads-at}
+use Rattle.mem_axioms.specs.Lemmas.Downward.{below-in, below-in-length, below-out}
+use Rattle.mem_axioms.specs.Lemmas.Offers.{may_take, reads-at}
 use Rattle.mem_axioms.proofs.log_memory.LogMemory.nth_read.Goals as goal
 
 pub loop-position-init : goal.loop-position-init

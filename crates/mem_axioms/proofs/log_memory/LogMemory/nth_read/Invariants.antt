@@ -2,8 +2,8 @@ use Rattle.std.proofs.Common.{◌≡◌, ◌<◌, length, reverse, slice_get}
 use Rattle.mem_axioms.specs.Objects.{initial_of}
 use Rattle.mem_axioms.specs.Scalars.{scalars_of}
 use Rattle.mem_axioms.specs.Reads.{reads}
-use Rattle.mem_axioms.proofs.Downward.{below}
-use Rattle.mem_axioms.proofs.Offers.{may_take}
+use Rattle.mem_axioms.specs.Lemmas.Downward.{below}
+use Rattle.mem_axioms.specs.Lemmas.Offers.{may_take}
 use Rattle.mem_axioms.proofs.log_memory.LogMemory.nth_read.Given as goal
 
 abbrev pub invariant-loop-position : goal.invariant-loop-position

@@ -7,15 +7,15 @@ use Rattle.mem_axioms.specs.Sound.{IsSound}
 use Rattle.mem_axioms.specs.Scalars.{scalars_of}
 use Rattle.mem_axioms.specs.declared.types.Event.{Event}
 use Rattle.mem_axioms.specs.declared.types.Rule.{Rule}
-use Rattle.mem_axioms.proofs.Widening.{cells-wider, sound-wider}
+use Rattle.mem_axioms.specs.Lemmas.Widening.{cells-wider, sound-wider}
 use Rattle.mem_axioms.proofs.log_memory.LogMemoryMemory.add_object.Goals as goal
 
 cells_if : (added : Bool) (values : List (Roomy Scalar)) (more : Roomy Scalar) (log : List Event) → HasCells (scalars_of values) log → HasCells (scalars_of (cond added (values ++ more ∷ []) values)) log
-cells_if true values more log h = rw (map_push (λ value. value.members) values more) (cells-wider (scalars_of values) more.members log h)
+cells_if true values more log h = rw (map_push (λ value. value.members) values more) (cells-wider (scalars_of values) (more.members ∷ []) log h)
 cells_if false values more log h = h
 
 sound_if : (added : Bool) (rule : Rule) (values : List (Roomy Scalar)) (more : Roomy Scalar) (log : List Event) → HasCells (scalars_of values) log → IsSound rule (scalars_of values) log → IsSound rule (scalars_of (cond added (values ++ more ∷ []) values)) log
-sound_if true rule values more log h s = rw (map_push (λ value. value.members) values more) (sound-wider rule (scalars_of values) more.members log h s)
+sound_if true rule values more log h s = rw (map_push (λ value. value.members) values more) (sound-wider (scalars_of values) (more.members ∷ []) rule log h s)
 sound_if false rule values more log h s = s
 
 pub invariant_of-self-clause-cells : goal.invariant_of-self-clause-cells

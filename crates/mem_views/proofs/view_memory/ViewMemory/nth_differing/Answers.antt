@@ -1,7 +1,7 @@
 use Rattle.std.proofs.Common.{◌∙◌, sym, ap, slice_get, length, List, ℕ, arith}
 use Rattle.mem_axioms.specs.Objects.{initial_of}
 use Rattle.mem_axioms.specs.Scalars.{scalars_of}
-use Rattle.mem_axioms.proofs.Downward.{below-in, below-in-length, below-out}
+use Rattle.mem_axioms.specs.Lemmas.Downward.{below-in, below-in-length, below-out}
 use Rattle.mem_views.specs.Differing.{differs_from}
 use Rattle.mem_views.proofs.Reading.{below-under}
 use Rattle.mem_views.proofs.view_memory.ViewMemory.nth_differing.Goals as goal

@@ -5,7 +5,7 @@ use Rattle.mem_axioms.specs.Scalars.{scalars_of}
 use Rattle.mem_axioms.specs.Choices.{chosen_at}
 use Rattle.mem_axioms.specs.Reads.{reads}
 use Rattle.mem_axioms.specs.declared.types.Chosen.{Chosen}
-use Rattle.mem_axioms.proofs.Offers.{choices-load, choices-swap, count-load, count-swap, count-success, count-failure, nth-success, nth-after, nth-failure}
+use Rattle.mem_axioms.specs.Lemmas.Offers.{choices-load, choices-swap, count-load, count-swap, count-success, count-failure, nth-success, nth-after, nth-failure}
 use Rattle.mem_views.proofs.view_memory.ViewMemoryMemory.choose.Goals as goal
 
 pub read_chosen-requires-clause-n : goal.read_chosen-requires-clause-n

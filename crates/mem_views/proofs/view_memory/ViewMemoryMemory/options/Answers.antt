@@ -3,7 +3,7 @@ use Rattle.mu_values.specs.declared.scalars.Scalar.{Scalar}
 use Rattle.mem_axioms.specs.Objects.{initial_of}
 use Rattle.mem_axioms.specs.Scalars.{scalars_of}
 use Rattle.mem_axioms.specs.Reads.{reads}
-use Rattle.mem_axioms.proofs.Offers.{count-load, count-swap, count-success, count-failure, some-load, some-compare}
+use Rattle.mem_axioms.specs.Lemmas.Offers.{count-load, count-swap, count-success, count-failure, some-load, some-compare}
 use Rattle.mem_views.proofs.view_memory.ViewMemoryMemory.options.Goals as goal
 
 pub returns-in-Load-clause-count : goal.returns-in-Load-clause-count
