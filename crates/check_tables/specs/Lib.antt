@@ -1,4 +1,3 @@
-pub mod Bare
 pub mod Types
 pub mod Held
 pub mod Lookups

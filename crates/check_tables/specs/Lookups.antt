@@ -1,6 +1,6 @@
 -- To believe: what names stand for in a bundle: types with their classes, signatures, and operands with the classes of their types.
 -- Each is an option: there is nothing where the name is not defined, or defined as something else.
-use Rattle.std.specs.Prelude.{ℕ, List, [], Option, Some, None, slice_get}
+use Rattle.std.specs.Prelude.{ℕ, List, [], Option, Some, None, slice_get, unwrap_or, option_map, option_and_then}
 use Rattle.demands.specs.Names.{found}
 use Rattle.ir_lex.specs.declared.name.Name.{Name}
 use Rattle.type_laws.specs.declared.definition.TypeDef.{TypeDef}
@@ -14,11 +14,7 @@ use Rattle.check_tables.specs.Types.{definition_in, class_in, leaves_in, ref_in,
 
 abbrev pub written_number : Option Sort → Option ℕ
 written_number (Some (sorts.Written n)) = Some n
-written_number (Some (sorts.Signature n)) = None
-written_number (Some (sorts.Constant n)) = None
-written_number (Some (sorts.GlobalCell n)) = None
-written_number (Some (sorts.Function n)) = None
-written_number None = None
+written_number _ = None
 
 -- the number of a type in the graph: types stand there before signatures, in text order
 abbrev pub type_named : Tables → Name → Option ℕ
@@ -42,8 +38,7 @@ iref_named p n = iref_in p.types (type_named p n)
 
 -- where a class is only noted down, a type that is not there has the number 0
 abbrev pub or_zero : Option ℕ → ℕ
-or_zero None = 0
-or_zero (Some n) = n
+or_zero n = unwrap_or n 0
 
 abbrev pub noted_class : Tables → Name → ℕ
 noted_class p n = or_zero (class_named p n)
@@ -51,51 +46,39 @@ noted_class p n = or_zero (class_named p n)
 -- ---- signatures
 
 abbrev pub signature_number : Option Sort → Option ℕ
-signature_number (Some (sorts.Written n)) = None
 signature_number (Some (sorts.Signature n)) = Some n
-signature_number (Some (sorts.Constant n)) = None
-signature_number (Some (sorts.GlobalCell n)) = None
-signature_number (Some (sorts.Function n)) = None
-signature_number None = None
+signature_number _ = None
 
 abbrev pub signature_in : Tables → Option ℕ → Option Signature
-signature_in p None = None
-signature_in p (Some n) = slice_get p.signatures n
+signature_in p n = option_and_then (slice_get p.signatures) n
 
 abbrev pub signature_named : Tables → Name → Option Signature
 signature_named p n = signature_in p (signature_number (found p.globals.names n.text))
 
 -- the class of the references to functions of a signature; what it takes and gives
 abbrev pub funcref_of : Option Signature → Option ℕ
-funcref_of None = None
-funcref_of (Some s) = Some s.funcref
+funcref_of s = option_map (λ s. s.funcref) s
 
 abbrev pub takes_of : Option Signature → Option (List ℕ)
-takes_of None = None
-takes_of (Some s) = Some s.takes
+takes_of s = option_map (λ s. s.takes) s
 
 abbrev pub gives_of : Option Signature → Option (List ℕ)
-gives_of None = None
-gives_of (Some s) = Some s.gives
+gives_of s = option_map (λ s. s.gives) s
 
 abbrev pub noted_classes : Option (List ℕ) → List ℕ
-noted_classes None = []
-noted_classes (Some ts) = ts
+noted_classes ts = unwrap_or ts []
 
 abbrev pub noted_signature : Option Signature → ℕ
-noted_signature None = 0
-noted_signature (Some s) = s.class
+noted_signature s = unwrap_or (option_map (λ s. s.class) s) 0
 
 -- ---- operands
 
 -- a constant has its type, a global is a reference to a place of its type, a function one to a function of its signature
 abbrev pub global_class : Tables → Option Sort → Option ℕ
-global_class p (Some (sorts.Written n)) = None
-global_class p (Some (sorts.Signature n)) = None
 global_class p (Some (sorts.Constant n)) = slice_get p.constants n
 global_class p (Some (sorts.GlobalCell n)) = slice_get p.global_cells n
 global_class p (Some (sorts.Function n)) = funcref_of (signature_in p (slice_get p.functions n))
-global_class p None = None
+global_class p _ = None
 
 abbrev pub class_of_global : Tables → Name → Option ℕ
 class_of_global p n = global_class p (found p.globals.names n.text)

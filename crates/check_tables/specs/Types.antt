@@ -1,6 +1,6 @@
 -- To believe: types by number. A type or signature that is written has the number by which the graph of a bundle's types knows it; the
 -- types that are the same have one class, and what has a type is known by the class of that type.
-use Rattle.std.specs.Prelude.{ℕ, Bool, false, List, [], Option, Some, None, length, slice_get, nat_lt, not, if◌then◌else◌}
+use Rattle.std.specs.Prelude.{ℕ, Bool, false, List, [], Option, Some, None, length, slice_get, nat_lt, not, unwrap_or, option_map, option_and_then, if◌then◌else◌}
 use Rattle.type_laws.specs.declared.definition.TypeDef.{TypeDef}
 use Rattle.type_laws.specs.declared.definition.TypeDef.TheVariants.{Int, Ref, Iref, FuncRef, StackRef, ThreadRef}
 use Rattle.type_laws.specs.Same.{same, agree_at}
@@ -18,24 +18,21 @@ abbrev pub definition_at : Table → ℕ → Option TypeDef
 definition_at p t = if nat_lt t p.written then slice_get p.definitions t else None
 
 abbrev pub definition_in : Table → Option ℕ → Option TypeDef
-definition_in p None = None
-definition_in p (Some t) = definition_at p t
+definition_in p t = option_and_then (definition_at p) t
 
 -- the class of what is written under a number
 abbrev pub class_at : Table → ℕ → Option ℕ
 class_at p t = if nat_lt t p.written then Some (class_of p.definitions t) else None
 
 abbrev pub class_in : Table → Option ℕ → Option ℕ
-class_in p None = None
-class_in p (Some t) = class_at p t
+class_in p t = option_and_then (class_at p) t
 
 -- the leaves of a type that is written; none where none is
 abbrev pub leaves_at : Table → ℕ → List ℕ
 leaves_at p t = if nat_lt t p.written then leaves p.definitions t else []
 
 abbrev pub leaves_in : Table → Option ℕ → List ℕ
-leaves_in p None = []
-leaves_in p (Some t) = leaves_at p t
+leaves_in p t = unwrap_or (option_map (leaves_at p) t) []
 
 -- whether what is written under a number is a signature, and whether it is a type
 abbrev pub is_sig : Option TypeDef → Bool
@@ -58,16 +55,10 @@ abbrev pub funcref_at : Table → ℕ → Option ℕ
 funcref_at p s = if is_sig (definition_at p s) then Some (class_like p.definitions (FuncRef s)) else None
 
 abbrev pub ref_in : Table → Option ℕ → Option ℕ
-ref_in p None = None
-ref_in p (Some t) = ref_at p t
+ref_in p t = option_and_then (ref_at p) t
 
 abbrev pub iref_in : Table → Option ℕ → Option ℕ
-iref_in p None = None
-iref_in p (Some t) = iref_at p t
-
-abbrev pub funcref_in : Table → Option ℕ → Option ℕ
-funcref_in p None = None
-funcref_in p (Some s) = funcref_at p s
+iref_in p t = option_and_then (iref_at p) t
 
 -- the classes of the types that every bundle has: integers of one bit and of 32, references to stacks and to threads, and references
 -- to objects of type void; void itself stands behind what is written

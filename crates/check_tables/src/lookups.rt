@@ -1,6 +1,5 @@
 // What names stand for.
-ghost use Rattle.std.specs.Prelude.{◌≡◌, length, option_map, option_copied, slice_get};
-ghost use Rattle.check_tables.specs.Bare.{bare};
+ghost use Rattle.std.specs.Prelude.{◌≡◌, length, option_copied, slice_get};
 ghost use Rattle.check_tables.specs.Lookups.{type_named, definition_named, class_named, leaves_named, ref_named, iref_named, noted_class, signature_named, funcref_of, takes_of, gives_of, class_of_global, noted_signature, signature_in};
 
 use crate::tables::{Signature, Tables};
@@ -21,7 +20,7 @@ impl Tables {
 
     /// The definition of the type that a name stands for.
     pub fn definition_named(&self, name: &Name) -> Option<&TypeDef>
-        ensures { option_map bare (option_copied result) ≡ definition_named self.now name.now }
+        ensures { option_copied result ≡ definition_named self.now name.now }
     {
         match self.type_named(name) {
             Some(t) => self.types.definition(t),

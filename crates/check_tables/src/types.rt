@@ -1,7 +1,6 @@
 // Types by number.
-ghost use Rattle.std.specs.Prelude.{◌≡◌, length, option_map, option_copied};
+ghost use Rattle.std.specs.Prelude.{◌≡◌, length, option_copied};
 ghost use Rattle.type_laws.specs.Same.{IsGraph};
-ghost use Rattle.check_tables.specs.Bare.{bare, bare_table};
 ghost use Rattle.check_tables.specs.Held.{IsHeld};
 ghost use Rattle.mu_types.specs.Implied.{IsThere, definition_of};
 ghost use Rattle.check_tables.specs.Types.{class_like, definition_at, class_at, leaves_at, ref_at, iref_at, funcref_at, int1, int32, stackref, threadref, ref_void};
@@ -21,12 +20,11 @@ impl Model for TypeTable {
     ghost use Rattle.std.specs.Prelude.{◌≡◌, ◌≤◌, length};
     ghost use Rattle.mu_types.specs.Graph.{Table};
     ghost use Rattle.type_laws.specs.Same.{IsGraph};
-    ghost use Rattle.check_tables.specs.Bare.{bare_table};
     ghost use Rattle.check_tables.specs.Held.{IsHeld};
 
     ghost Value = { Table };
 
-    ghost view = { λ t. bare_table t.classes };
+    ghost view = { λ t. t.classes };
 
     ghost invariant = { λ t. IsHeld t.classes t.written };
 }
@@ -35,14 +33,14 @@ impl TypeTable {
     /// The table of a graph, where so many of its definitions are written.
     pub fn new(classes: Classes, written: u32) -> TypeTable
         requires { IsHeld classes written }
-        ensures { result ≡ bare_table classes }
+        ensures { result ≡ classes }
     {
         TypeTable { classes, written }
     }
 
     /// The graph itself.
     pub fn classes(&self) -> &Classes
-        ensures same { bare_table result.now ≡ self.now }
+        ensures same { result.now ≡ self.now }
         ensures graph { IsGraph result.now.definitions }
     {
         &self.classes
@@ -57,7 +55,7 @@ impl TypeTable {
 
     /// What is written under a number, where something is.
     pub fn definition(&self, t: u32) -> Option<&TypeDef>
-        ensures { option_map bare (option_copied result) ≡ definition_at self.now t }
+        ensures { option_copied result ≡ definition_at self.now t }
     {
         if t < self.written {
             Some(self.classes.definition(t))

@@ -3,7 +3,6 @@ use Rattle.std.proofs.Common.{◌≡◌, ℕ, zero, suc, ◌+◌, ◌<◌, ◌�
 use Rattle.std.proofs.lemmas.Bool.{cases_lt}
 use Rattle.mu_types.specs.declared.faults.TypeFault.{TypeFault}
 use Rattle.mu_types.specs.declared.faults.TypeKind.TheVariants.{WrongArgument}
-use Rattle.mu_base.specs.Lists.{Roomy}
 use Rattle.std.proofs.lemmas.Option.{slice_get-get_or}
 use Rattle.type_laws.specs.declared.definition.TypeDef.{TypeDef}
 use Rattle.mu_types.specs.Tests.{Test, first_unmet, each, allows, judged, place, wrong_arguments}
@@ -44,12 +43,12 @@ each_some tests many x f h l e = some_from tests many 0 x f (λ u m k. h u k) (o
 pub there : (g : List TypeDef) (t : ℕ) (d : TypeDef) → t < length g → d ≡ get_or g t d → slice_get g t ≡ Some d
 there g t d l e = slice_get-get_or g t d l ∙ ap Some (sym e)
 
-pub argument_some : (g : List TypeDef) (places : List (Roomy ℕ)) (t : ℕ) (d : TypeDef) (k : ℕ) → slice_get g t ≡ Some d → ((u : ℕ) → u < k → allows g d u ≡ true) → k < judged d → allows g d k ≡ false
+pub argument_some : (g : List TypeDef) (places : List (List ℕ)) (t : ℕ) (d : TypeDef) (k : ℕ) → slice_get g t ≡ Some d → ((u : ℕ) → u < k → allows g d u ≡ true) → k < judged d → allows g d k ≡ false
     → first_unmet (wrong_arguments g places t) ≡ Some (record { kind = WrongArgument; place = place places t (k + 1) })
 argument_some g places t d k e h l n = rw e (each_some (λ k. record { met = allows g d k; fault = record { kind = WrongArgument; place = place places t (k + 1) } } ∷ []) (judged d) k (record { kind = WrongArgument; place = place places t (k + 1) })
     (λ u m. rw (h u m) refl) l (rw n refl))
 
-pub argument_none : (g : List TypeDef) (places : List (Roomy ℕ)) (t : ℕ) (d : TypeDef) → slice_get g t ≡ Some d → ((u : ℕ) → u < judged d → allows g d u ≡ true) → first_unmet (wrong_arguments g places t) ≡ None
+pub argument_none : (g : List TypeDef) (places : List (List ℕ)) (t : ℕ) (d : TypeDef) → slice_get g t ≡ Some d → ((u : ℕ) → u < judged d → allows g d u ≡ true) → first_unmet (wrong_arguments g places t) ≡ None
 argument_none g places t d e h = rw e (each_none (λ k. record { met = allows g d k; fault = record { kind = WrongArgument; place = place places t (k + 1) } } ∷ []) (judged d) (λ u m. rw (h u m) refl))
 
 pub met_more : (tests : ℕ → List Test) (t : ℕ) → ((u : ℕ) → u < t → first_unmet (tests u) ≡ None) → first_unmet (tests t) ≡ None → (u : ℕ) → u < t + 1 → first_unmet (tests u) ≡ None

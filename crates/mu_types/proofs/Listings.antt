@@ -29,9 +29,9 @@ each_mapped C S L (x ∷ xs) h =
 -- leaves by the rows of the parts are the classes of the leaves
 pub mapped : (C : ℕ → ℕ) (S L : ℕ → List ℕ) (t : ℕ) (d : TypeDef) → All (λ p. S p ≡ map C (L p)) (parts d) → leaves_by S (C t) d ≡ map C (leaves_by L t d)
 mapped C S L t (Int width) h = refl
-mapped C S L t (Struct fields) h = each_mapped C S L fields.members h
+mapped C S L t (Struct fields) h = each_mapped C S L fields h
 mapped C S L t (Array element size) h = ap (times size) (All-head (λ p. S p ≡ map C (L p)) element [] h) ∙ sym (map_times C size (L element))
-mapped C S L t (Hybrid fixed element) h = each_mapped C S L fixed.members (front_all (λ p. S p ≡ map C (L p)) fixed.members element h)
+mapped C S L t (Hybrid fixed element) h = each_mapped C S L fixed (front_all (λ p. S p ≡ map C (L p)) fixed element h)
 mapped C S L t Void h = refl
 mapped C S L t (Ref x) h = refl
 mapped C S L t (Iref x) h = refl

@@ -1,6 +1,5 @@
 -- Worked examples, to read beside the definitions: first faults, and the implied types of a small graph.
 use Rattle.std.specs.Prelude.{◌≡◌, ℕ, List, [], ◌∷◌, Some, None, length, slice_get, refl}
-use Rattle.mu_base.specs.Lists.{Roomy}
 use Rattle.type_laws.specs.declared.definition.TypeDef.TheVariants.{Int, Struct, Void, Ref, FuncRef, Sig}
 use Rattle.type_laws.specs.Parts.{leads}
 use Rattle.type_laws.specs.Leaves.{leaves_to}
@@ -8,33 +7,30 @@ use Rattle.mu_types.specs.declared.faults.TypeKind.TheVariants.{EndlessType, Wro
 use Rattle.mu_types.specs.Implied.{complete}
 use Rattle.mu_types.specs.Tests.{first_fault}
 
-abbrev ids : List ℕ → Roomy ℕ
-ids members = record { members = members; spare = 0 }
-
 -- struct<itself> whose name stands at byte 9
-pub endless_at_its_name : first_fault (record { definitions = Struct (ids (0 ∷ [])) ∷ []; places = ids (9 ∷ 21 ∷ []) ∷ [] }) ≡ Some (record { kind = EndlessType; place = 9 })
+pub endless_at_its_name : first_fault (record { definitions = Struct (0 ∷ []) ∷ []; places = (9 ∷ 21 ∷ []) ∷ [] }) ≡ Some (record { kind = EndlessType; place = 9 })
 unfolding leads leaves_to
 endless_at_its_name = refl
 
 -- a struct of a reference to it
-pub through_a_reference : first_fault (record { definitions = Struct (ids (1 ∷ [])) ∷ Ref 0 ∷ []; places = ids (9 ∷ 21 ∷ []) ∷ ids (34 ∷ 43 ∷ []) ∷ [] }) ≡ None
+pub through_a_reference : first_fault (record { definitions = Struct (1 ∷ []) ∷ Ref 0 ∷ []; places = (9 ∷ 21 ∷ []) ∷ (34 ∷ 43 ∷ []) ∷ [] }) ≡ None
 unfolding leads leaves_to
 through_a_reference = refl
 
 -- a width of 12, at the width
-pub width_of_12 : first_fault (record { definitions = Int 12 ∷ []; places = ids (9 ∷ 18 ∷ []) ∷ [] }) ≡ Some (record { kind = WrongArgument; place = 18 })
+pub width_of_12 : first_fault (record { definitions = Int 12 ∷ []; places = (9 ∷ 18 ∷ []) ∷ [] }) ≡ Some (record { kind = WrongArgument; place = 18 })
 unfolding leads leaves_to
 width_of_12 = refl
 
 -- all arguments come before all types that contain themselves: the second type's field is void
-pub arguments_come_first : first_fault (record { definitions = Struct (ids (0 ∷ [])) ∷ Struct (ids (2 ∷ [])) ∷ Void ∷ []; places = ids (9 ∷ 21 ∷ []) ∷ ids (34 ∷ 46 ∷ []) ∷ ids (59 ∷ []) ∷ [] })
+pub arguments_come_first : first_fault (record { definitions = Struct (0 ∷ []) ∷ Struct (2 ∷ []) ∷ Void ∷ []; places = (9 ∷ 21 ∷ []) ∷ (34 ∷ 46 ∷ []) ∷ (59 ∷ []) ∷ [] })
     ≡ Some (record { kind = WrongArgument; place = 46 })
 unfolding leads leaves_to
 arguments_come_first = refl
 
 -- one type and one signature bring five types without arguments, a ref and an iref to the type and to void, and a funcref
-pub implied_of_two : slice_get (complete (Int 64 ∷ Sig (ids []) (ids (0 ∷ [])) ∷ [])) 9 ≡ Some (FuncRef 1)
+pub implied_of_two : slice_get (complete (Int 64 ∷ Sig [] (0 ∷ []) ∷ [])) 9 ≡ Some (FuncRef 1)
 implied_of_two = refl
 
-pub twelve_in_all : length (complete (Int 64 ∷ Sig (ids []) (ids (0 ∷ [])) ∷ [])) ≡ 12
+pub twelve_in_all : length (complete (Int 64 ∷ Sig [] (0 ∷ []) ∷ [])) ≡ 12
 twelve_in_all = refl

@@ -1,22 +1,13 @@
 -- To believe: the implied types, which every graph has besides the written ones.
 use Rattle.std.specs.Prelude.{◌≡◌, ℕ, suc, ◌≤◌, Bool, true, false, List, [], ◌∷◌, ◌++◌, Some, slice_get, cond}
 use Rattle.type_laws.specs.declared.definition.TypeDef.{TypeDef}
-use Rattle.type_laws.specs.declared.definition.TypeDef.TheVariants.{Int, Struct, Array, Hybrid, Void, Ref, Iref, FuncRef, StackRef, ThreadRef, Sig}
+use Rattle.type_laws.specs.declared.definition.TypeDef.TheVariants.{Int, Void, Ref, Iref, FuncRef, StackRef, ThreadRef, Sig}
 use Rattle.mu_types.specs.declared.implied.Implied as wanted
 use Rattle.mu_types.specs.declared.implied.Implied.TheVariants as wants
 
 abbrev pub is_signature : TypeDef → Bool
-is_signature (Int width) = false
-is_signature (Struct fields) = false
-is_signature (Array element size) = false
-is_signature (Hybrid fixed element) = false
-is_signature Void = false
-is_signature (Ref t) = false
-is_signature (Iref t) = false
-is_signature (FuncRef s) = false
-is_signature StackRef = false
-is_signature ThreadRef = false
 is_signature (Sig takes gives) = true
+is_signature _ = false
 
 -- what refers to the definition with that id: to a signature its funcref, to a type its ref and its iref
 abbrev pub references : ℕ → TypeDef → List TypeDef
@@ -48,11 +39,7 @@ IsWritten graph written signature t = (t ≤ written) × ((d : TypeDef) → slic
 
 -- there is such a type: references lead to written types or void, funcrefs to written signatures
 abbrev pub IsThere : List TypeDef → ℕ → wanted.Implied → Type 0
-IsThere graph written wants.Void = Unit {0}
-IsThere graph written wants.Int1 = Unit {0}
-IsThere graph written wants.Int32 = Unit {0}
-IsThere graph written wants.StackRef = Unit {0}
-IsThere graph written wants.ThreadRef = Unit {0}
 IsThere graph written (wants.RefTo t) = IsWritten graph written false t
 IsThere graph written (wants.IrefTo t) = IsWritten graph written false t
 IsThere graph written (wants.FuncRefTo s) = IsWritten graph written true s
+IsThere graph written _ = Unit {0}

@@ -1,9 +1,8 @@
 -- To believe: what the written types must meet: one ordered list of tests, each with the fault that it names where it is not met.
 use Rattle.std.specs.Prelude.{ℕ, zero, suc, ◌+◌, Bool, true, false, not, cond, ◌&&◌, ◌==◌, nat_le, List, [], ◌∷◌, ◌++◌, length, Option, Some, None, slice_get, slice_index, slice_index_or}
 use Rattle.std.specs.List.{list_any}
-use Rattle.mu_base.specs.Lists.{Roomy}
 use Rattle.type_laws.specs.declared.definition.TypeDef.{TypeDef}
-use Rattle.type_laws.specs.declared.definition.TypeDef.TheVariants.{Int, Struct, Array, Hybrid, Void, Ref, Iref, FuncRef, StackRef, ThreadRef, Sig}
+use Rattle.type_laws.specs.declared.definition.TypeDef.TheVariants.{Int, Struct, Array, Hybrid, Void}
 use Rattle.type_laws.specs.Parts.{contains_itself}
 use Rattle.type_laws.specs.Leaves.{leaves}
 use Rattle.mu_types.specs.declared.limits.TheConstants.{WIDTHS, LONGEST_ARRAY, MOST_LEAVES}
@@ -29,74 +28,50 @@ each tests (suc many) first = tests first ++ each tests many (suc first)
 -- whether values of the type can be parts of others: not those of void or of a hybrid
 abbrev pub can_be_part : Option TypeDef → Bool
 can_be_part None = false
-can_be_part (Some (Int width)) = true
-can_be_part (Some (Struct fields)) = true
-can_be_part (Some (Array element size)) = true
 can_be_part (Some (Hybrid fixed element)) = false
 can_be_part (Some Void) = false
-can_be_part (Some (Ref t)) = true
-can_be_part (Some (Iref t)) = true
-can_be_part (Some (FuncRef s)) = true
-can_be_part (Some StackRef) = true
-can_be_part (Some ThreadRef) = true
-can_be_part (Some (Sig takes gives)) = true
+can_be_part _ = true
 
 -- how many arguments of the definition are judged: widths, lengths, fields and elements
 abbrev pub judged : TypeDef → ℕ
 judged (Int width) = 1
-judged (Struct fields) = length fields.members
+judged (Struct fields) = length fields
 judged (Array element size) = 2
-judged (Hybrid fixed element) = length fixed.members + 1
-judged Void = 0
-judged (Ref t) = 0
-judged (Iref t) = 0
-judged (FuncRef s) = 0
-judged StackRef = 0
-judged ThreadRef = 0
-judged (Sig takes gives) = 0
+judged (Hybrid fixed element) = length fixed + 1
+judged _ = 0
 
 -- whether argument k is allowed; of an array the element comes first, then the length
 abbrev pub allows : List TypeDef → TypeDef → ℕ → Bool
 allows graph (Int width) k = list_any (λ allowed. allowed == width) WIDTHS
-allows graph (Struct fields) k = can_be_part (slice_get graph (slice_index fields.members k))
+allows graph (Struct fields) k = can_be_part (slice_get graph (slice_index fields k))
 allows graph (Array element size) zero = can_be_part (slice_get graph element)
 allows graph (Array element size) (suc k) = nat_le 1 size && nat_le size LONGEST_ARRAY
-allows graph (Hybrid fixed element) k = can_be_part (slice_get graph (slice_index_or fixed.members k element))
-allows graph Void k = true
-allows graph (Ref t) k = true
-allows graph (Iref t) k = true
-allows graph (FuncRef s) k = true
-allows graph StackRef k = true
-allows graph ThreadRef k = true
-allows graph (Sig takes gives) k = true
+allows graph (Hybrid fixed element) k = can_be_part (slice_get graph (slice_index_or fixed k element))
+allows graph _ k = true
 
 -- place k of a definition: 0 is that of the name, k + 1 that of argument k; 0 where none is given
-abbrev pub place_at : Option (Roomy ℕ) → ℕ → ℕ
-place_at None k = 0
-place_at (Some places) k = slice_index places.members k
+abbrev pub place : List (List ℕ) → ℕ → ℕ → ℕ
+place places t k = slice_index (slice_index_or places t []) k
 
-abbrev pub place : List (Roomy ℕ) → ℕ → ℕ → ℕ
-place places t k = place_at (slice_get places t) k
-
-abbrev pub argument_tests : List TypeDef → List (Roomy ℕ) → ℕ → Option TypeDef → List Test
+abbrev pub argument_tests : List TypeDef → List (List ℕ) → ℕ → Option TypeDef → List Test
 argument_tests graph places t None = []
 argument_tests graph places t (Some d) =
     each (λ k. record { met = allows graph d k; fault = record { kind = WrongArgument; place = place places t (k + 1) } } ∷ []) (judged d) 0
 
 -- the arguments of definition t
-abbrev pub wrong_arguments : List TypeDef → List (Roomy ℕ) → ℕ → List Test
+abbrev pub wrong_arguments : List TypeDef → List (List ℕ) → ℕ → List Test
 wrong_arguments graph places t = argument_tests graph places t (slice_get graph t)
 
 -- definition t does not contain itself
-abbrev pub endless_type : List TypeDef → List (Roomy ℕ) → ℕ → List Test
+abbrev pub endless_type : List TypeDef → List (List ℕ) → ℕ → List Test
 endless_type graph places t = record { met = not (contains_itself graph t); fault = record { kind = EndlessType; place = place places t 0 } } ∷ []
 
 -- definition t has few leaves; of a hybrid the fixed ones count
-abbrev pub too_many_leaves : List TypeDef → List (Roomy ℕ) → ℕ → List Test
+abbrev pub too_many_leaves : List TypeDef → List (List ℕ) → ℕ → List Test
 too_many_leaves graph places t = record { met = nat_le (length (leaves graph t)) MOST_LEAVES; fault = record { kind = TooManyLeaves; place = place places t 0 } } ∷ []
 
 -- three passes over the definitions: the arguments of all, then whether one contains itself, then their leaves
-abbrev pub passes : List TypeDef → List (Roomy ℕ) → ℕ → List Test
+abbrev pub passes : List TypeDef → List (List ℕ) → ℕ → List Test
 passes graph places many = each (wrong_arguments graph places) many 0 ++ each (endless_type graph places) many 0 ++ each (too_many_leaves graph places) many 0
 
 -- the first fault of a graph of written types, None where there is none

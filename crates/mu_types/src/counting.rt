@@ -15,8 +15,8 @@ use super::judging::place_of;
 use super::limits::MOST_LEAVES;
 use super::ranking::{is_ordered, order_of};
 use super::rows::{at, put};
-use mu_base::Ids;
 use std::alloc::{AllocError, Global};
+use text_forms::Listing;
 use type_laws::TypeDef;
 
 /// One more than the greatest number of leaves: all greater numbers count as this.
@@ -136,7 +136,7 @@ pub fn counts_of(alloc: Global, all: &[TypeDef], rank: &[usize]) -> Result<Vec<u
 /// The first, of the first so many definitions, with too many leaves, by the numbers of leaves.
 pub fn first_too_many(
     all: &[TypeDef],
-    places: &[Ids],
+    places: &[Listing<u32>],
     many: usize,
     counts: &[usize],
 ) -> Option<TypeFault>

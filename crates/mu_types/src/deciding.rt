@@ -17,15 +17,15 @@ use super::naming::classes_by;
 use super::ranking::arrange;
 use super::refine::refine;
 use super::table::Classes;
-use mu_base::Ids;
 use std::alloc::{AllocError, Global};
+use text_forms::Listing;
 use type_laws::TypeDef;
 
 // whether the types are accepted; if so, the ranks that were found on the way
 fn judge(
     alloc: Global,
     all: &[TypeDef],
-    places: &[Ids],
+    places: &[Listing<u32>],
     many: usize,
 ) -> Result<Vec<usize>, TypeFault>
     requires many { many ≤ length all.now }

@@ -10,8 +10,8 @@ use super::faults::{TypeFault, TypeKind};
 use super::judging::place_of;
 use super::ranking::{descends, parts_stay_below};
 use super::rows::{at, put};
-use mu_base::Ids;
 use std::alloc::{AllocError, Global};
+use text_forms::Listing;
 use type_laws::TypeDef;
 
 /// How many parts there are.
@@ -203,7 +203,7 @@ pub fn first_endless(
     alloc: Global,
     all: &[TypeDef],
     rank: &[usize],
-    places: &[Ids],
+    places: &[Listing<u32>],
     many: usize,
 ) -> Result<Option<TypeFault>, AllocError>
     requires { many ≤ length all.now }

@@ -2,9 +2,9 @@
 ghost use Rattle.std.specs.Prelude.{◌≡◌, ◌+◌, ◌-◌, ◌^◌, ◌<◌, [], ◌∷◌, ◌++◌, length, IfOk, OnOk, OnErr, IsTrue};
 ghost use Rattle.type_laws.specs.Same.{IsGraph};
 
-use mu_base::Ids;
 use std::alloc::{AllocError, Global};
 use std::marker::Model;
+use text_forms::Listing;
 use type_laws::TypeDef;
 
 /// Written types and signatures, numbered from 0 in the order in which they are added, each with its places.
@@ -12,7 +12,7 @@ use type_laws::TypeDef;
 #[derive(Drop)]
 pub struct TypeGraph {
     definitions: Vec<TypeDef>,
-    places: Vec<Ids>,
+    places: Vec<Listing<u32>>,
 }
 
 impl Model for TypeGraph {
@@ -44,7 +44,7 @@ impl TypeGraph {
     /// signature, then its results. A place that is not given counts as 0. An argument may be the id of a definition that is
     /// added later. Where no memory is found the graph is left as it was, and the definition is let go. It costs as much as a push
     /// to a list.
-    pub fn add(&mut self, definition: TypeDef, places: Ids) -> Result<u32, AllocError>
+    pub fn add(&mut self, definition: TypeDef, places: Listing<u32>) -> Result<u32, AllocError>
         requires { length self.old.definitions + 1 < 2 ^ 32 - 1 }
         ensures id { IfOk result (λ id. id ≡ length self.old.definitions) }
         ensures definitions { OnOk result (self.new.definitions ≡ self.old.definitions ++ definition ∷ []) }
@@ -59,7 +59,7 @@ impl TypeGraph {
     }
 
     /// The definitions, and the places of each.
-    pub(crate) fn into_parts(self) -> (Vec<TypeDef>, Vec<Ids>)
+    pub(crate) fn into_parts(self) -> (Vec<TypeDef>, Vec<Listing<u32>>)
         ensures definitions { result.0.items ≡ self.definitions }
         ensures places { result.1.items ≡ self.places }
         ensures even { length self.places ≡ length self.definitions }

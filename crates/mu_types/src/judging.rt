@@ -5,7 +5,7 @@ ghost use Rattle.mu_types.specs.Tests.{can_be_part, judged, allows, place, argum
 
 use super::faults::{TypeFault, TypeKind};
 use super::limits::{LONGEST_ARRAY, WIDTHS};
-use mu_base::Ids;
+use text_forms::Listing;
 use type_laws::TypeDef;
 
 fn member(list: &[u32], k: usize) -> usize
@@ -15,7 +15,7 @@ fn member(list: &[u32], k: usize) -> usize
 }
 
 /// Place k of definition t, 0 where none is given.
-pub fn place_of(places: &[Ids], t: usize, k: usize) -> usize
+pub fn place_of(places: &[Listing<u32>], t: usize, k: usize) -> usize
     ensures { result ≡ place places.now t k }
 {
     if t < places.len() {
@@ -72,7 +72,7 @@ fn is_allowed(all: &[TypeDef], definition: &TypeDef, k: usize) -> bool
     }
 }
 
-fn wrong_argument(all: &[TypeDef], places: &[Ids], t: usize) -> Option<TypeFault>
+fn wrong_argument(all: &[TypeDef], places: &[Listing<u32>], t: usize) -> Option<TypeFault>
     requires { t < length all.now }
     ensures { result ≡ first_unmet (wrong_arguments all.now places.now t) }
 {
@@ -90,7 +90,11 @@ fn wrong_argument(all: &[TypeDef], places: &[Ids], t: usize) -> Option<TypeFault
 }
 
 /// The first argument, of the first so many definitions, that is not allowed.
-pub fn first_wrong_argument(all: &[TypeDef], places: &[Ids], many: usize) -> Option<TypeFault>
+pub fn first_wrong_argument(
+    all: &[TypeDef],
+    places: &[Listing<u32>],
+    many: usize,
+) -> Option<TypeFault>
     requires { many ≤ length all.now }
     ensures { result ≡ first_unmet (each (wrong_arguments all.now places.now) many 0) }
 {

@@ -1,8 +1,8 @@
 // Small graphs drawn from a seed, and what a plain reading of the rules says of them: faults pass by pass, types alike by depth in
 // rounds over all pairs, leaves by depth. It shares no code with what it is compared with.
 use super::{TypeDef, TypeGraph, TypeKind};
-use mu_base::Ids;
 use std::alloc::{AllocError, Global};
+use text_forms::Listing;
 
 /// Numbers drawn from a seed.
 #[derive(Drop)]
@@ -181,12 +181,17 @@ fn place_of_name(t: usize) -> usize {
     t.wrapping_mul(100).wrapping_add(7)
 }
 
-fn members(alloc: Global, list: &[u32], from: usize, to: usize) -> Result<Ids, AllocError> {
-    let mut all: Vec<u32> = Vec::new(alloc);
+fn members(
+    alloc: Global,
+    list: &[u32],
+    from: usize,
+    to: usize,
+) -> Result<Listing<u32>, AllocError> {
+    let mut all = Listing::new(alloc);
     for i in from..to {
         all.push(number_at(list, i))?;
     }
-    Ok(Ids::from_vec(all))
+    Ok(all)
 }
 
 fn definition(alloc: Global, shape: &Shape) -> Result<TypeDef, AllocError> {
@@ -226,12 +231,12 @@ fn definition(alloc: Global, shape: &Shape) -> Result<TypeDef, AllocError> {
 pub fn graph_of(alloc: Global, shapes: &[Shape]) -> Result<TypeGraph, AllocError> {
     let mut graph = TypeGraph::new(alloc);
     for t in 0..shapes.len() {
-        let mut places: Vec<u32> = Vec::new(alloc);
+        let mut places = Listing::new(alloc);
         for k in 0..10usize {
             places.push((place_of_name(t).wrapping_add(k) % 65536) as u32)?;
         }
         if graph.count() < 1_000_000 {
-            graph.add(definition(alloc, &shapes[t])?, Ids::from_vec(places))?;
+            graph.add(definition(alloc, &shapes[t])?, places)?;
         }
     }
     Ok(graph)

@@ -1,14 +1,17 @@
 // Graphs whose answers are known, run as they are built.
 use super::samples::{Dice, Verdict, complete, drawn, flag_at, graph_of, pair, plain_verdict};
 use super::{Classes, Implied, TypeDef, TypeFault, TypeGraph, TypeKind, classes};
-use mu_base::Ids;
 use std::alloc::{AllocError, Global};
 use std::test::Fail;
 use std::time::Instant;
+use text_forms::Listing;
 
-fn ids(alloc: Global, members: &[u32]) -> Result<Ids, AllocError> {
-    let members = Vec::from_slice(alloc, members)?;
-    Ok(Ids::from_vec(members))
+fn ids(alloc: Global, members: &[u32]) -> Result<Listing<u32>, AllocError> {
+    let mut ids = Listing::new(alloc);
+    for member in members {
+        ids.push(*member)?;
+    }
+    Ok(ids)
 }
 
 fn judged(alloc: Global, graph: TypeGraph) -> Option<Result<Classes, TypeFault>> {
@@ -100,7 +103,7 @@ fn takes_two_lists_for_one(rt: HostRuntime) -> Result<(), Fail> {
 
 fn push(graph: &mut TypeGraph, definition: TypeDef, alloc: Global) -> Result<(), AllocError> {
     if graph.count() < 1_000_000 {
-        graph.add(definition, Ids::new(alloc))?;
+        graph.add(definition, Listing::new(alloc))?;
     }
     Ok(())
 }
@@ -149,18 +152,12 @@ fn wide(alloc: Global, many: u32) -> Result<TypeGraph, AllocError> {
     let mut graph = TypeGraph::new(alloc);
     let structs = many % 1_000_000 / 2 + 1;
     for x in 0..structs {
-        let mut fields: Vec<u32> = Vec::new(alloc);
+        let mut fields = Listing::new(alloc);
         for i in 0..256u32 {
             let to = (x as u64 * 7919 + i as u64 * i as u64 * 31) % structs as u64;
             fields.push(to as u32 * 2 + 1)?;
         }
-        push(
-            &mut graph,
-            TypeDef::Struct {
-                fields: Ids::from_vec(fields),
-            },
-            alloc,
-        )?;
+        push(&mut graph, TypeDef::Struct { fields }, alloc)?;
         push(&mut graph, TypeDef::Ref(x * 2), alloc)?;
     }
     Ok(graph)
@@ -188,19 +185,13 @@ fn wide_apart(alloc: Global, many: u32) -> Result<TypeGraph, AllocError> {
     let mut graph = TypeGraph::new(alloc);
     let structs = many % 1_000_000 / 2;
     for x in 0..structs {
-        let mut fields: Vec<u32> = Vec::new(alloc);
+        let mut fields = Listing::new(alloc);
         for i in 0..256u32 {
             let to = (x as u64 * 7919 + i as u64 * i as u64 * 31) % (structs as u64 + 1);
             let odd = x == 0 && i == 0;
             fields.push(if odd { structs * 2 } else { to as u32 * 2 + 1 })?;
         }
-        push(
-            &mut graph,
-            TypeDef::Struct {
-                fields: Ids::from_vec(fields),
-            },
-            alloc,
-        )?;
+        push(&mut graph, TypeDef::Struct { fields }, alloc)?;
         push(&mut graph, TypeDef::Ref(x * 2), alloc)?;
     }
     push(&mut graph, TypeDef::Int { width: 8 }, alloc)?;

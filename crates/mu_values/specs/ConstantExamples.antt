@@ -1,6 +1,5 @@
 -- Worked examples. Constants by their types.
 use Rattle.std.specs.Prelude.{◌≡◌, refl, ℕ, zero, suc, true, false, List, [], ◌∷◌, Option, Some, None}
-use Rattle.mu_base.specs.Lists.{Roomy}
 use Rattle.demands.specs.declared.fault.Fault.{Fault}
 use Rattle.demands.specs.declared.fault.Fault.TheVariants.{At}
 use Rattle.demands.specs.Demands.{first_unmet}
@@ -16,12 +15,9 @@ use Rattle.mu_values.specs.declared.literals.ConstKind.{ConstKind}
 use Rattle.mu_values.specs.declared.literals.ConstKind.TheVariants.{OutOfWidth, WrongShape, NotNullable}
 use Rattle.mu_values.specs.Constants.{constant_demands, constant_value}
 
-abbrev ids : List ℕ → Roomy ℕ
-ids members = record { members = members; spare = 0 }
-
 -- int<8>; a struct of two of them; an array of three; a reference to the struct; void; int<8> under another name; a hybrid
 abbrev graph : List TypeDef
-graph = types.Int 8 ∷ Struct (ids (0 ∷ 0 ∷ [])) ∷ Array 0 3 ∷ Ref 1 ∷ Void ∷ types.Int 8 ∷ Hybrid (ids (0 ∷ [])) 0 ∷ []
+graph = types.Int 8 ∷ Struct (0 ∷ 0 ∷ []) ∷ Array 0 3 ∷ Ref 1 ∷ Void ∷ types.Int 8 ∷ Hybrid (0 ∷ []) 0 ∷ []
 
 -- constants 0 to 2 have these types
 abbrev constants : List ℕ
@@ -49,14 +45,14 @@ null_is_judged = (refl, refl, refl, refl)
 
 -- members are compared by type and not by name; the first that does not fit is named
 lists_are_judged :
-    (fault_of 1 (Members (ids (0 ∷ 2 ∷ [])) (ids (42 ∷ 45 ∷ []))) ≡ None)
-    × (fault_of 1 (Members (ids (0 ∷ 1 ∷ [])) (ids (42 ∷ 45 ∷ []))) ≡ Some (At WrongShape 45))
-    × (fault_of 1 (Members (ids (1 ∷ 1 ∷ [])) (ids (42 ∷ 45 ∷ []))) ≡ Some (At WrongShape 42))
-    × (fault_of 1 (Members (ids (1 ∷ [])) (ids (42 ∷ []))) ≡ Some (At WrongShape 40))
-    × (fault_of 2 (Members (ids (2 ∷ 0 ∷ 0 ∷ [])) (ids (42 ∷ 45 ∷ 48 ∷ []))) ≡ None)
-    × (fault_of 2 (Members (ids (0 ∷ 0 ∷ [])) (ids (42 ∷ 45 ∷ []))) ≡ Some (At WrongShape 40))
-    × (fault_of 0 (Members (ids []) (ids [])) ≡ Some (At WrongShape 40))
-    × (fault_of 6 (Members (ids (0 ∷ 0 ∷ [])) (ids (42 ∷ 45 ∷ []))) ≡ Some (At WrongShape 40))
+    (fault_of 1 (Members (0 ∷ 2 ∷ []) (42 ∷ 45 ∷ [])) ≡ None)
+    × (fault_of 1 (Members (0 ∷ 1 ∷ []) (42 ∷ 45 ∷ [])) ≡ Some (At WrongShape 45))
+    × (fault_of 1 (Members (1 ∷ 1 ∷ []) (42 ∷ 45 ∷ [])) ≡ Some (At WrongShape 42))
+    × (fault_of 1 (Members (1 ∷ []) (42 ∷ [])) ≡ Some (At WrongShape 40))
+    × (fault_of 2 (Members (2 ∷ 0 ∷ 0 ∷ []) (42 ∷ 45 ∷ 48 ∷ [])) ≡ None)
+    × (fault_of 2 (Members (0 ∷ 0 ∷ []) (42 ∷ 45 ∷ [])) ≡ Some (At WrongShape 40))
+    × (fault_of 0 (Members [] []) ≡ Some (At WrongShape 40))
+    × (fault_of 6 (Members (0 ∷ 0 ∷ []) (42 ∷ 45 ∷ [])) ≡ Some (At WrongShape 40))
 unfolding alike
 lists_are_judged = (refl, refl, refl, refl, refl, refl, refl, refl)
 
@@ -75,5 +71,5 @@ values_are_made :
     × (value_of 0 (Number true 128) ≡ Int 8 128 ∷ [])
     × (value_of 0 (Number true 0) ≡ Int 8 0 ∷ [])
     × (value_of 3 NullLiteral ≡ Null ∷ [])
-    × (value_of 2 (Members (ids (2 ∷ 0 ∷ 2 ∷ [])) (ids [])) ≡ Int 8 9 ∷ Int 8 7 ∷ Int 8 9 ∷ [])
+    × (value_of 2 (Members (2 ∷ 0 ∷ 2 ∷ []) []) ≡ Int 8 9 ∷ Int 8 7 ∷ Int 8 9 ∷ [])
 values_are_made = (refl, refl, refl, refl, refl, refl)

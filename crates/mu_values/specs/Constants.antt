@@ -7,7 +7,7 @@ use Rattle.mu_base.specs.Lists.{Roomy}
 use Rattle.demands.specs.Demands.{Demands, none, demand, ◌⨾◌, first_unmet}
 use Rattle.demands.specs.declared.fault.Fault.TheVariants.{At}
 use Rattle.type_laws.specs.declared.definition.TypeDef.{TypeDef}
-use Rattle.type_laws.specs.declared.definition.TypeDef.TheVariants.{Struct, Array, Hybrid, Void, Ref, Iref, FuncRef, StackRef, ThreadRef, Sig}
+use Rattle.type_laws.specs.declared.definition.TypeDef.TheVariants.{Struct, Array, Ref, Iref, FuncRef, StackRef, ThreadRef}
 use Rattle.type_laws.specs.declared.definition.TypeDef.TheVariants as types
 use Rattle.type_laws.specs.Same.{same}
 use Rattle.mu_values.specs.declared.scalars.Scalar.{Scalar}
@@ -26,61 +26,27 @@ use Rattle.mu_values.specs.Integers.{bits_of}
 -- the width of an int, None for every other type
 abbrev pub width_of : Option TypeDef → Option ℕ
 width_of (Some (types.Int width)) = Some width
-width_of (Some (Struct fields)) = None
-width_of (Some (Array element size)) = None
-width_of (Some (Hybrid fixed element)) = None
-width_of (Some Void) = None
-width_of (Some (Ref t)) = None
-width_of (Some (Iref t)) = None
-width_of (Some (FuncRef s)) = None
-width_of (Some StackRef) = None
-width_of (Some ThreadRef) = None
-width_of (Some (Sig takes gives)) = None
-width_of None = None
+width_of _ = None
 
 abbrev pub is_reference : Option TypeDef → Bool
-is_reference (Some (types.Int width)) = false
-is_reference (Some (Struct fields)) = false
-is_reference (Some (Array element size)) = false
-is_reference (Some (Hybrid fixed element)) = false
-is_reference (Some Void) = false
 is_reference (Some (Ref t)) = true
 is_reference (Some (Iref t)) = true
 is_reference (Some (FuncRef s)) = true
 is_reference (Some StackRef) = true
 is_reference (Some ThreadRef) = true
-is_reference (Some (Sig takes gives)) = false
-is_reference None = false
+is_reference _ = false
 
 -- how many members a value has that is written as a list: structs and arrays alone have such values
 abbrev pub member_count : Option TypeDef → Option ℕ
-member_count (Some (types.Int width)) = None
-member_count (Some (Struct fields)) = Some (length fields.members)
+member_count (Some (Struct fields)) = Some (length fields)
 member_count (Some (Array element size)) = Some size
-member_count (Some (Hybrid fixed element)) = None
-member_count (Some Void) = None
-member_count (Some (Ref t)) = None
-member_count (Some (Iref t)) = None
-member_count (Some (FuncRef s)) = None
-member_count (Some StackRef) = None
-member_count (Some ThreadRef) = None
-member_count (Some (Sig takes gives)) = None
-member_count None = None
+member_count _ = None
 
 -- the type of member k: of a struct that of field k, of an array that of its elements
 abbrev pub member_type : Option TypeDef → ℕ → ℕ
-member_type (Some (types.Int width)) k = 0
-member_type (Some (Struct fields)) k = slice_index fields.members k
+member_type (Some (Struct fields)) k = slice_index fields k
 member_type (Some (Array element size)) k = element
-member_type (Some (Hybrid fixed element)) k = 0
-member_type (Some Void) k = 0
-member_type (Some (Ref t)) k = 0
-member_type (Some (Iref t)) k = 0
-member_type (Some (FuncRef s)) k = 0
-member_type (Some StackRef) k = 0
-member_type (Some ThreadRef) k = 0
-member_type (Some (Sig takes gives)) k = 0
-member_type None k = 0
+member_type _ k = 0
 
 -- ---- demands
 
@@ -109,17 +75,16 @@ abbrev pub kind_demands : List TypeDef → List ℕ → Option TypeDef → ℕ �
 kind_demands graph constants d place (literals.Number negative magnitude) = number_demands place (width_of d) negative magnitude
 kind_demands graph constants d place literals.Null = demand place NotNullable (is_reference d)
 kind_demands graph constants d place (literals.Members members places) =
-    demand place WrongShape (is_count (member_count d) (length members.members))
-    ⨾ member_demands graph constants d members.members places.members (length members.members) 0
+    demand place WrongShape (is_count (member_count d) (length members))
+    ⨾ member_demands graph constants d members places (length members) 0
 
 abbrev pub constant_demands : List TypeDef → List ℕ → ℕ → Literal → Demands ConstKind
 constant_demands graph constants t literal = kind_demands graph constants (slice_get graph t) literal.place literal.kind
 
 -- the members of a literal are constants, of which there are so many
 abbrev pub HasMembers : ℕ → LiteralKind → Type 0
-HasMembers many (literals.Number negative magnitude) = Unit {0}
-HasMembers many literals.Null = Unit {0}
-HasMembers many (literals.Members members places) = All (λ n. n < many) members.members
+HasMembers many (literals.Members members places) = All (λ n. n < many) members
+HasMembers many _ = Unit {0}
 
 -- what judging answers: nothing where all demands are met, else the first that is not
 abbrev pub Judged : Demands ConstKind → Result (Unit {0}) ConstFault → Type 0
@@ -140,7 +105,7 @@ number_value (Some w) negative magnitude = Int w (number_bits w negative magnitu
 abbrev pub kind_value : (ℕ → List Scalar) → Option TypeDef → LiteralKind → List Scalar
 kind_value of d (literals.Number negative magnitude) = number_value (width_of d) negative magnitude
 kind_value of d literals.Null = Null ∷ []
-kind_value of d (literals.Members members places) = flat_map of members.members
+kind_value of d (literals.Members members places) = flat_map of members
 
 abbrev pub constant_value : List TypeDef → (ℕ → List Scalar) → ℕ → Literal → List Scalar
 constant_value graph of t literal = kind_value of (slice_get graph t) literal.kind

@@ -5,8 +5,8 @@ ghost use Rattle.type_laws.specs.Same.{same, IsGraph};
 ghost use Rattle.mu_values.specs.Constants.{fits, is_reference, is_count, member_count, member_type, member_demands, width_of, constant_demands, HasMembers, Judged};
 
 use crate::literals::{ConstFault, ConstKind, Literal, LiteralKind};
-use mu_base::Ids;
 use mu_types::{Classes, TypeDef};
+use text_forms::Listing;
 
 /// Whether a number is less than 2^n.
 fn is_below(magnitude: u128, n: u128) -> bool
@@ -130,13 +130,13 @@ pub fn judge_const(
     classes: &Classes,
     t: u32,
     literal: &Literal,
-    types: &Ids,
+    types: &Listing<u32>,
 ) -> Result<(), ConstFault>
     requires graph { IsGraph classes.now.definitions }
     requires t { t < length classes.now.definitions }
-    requires types { All (λ c. c < length classes.now.definitions) types.now.members }
-    requires members { HasMembers (length types.now.members) literal.now.kind }
-    ensures { Judged (constant_demands classes.now.definitions types.now.members t literal.now) result }
+    requires types { All (λ c. c < length classes.now.definitions) types.now }
+    requires members { HasMembers (length types.now) literal.now.kind }
+    ensures { Judged (constant_demands classes.now.definitions types.now t literal.now) result }
 {
     let definition = classes.definition(t);
     let place = literal.place;

@@ -1,17 +1,23 @@
 // What constants are written as.
-use mu_base::Ids;
 use std::fmt;
+use text_forms::Listing;
 use thiserror::Error;
 
 /// What a constant is written as.
 #[derive(Drop)]
 pub enum LiteralKind {
     /// A number: its absolute value, and whether it is below 0.
-    Number { negative: bool, magnitude: u128 },
+    Number {
+        negative: bool,
+        magnitude: u128,
+    },
     /// `NULL`
     Null,
     /// Constants by number, each with the place where it is named.
-    Members { constants: Ids, places: Ids },
+    Members {
+        constants: Listing<u32>,
+        places: Listing<u32>,
+    },
 }
 
 /// What a constant is written as, and the place where that stands.

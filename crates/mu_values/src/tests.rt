@@ -7,10 +7,11 @@ use crate::{
     BinOp, CmpOp, ConstFault, ConstKind, ConvOp, Literal, LiteralKind, Made, Passed, Scalar, Slots,
     UpdateOp, Value, binary, compare, convert, judge_const, make_const, updated,
 };
-use mu_base::{Ids, Types};
+use mu_base::Types;
 use mu_types::{Classes, TypeDef, TypeFault, TypeGraph, classes};
 use std::alloc::{AllocError, Global};
 use std::test::Fail;
+use text_forms::Listing;
 
 fn is_integer(width: u32, n: u128) -> bool
     ensures { IsTrue result → IsInteger width n }
@@ -419,8 +420,8 @@ fn two_types(alloc: Global) -> Result<Classes, TypeFault>
     ensures wide { IfOk result (λ c. slice_get c.definitions 1 ≡ Some (types.Int 128)) }
 {
     let mut graph = TypeGraph::new(alloc);
-    graph.add(TypeDef::Int { width: 8 }, Ids::new(alloc))?;
-    graph.add(TypeDef::Int { width: 128 }, Ids::new(alloc))?;
+    graph.add(TypeDef::Int { width: 8 }, Listing::new(alloc))?;
+    graph.add(TypeDef::Int { width: 128 }, Listing::new(alloc))?;
     classes(alloc, graph)
 }
 
@@ -438,7 +439,7 @@ fn number(negative: bool, magnitude: u128) -> Literal
 
 #[test]
 fn judges_and_makes_constants(rt: HostRuntime) -> Result<(), Fail> {
-    let types = Ids::new(rt.alloc());
+    let types = Listing::new(rt.alloc());
     let classes = two_types(rt.alloc())?;
     assert_eq!(rt;
         judge_const(&classes, 0, &number(false, 255), &types),

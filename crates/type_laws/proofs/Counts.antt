@@ -20,9 +20,9 @@ length_times (suc n) xs = let h = length_times n xs in let a = length-append xs 
 
 pub counted : (of : ℕ → List ℕ) (t : ℕ) (d : TypeDef) → length (leaves_by of t d) ≡ count_by (λ p. length (of p)) d
 counted of t (Int width) = refl
-counted of t (Struct fields) = length-flat_map of fields.members
+counted of t (Struct fields) = length-flat_map of fields
 counted of t (Array element size) = length_times size (of element)
-counted of t (Hybrid fixed element) = length-flat_map of fixed.members
+counted of t (Hybrid fixed element) = length-flat_map of fixed
 counted of t Void = refl
 counted of t (Ref x) = refl
 counted of t (Iref x) = refl
@@ -59,9 +59,9 @@ capped_each m c l (x ∷ xs) h =
 
 pub capped_count : (m : ℕ) (c l : ℕ → ℕ) (d : TypeDef) → All (λ x. c x ≡ min m (l x)) (parts d) → min m (count_by c d) ≡ min m (count_by l d)
 capped_count m c l (Int width) h = refl
-capped_count m c l (Struct fields) h = capped_each m c l fields.members h
+capped_count m c l (Struct fields) h = capped_each m c l fields h
 capped_count m c l (Array element size) h = ap (λ k. min m (size * k)) (All-head (λ x. c x ≡ min m (l x)) element [] h) ∙ capped_product m size (l element)
-capped_count m c l (Hybrid fixed element) h = capped_each m c l fixed.members (front_all (λ x. c x ≡ min m (l x)) fixed.members element h)
+capped_count m c l (Hybrid fixed element) h = capped_each m c l fixed (front_all (λ x. c x ≡ min m (l x)) fixed element h)
 capped_count m c l Void h = refl
 capped_count m c l (Ref x) h = refl
 capped_count m c l (Iref x) h = refl

@@ -72,9 +72,9 @@ each_same of to (x ∷ xs) h = rw (All-head (λ p. of p ≡ to p) x xs h, each_s
 
 pub by_same : (of to : ℕ → List ℕ) (t : ℕ) (d : TypeDef) → All (λ p. of p ≡ to p) (parts d) → leaves_by of t d ≡ leaves_by to t d
 by_same of to t (Int width) h = refl
-by_same of to t (Struct fields) h = each_same of to fields.members h
+by_same of to t (Struct fields) h = each_same of to fields h
 by_same of to t (Array element size) h = ap (times size) (All-head (λ p. of p ≡ to p) element [] h)
-by_same of to t (Hybrid fixed element) h = each_same of to fixed.members (all_left (λ p. of p ≡ to p) fixed.members (element ∷ []) h)
+by_same of to t (Hybrid fixed element) h = each_same of to fixed (all_left (λ p. of p ≡ to p) fixed (element ∷ []) h)
 by_same of to t Void h = refl
 by_same of to t (Ref target) h = refl
 by_same of to t (Iref target) h = refl

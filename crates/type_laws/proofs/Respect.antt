@@ -49,10 +49,10 @@ by_alike : (r : ℕ → ℕ → Bool) (C : ℕ → ℕ) (L : ℕ → List ℕ) (
     → All P (arguments d) → All P (arguments e) → pairs r (arguments d) (arguments e) ≡ true → map C (leaves_by L a d) ≡ map C (leaves_by L b e)
 unfolding Alike
 by_alike r C L P f a b q (Int w) (Int v) k n s t h = ap (λ c. c ∷ []) q
-by_alike r C L P f a b q (Struct xs) (Struct ys) k n s t h = each_alike r C L P f xs.members ys.members s t h
+by_alike r C L P f a b q (Struct xs) (Struct ys) k n s t h = each_alike r C L P f xs ys s t h
 by_alike r C L P f a b q (Array x m) (Array y l) k n s t h =
     map_times C m (L x) ∙ (ap (λ zs. times m zs) (f x y (All-head P x [] s) (All-head P y [] t) (and_parts (r x y) true h).0) ∙ (ap (λ j. times j (map C (L y))) n ∙ sym (map_times C l (L y))))
-by_alike r C L P f a b q (Hybrid xs x) (Hybrid ys y) k n s t h = each_alike r C L P f xs.members ys.members (front_all P xs.members x s) (front_all P ys.members y t) (front_pairs r x y xs.members ys.members h)
+by_alike r C L P f a b q (Hybrid xs x) (Hybrid ys y) k n s t h = each_alike r C L P f xs ys (front_all P xs x s) (front_all P ys y t) (front_pairs r x y xs ys h)
 by_alike r C L P f a b q Void Void k n s t h = refl
 by_alike r C L P f a b q (Ref x) (Ref y) k n s t h = ap (λ c. c ∷ []) q
 by_alike r C L P f a b q (Iref x) (Iref y) k n s t h = ap (λ c. c ∷ []) q

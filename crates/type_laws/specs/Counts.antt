@@ -3,18 +3,13 @@
 use Rattle.std.proofs.Common.{ℕ, ◌*◌}
 use Rattle.std.specs.List.{sum_by}
 use Rattle.type_laws.specs.declared.definition.TypeDef.{TypeDef}
-use Rattle.type_laws.specs.declared.definition.TypeDef.TheVariants.{Int, Struct, Array, Hybrid, Void, Ref, Iref, FuncRef, StackRef, ThreadRef, Sig}
+use Rattle.type_laws.specs.declared.definition.TypeDef.TheVariants.{Struct, Array, Hybrid, Void, Sig}
 
 -- the number of leaves of a definition, where that of each part is told
 abbrev pub count_by : (ℕ → ℕ) → TypeDef → ℕ
-count_by of (Int width) = 1
-count_by of (Struct fields) = sum_by of fields.members
+count_by of (Struct fields) = sum_by of fields
 count_by of (Array element size) = size * of element
-count_by of (Hybrid fixed element) = sum_by of fixed.members
+count_by of (Hybrid fixed element) = sum_by of fixed
 count_by of Void = 0
-count_by of (Ref t) = 1
-count_by of (Iref t) = 1
-count_by of (FuncRef s) = 1
-count_by of StackRef = 1
-count_by of ThreadRef = 1
 count_by of (Sig takes gives) = 0
+count_by of _ = 1

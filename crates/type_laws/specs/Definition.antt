@@ -20,27 +20,17 @@ constructor (Sig takes gives) = 10
 -- the width of an int, the length of an array, how many parameters a signature takes; 0 for the others
 abbrev pub number : TypeDef → ℕ
 number (Int width) = width
-number (Struct fields) = 0
 number (Array element size) = size
-number (Hybrid fixed element) = 0
-number Void = 0
-number (Ref t) = 0
-number (Iref t) = 0
-number (FuncRef s) = 0
-number StackRef = 0
-number ThreadRef = 0
-number (Sig takes gives) = length takes.members
+number (Sig takes gives) = length takes
+number _ = 0
 
 -- the definitions that it names, in order; the parameters of a signature, then its results
 abbrev pub arguments : TypeDef → List ℕ
-arguments (Int width) = []
-arguments (Struct fields) = fields.members
+arguments (Struct fields) = fields
 arguments (Array element size) = element ∷ []
-arguments (Hybrid fixed element) = fixed.members ++ element ∷ []
-arguments Void = []
+arguments (Hybrid fixed element) = fixed ++ element ∷ []
 arguments (Ref t) = t ∷ []
 arguments (Iref t) = t ∷ []
 arguments (FuncRef s) = s ∷ []
-arguments StackRef = []
-arguments ThreadRef = []
-arguments (Sig takes gives) = takes.members ++ gives.members
+arguments (Sig takes gives) = takes ++ gives
+arguments _ = []

@@ -1,6 +1,5 @@
 -- Worked examples, to read beside the definitions: recursive types under two names, three types that lead to one another, types that contain themselves, an array of structs.
 use Rattle.std.specs.Prelude.{◌≡◌, ℕ, true, false, List, [], ◌∷◌, refl}
-use Rattle.mu_base.specs.Lists.{Roomy}
 use Rattle.type_laws.specs.declared.definition.TypeDef.{TypeDef}
 use Rattle.type_laws.specs.declared.definition.TypeDef.TheVariants.{Int, Struct, Array, Hybrid, Void, Ref}
 use Rattle.type_laws.specs.Same.{same, alike}
@@ -8,12 +7,9 @@ use Rattle.type_laws.specs.Class.{class_of}
 use Rattle.type_laws.specs.Parts.{contains_itself, leads}
 use Rattle.type_laws.specs.Leaves.{leaves, leaves_to}
 
-abbrev ids : List ℕ → Roomy ℕ
-ids members = record { members = members; spare = 0 }
-
 -- int<64>; a struct of an int and a reference to it; the reference; the same two under other names
 abbrev lists : List TypeDef
-lists = Int 64 ∷ Struct (ids (0 ∷ 2 ∷ [])) ∷ Ref 1 ∷ Struct (ids (0 ∷ 4 ∷ [])) ∷ Ref 3 ∷ []
+lists = Int 64 ∷ Struct (0 ∷ 2 ∷ []) ∷ Ref 1 ∷ Struct (0 ∷ 4 ∷ []) ∷ Ref 3 ∷ []
 
 pub two_names : same lists 1 3 ≡ true
 unfolding alike
@@ -49,7 +45,7 @@ ring_has_one_class = refl
 
 -- three structs, each of a reference to the next: all unfold alike, and none contains itself
 abbrev trio : List TypeDef
-trio = Struct (ids (3 ∷ [])) ∷ Struct (ids (4 ∷ [])) ∷ Struct (ids (5 ∷ [])) ∷ Ref 1 ∷ Ref 2 ∷ Ref 0 ∷ []
+trio = Struct (3 ∷ []) ∷ Struct (4 ∷ []) ∷ Struct (5 ∷ []) ∷ Ref 1 ∷ Ref 2 ∷ Ref 0 ∷ []
 
 pub trio_is_one : same trio 0 2 ≡ true
 unfolding alike
@@ -65,7 +61,7 @@ trio_is_finite = refl
 
 -- three that contain one another, and a struct over them, which does not contain itself
 abbrev knot : List TypeDef
-knot = Struct (ids (3 ∷ [])) ∷ Array 2 4 ∷ Hybrid (ids []) 3 ∷ Struct (ids (1 ∷ [])) ∷ []
+knot = Struct (3 ∷ []) ∷ Array 2 4 ∷ Hybrid [] 3 ∷ Struct (1 ∷ []) ∷ []
 
 pub over_an_endless_one : contains_itself knot 0 ≡ false
 unfolding leads
@@ -75,17 +71,17 @@ pub endless_through_array_and_hybrid : contains_itself knot 1 ≡ true
 unfolding leads
 endless_through_array_and_hybrid = refl
 
-pub struct_in_itself : contains_itself (Struct (ids (0 ∷ [])) ∷ []) 0 ≡ true
+pub struct_in_itself : contains_itself (Struct (0 ∷ []) ∷ []) 0 ≡ true
 unfolding leads
 struct_in_itself = refl
 
-pub struct_over_a_reference_to_it : contains_itself (Struct (ids (1 ∷ [])) ∷ Ref 0 ∷ []) 0 ≡ false
+pub struct_over_a_reference_to_it : contains_itself (Struct (1 ∷ []) ∷ Ref 0 ∷ []) 0 ≡ false
 unfolding leads
 struct_over_a_reference_to_it = refl
 
 -- an array of two structs; a hybrid of it; void
 abbrev array : List TypeDef
-array = Int 8 ∷ Ref 0 ∷ Struct (ids (0 ∷ 1 ∷ [])) ∷ Array 2 2 ∷ Hybrid (ids (3 ∷ 0 ∷ [])) 0 ∷ Void ∷ []
+array = Int 8 ∷ Ref 0 ∷ Struct (0 ∷ 1 ∷ []) ∷ Array 2 2 ∷ Hybrid (3 ∷ 0 ∷ []) 0 ∷ Void ∷ []
 
 pub leaves_of_an_array : leaves array 3 ≡ 0 ∷ 1 ∷ 0 ∷ 1 ∷ []
 unfolding leaves_to

@@ -2,7 +2,7 @@
 use Rattle.std.specs.Prelude.{ℕ, zero, suc, List, [], ◌∷◌, ◌++◌, length, Option, Some, None, slice_get}
 use Rattle.std.specs.List.{flat_map}
 use Rattle.type_laws.specs.declared.definition.TypeDef.{TypeDef}
-use Rattle.type_laws.specs.declared.definition.TypeDef.TheVariants.{Int, Struct, Array, Hybrid, Void, Ref, Iref, FuncRef, StackRef, ThreadRef, Sig}
+use Rattle.type_laws.specs.declared.definition.TypeDef.TheVariants.{Struct, Array, Hybrid, Void, Sig}
 
 -- a list that many times over
 abbrev pub times : {X : Type 0} → ℕ → List X → List X
@@ -12,17 +12,12 @@ times (suc n) xs = xs ++ times n xs
 -- the leaves of t by its definition, where those of its parts are told: a scalar type is its own leaf; a struct has those of its
 -- fields; an array those of its element as often as its length; a hybrid those of its fixed fields; void and signatures have none
 abbrev pub leaves_by : (ℕ → List ℕ) → ℕ → TypeDef → List ℕ
-leaves_by of t (Int width) = t ∷ []
-leaves_by of t (Struct fields) = flat_map of fields.members
+leaves_by of t (Struct fields) = flat_map of fields
 leaves_by of t (Array element size) = times size (of element)
-leaves_by of t (Hybrid fixed element) = flat_map of fixed.members
+leaves_by of t (Hybrid fixed element) = flat_map of fixed
 leaves_by of t Void = []
-leaves_by of t (Ref target) = t ∷ []
-leaves_by of t (Iref target) = t ∷ []
-leaves_by of t (FuncRef s) = t ∷ []
-leaves_by of t StackRef = t ∷ []
-leaves_by of t ThreadRef = t ∷ []
 leaves_by of t (Sig takes gives) = []
+leaves_by of t _ = t ∷ []
 
 abbrev pub leaves_at : (ℕ → List ℕ) → ℕ → Option TypeDef → List ℕ
 leaves_at of t None = []

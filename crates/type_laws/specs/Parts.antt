@@ -2,21 +2,14 @@
 use Rattle.std.specs.Prelude.{ℕ, zero, suc, Bool, false, ◌||◌, ◌==◌, List, [], ◌∷◌, ◌++◌, length, Option, Some, None, slice_get}
 use Rattle.std.specs.List.{list_any}
 use Rattle.type_laws.specs.declared.definition.TypeDef.{TypeDef}
-use Rattle.type_laws.specs.declared.definition.TypeDef.TheVariants.{Int, Struct, Array, Hybrid, Void, Ref, Iref, FuncRef, StackRef, ThreadRef, Sig}
+use Rattle.type_laws.specs.declared.definition.TypeDef.TheVariants.{Struct, Array, Hybrid}
 
 -- the fields of a struct, the element of an array, the fixed fields of a hybrid and its element
 abbrev pub parts : TypeDef → List ℕ
-parts (Int width) = []
-parts (Struct fields) = fields.members
+parts (Struct fields) = fields
 parts (Array element size) = element ∷ []
-parts (Hybrid fixed element) = fixed.members ++ element ∷ []
-parts Void = []
-parts (Ref t) = []
-parts (Iref t) = []
-parts (FuncRef s) = []
-parts StackRef = []
-parts ThreadRef = []
-parts (Sig takes gives) = []
+parts (Hybrid fixed element) = fixed ++ element ∷ []
+parts _ = []
 
 abbrev pub parts_at : Option TypeDef → List ℕ
 parts_at None = []

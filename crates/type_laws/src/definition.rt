@@ -1,17 +1,27 @@
 // How types and signatures are defined.
-use mu_base::Ids;
+use text_forms::Listing;
 
 /// The definition of a type or of a signature. Other definitions stand in it by their ids.
 #[derive(Drop)]
 pub enum TypeDef {
     /// Integers of that many bits.
-    Int { width: u128 },
+    Int {
+        width: u128,
+    },
     /// One value of each field, in order.
-    Struct { fields: Ids },
+    Struct {
+        fields: Listing<u32>,
+    },
     /// As many elements as its length.
-    Array { element: u32, length: u128 },
+    Array {
+        element: u32,
+        length: u128,
+    },
     /// Fixed fields, and then any number of elements.
-    Hybrid { fixed: Ids, element: u32 },
+    Hybrid {
+        fixed: Listing<u32>,
+        element: u32,
+    },
     /// No value.
     Void,
     /// References to objects.
@@ -25,5 +35,8 @@ pub enum TypeDef {
     /// References to threads.
     ThreadRef,
     /// A signature: the types of the parameters and of the results.
-    Sig { takes: Ids, gives: Ids },
+    Sig {
+        takes: Listing<u32>,
+        gives: Listing<u32>,
+    },
 }

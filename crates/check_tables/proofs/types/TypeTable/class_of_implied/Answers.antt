@@ -2,11 +2,8 @@ use Rattle.std.proofs.Common.{◌∙◌}
 use Rattle.std.proofs.lemmas.Option.{slice_get_within}
 use Rattle.mu_types.specs.Implied.{definition_of}
 use Rattle.type_laws.proofs.Proved.{congruence}
-use Rattle.check_tables.proofs.Like.{there_bare, implied_is}
+use Rattle.check_tables.proofs.Like.{class_is_like}
 use Rattle.check_tables.proofs.types.TypeTable.class_of_implied.Goals as goal
-
-pub implied-requires : goal.implied-requires
-implied-requires c = there_bare c.self.inside.classes.definitions c.self.inside.classes.written c.args.wanted (rw (← c.self.view_is) at c.requires)
 
 pub class-requires : goal.class-requires
 class-requires c = slice_get_within c.self.inside.classes.definitions c.implied.result (definition_of c.args.wanted) c.implied.ensures
@@ -14,4 +11,4 @@ class-requires c = slice_get_within c.self.inside.classes.definitions c.implied.
 pub returns : goal.returns
 returns c =
     rw (← c.self.view_is)
-    (c.class.ensures ∙ implied_is c.self.inside.classes.definitions (congruence c.self.inside.classes.definitions c.self.invariant.graph) c.implied.result c.args.wanted c.implied.ensures)
+    (c.class.ensures ∙ class_is_like c.self.inside.classes.definitions (congruence c.self.inside.classes.definitions c.self.invariant.graph) c.implied.result (definition_of c.args.wanted) c.implied.ensures)
