@@ -8,7 +8,8 @@ use Rattle.type_laws.specs.declared.definition.TypeDef.{TypeDef}
 use Rattle.type_laws.specs.declared.definition.TypeDef.TheVariants.{Int, Struct, Array, Hybrid, Void, Ref, Iref, FuncRef, StackRef, ThreadRef, Sig}
 use Rattle.type_laws.specs.Definition.{constructor, arguments}
 use Rattle.type_laws.specs.Same.{pairs, same, IsGraph}
-use Rattle.type_laws.specs.Parts.{parts, parts_at, leads, IsFinite}
+use Rattle.type_laws.specs.Parts.{parts, parts_at, leads}
+use Rattle.type_laws.specs.Laws.{IsFinite}
 use Rattle.type_laws.proofs.Depth.{same_meets, args_within}
 use Rattle.type_laws.proofs.Steady.{count, count_le, count_same}
 use Rattle.type_laws.proofs.Walks.{cut, or_left, or_right}

@@ -1,13 +1,15 @@
 -- The leaves of a type are those of its parts, and each is a scalar type.
-use Rattle.std.proofs.Common.{◌≡◌, ℕ, zero, suc, ◌<◌, Bool, true, false, List, [], ◌∷◌, length, Option, Some, None, slice_get, refl, sym, arith}
+use Rattle.std.proofs.Common.{◌≡◌, ℕ, zero, suc, ◌<◌, Bool, true, false, List, [], ◌∷◌, length, Option, Some, None, slice_get, refl, sym}
 use Rattle.std.specs.List.{All, list_any, flat_map}
 use Rattle.std.proofs.lemmas.Bool.{false≢true}
 use Rattle.std.proofs.lemmas.List.Elements.{All-nil, All-cons, All-head, All-tail, All-append, All-weaker}
 use Rattle.type_laws.specs.declared.definition.TypeDef.{TypeDef}
 use Rattle.type_laws.specs.declared.definition.TypeDef.TheVariants.{Int, Struct, Array, Hybrid, Void, Ref, Iref, FuncRef, StackRef, ThreadRef, Sig}
 use Rattle.type_laws.specs.Same.{IsGraph}
-use Rattle.type_laws.specs.Parts.{parts, parts_at, IsFinite}
-use Rattle.type_laws.specs.Leaves.{times, is_scalar, leaves_by, leaves_at, leaves_to, leaves}
+use Rattle.type_laws.specs.Parts.{parts, parts_at}
+use Rattle.type_laws.specs.Scalars.{is_scalar}
+use Rattle.type_laws.specs.Laws.{IsFinite}
+use Rattle.type_laws.specs.Leaves.{times, leaves_by, leaves_at, leaves_to, leaves}
 use Rattle.type_laws.proofs.Ranks.{at_same}
 use Rattle.type_laws.proofs.Respect.{front_all}
 use Rattle.type_laws.proofs.Descents.{goes, goes_ends, parts_within}

@@ -1,10 +1,11 @@
 -- To believe: what holds of the same type, of classes, of leaves and of walks in every graph; all but the laws of walks ask that its arguments are ids of it.
-use Rattle.std.specs.Prelude.{◌≡◌, ◌↔◌, ℕ, true, ◌<◌, ◌≤◌, List, length, map, slice_get}
+use Rattle.std.specs.Prelude.{◌≡◌, ◌↔◌, ℕ, true, false, ◌<◌, ◌≤◌, List, length, map, slice_get}
 use Rattle.std.specs.List.{All}
 use Rattle.type_laws.specs.declared.definition.TypeDef.{TypeDef}
 use Rattle.type_laws.specs.Same.{alike, same, agree_at}
 use Rattle.type_laws.specs.Class.{class_of}
-use Rattle.type_laws.specs.Leaves.{is_scalar, leaves, leaves_at}
+use Rattle.type_laws.specs.Scalars.{is_scalar}
+use Rattle.type_laws.specs.Leaves.{leaves, leaves_at}
 use Rattle.type_laws.specs.Parts.{leads, contains_itself}
 
 -- the same type is an equivalence
@@ -32,6 +33,10 @@ pub record ClassesDecide (graph : List TypeDef) : Type 0 where
 abbrev pub LeavesRespect : List TypeDef → Type 0
 LeavesRespect graph = (a b : ℕ) → a < length graph → b < length graph → same graph a b ≡ true →
     map (class_of graph) (leaves graph a) ≡ map (class_of graph) (leaves graph b)
+
+-- no type contains itself
+abbrev pub IsFinite : List TypeDef → Type 0
+IsFinite graph = (t : ℕ) → t < length graph → contains_itself graph t ≡ false
 
 -- the leaves of a type are by its definition those of its parts
 abbrev pub LeavesUnfold : List TypeDef → Type 0

@@ -1,18 +1,8 @@
 -- To believe: the leaves of a type: the scalar types in it, from left to right.
-use Rattle.std.specs.Prelude.{ℕ, zero, suc, Bool, true, false, List, [], ◌∷◌, ◌++◌, length, Option, Some, None, slice_get}
+use Rattle.std.specs.Prelude.{ℕ, zero, suc, List, [], ◌∷◌, ◌++◌, length, Option, Some, None, slice_get}
 use Rattle.std.specs.List.{flat_map}
 use Rattle.type_laws.specs.declared.definition.TypeDef.{TypeDef}
-use Rattle.type_laws.specs.declared.definition.TypeDef.TheVariants.{Int, Struct, Array, Hybrid, Void, Ref, Iref, FuncRef, StackRef, ThreadRef, Sig}
-
--- an int or a reference
-abbrev pub is_scalar : Option TypeDef → Bool
-is_scalar (Some (Int width)) = true
-is_scalar (Some (Ref t)) = true
-is_scalar (Some (Iref t)) = true
-is_scalar (Some (FuncRef s)) = true
-is_scalar (Some StackRef) = true
-is_scalar (Some ThreadRef) = true
-is_scalar _ = false
+use Rattle.type_laws.specs.declared.definition.TypeDef.TheVariants.{Struct, Array, Hybrid, Void, Sig}
 
 -- a list that many times over
 abbrev pub times : {X : Type 0} → ℕ → List X → List X

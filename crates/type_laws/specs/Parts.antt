@@ -1,5 +1,5 @@
 -- To believe: the parts of a type, and which types contain themselves. A reference has no part: what it leads to is elsewhere.
-use Rattle.std.specs.Prelude.{◌≡◌, ◌<◌, ℕ, zero, suc, Bool, false, ◌||◌, ◌==◌, List, [], ◌∷◌, ◌++◌, length, Option, Some, None, slice_get}
+use Rattle.std.specs.Prelude.{ℕ, zero, suc, Bool, false, ◌||◌, ◌==◌, List, [], ◌∷◌, ◌++◌, length, Option, Some, None, slice_get}
 use Rattle.std.specs.List.{list_any}
 use Rattle.type_laws.specs.declared.definition.TypeDef.{TypeDef}
 use Rattle.type_laws.specs.declared.definition.TypeDef.TheVariants.{Struct, Array, Hybrid}
@@ -23,6 +23,3 @@ leads graph (suc steps) b a = list_any (λ p. (p == b) || leads graph steps b p)
 -- a walk leads from the type back to it; one of more steps than there are types passes a type twice, and can be cut short
 abbrev pub contains_itself : List TypeDef → ℕ → Bool
 contains_itself graph t = leads graph (length graph) t t
-
-abbrev pub IsFinite : List TypeDef → Type 0
-IsFinite graph = (t : ℕ) → t < length graph → contains_itself graph t ≡ false

@@ -1,7 +1,6 @@
 // What holds of the same type, of classes and of leaves in every graph.
 ghost use Rattle.type_laws.specs.Same.{IsGraph};
-ghost use Rattle.type_laws.specs.Parts.{IsFinite};
-ghost use Rattle.type_laws.specs.Laws.{IsEquivalence, IsCongruence, IsSteady, ClassesDecide, LeavesRespect, ClassesDecideLeaves, LeavesUnfold, LeavesAreScalar, WalksAreCut, ReturnsAreFound};
+ghost use Rattle.type_laws.specs.Laws.{IsEquivalence, IsCongruence, IsSteady, ClassesDecide, LeavesRespect, ClassesDecideLeaves, IsFinite, LeavesUnfold, LeavesAreScalar, WalksAreCut, ReturnsAreFound};
 
 use super::definition::TypeDef;
 
