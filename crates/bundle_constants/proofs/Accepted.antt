@@ -10,7 +10,6 @@ use Rattle.demands.specs.declared.fault.Fault.TheVariants.{Memory, At}
 use Rattle.demands.specs.Demands.{Demands, ◌⨾◌, first_unmet, as_kind}
 use Rattle.demands.specs.Laws.{fault_as}
 use Rattle.demands.proofs.Meeting.{both_met, carried}
-use Rattle.mu_base.specs.Lists.{Roomy}
 use Rattle.ir_lex.specs.declared.name.Name.{Name}
 use Rattle.ir_tree.specs.declared.definitions.TypeForm.{TypeForm}
 use Rattle.ir_tree.specs.declared.definitions.TypeForm.TheVariants as written
@@ -32,7 +31,6 @@ use Rattle.bundle_names.specs.declared.globals.Globals.{Globals}
 use Rattle.bundle_names.specs.Globals.{globals_of}
 use Rattle.check_tables.specs.declared.fault.CheckKind.TheVariants.{Types, Const}
 use Rattle.check_tables.specs.declared.tables.Tables.{Tables}
-use Rattle.check_tables.specs.Bare.{ids}
 use Rattle.check_tables.specs.Lookups.{written_number, signature_number}
 use Rattle.bundle_tables.specs.Graph.{within, type_id, type_ids, signature_id, type_definition, types_of, signatures_of, graph_of, places_of, tested, type_demands}
 use Rattle.bundle_tables.specs.Entries.{tables_of}
@@ -153,7 +151,7 @@ all_signatures_low : (g : Globals) (is : List Item) (many : ℕ) → g.counts.wr
 all_signatures_low g [] many l = All-nil (IsBelow many)
 all_signatures_low g (items.Typedef d ∷ is) many l = all_signatures_low g is many l
 all_signatures_low g (items.Funcsig d ∷ is) many l =
-    All-cons (IsBelow many) (Sig (ids (type_ids g d.takes)) (ids (type_ids g d.gives))) (signatures_of g is)
+    All-cons (IsBelow many) (Sig (type_ids g d.takes) (type_ids g d.gives)) (signatures_of g is)
     (All-append (λ y. y < many) (type_ids g d.takes) (type_ids g d.gives) (types_low g d.takes many (omega arith)) (types_low g d.gives many (omega arith)))
     (all_signatures_low g is many l)
 all_signatures_low g (items.Const d ∷ is) many l = all_signatures_low g is many l
@@ -248,7 +246,7 @@ not_true : (b : Bool) → not b ≡ true → b ≡ false
 not_true true h = absurd (false≢true h)
 not_true false h = refl
 
-finite : (w : List TypeDef) (places : List (Roomy ℕ)) → TestsMet (passes (complete w) places (length w)) → NoneEndless (complete w)
+finite : (w : List TypeDef) (places : List (List ℕ)) → TestsMet (passes (complete w) places (length w)) → NoneEndless (complete w)
 finite w places met = record { each = λ t l. elim (cases_lt t (length w)) [ inl m ↦ tested_finite t m | inr m ↦ implied_finite t m ] }
   where
     endless : TestsMet (each (endless_type (complete w) places) (length w) 0)
@@ -281,7 +279,7 @@ width_is : (d : TypeDef) (w : ℕ) → width_of (Some d) ≡ Some w → d ≡ In
 width_is (Int v) w e = let same : v ≡ w = cc in ap Int same
 width_is d w e = cc
 
-widths : (w : List TypeDef) (places : List (Roomy ℕ)) → TestsMet (passes (complete w) places (length w)) → (t v : ℕ) → width_of (slice_get (complete w) t) ≡ Some v → (1 ≤ v) × (v ≤ 64)
+widths : (w : List TypeDef) (places : List (List ℕ)) → TestsMet (passes (complete w) places (length w)) → (t v : ℕ) → width_of (slice_get (complete w) t) ≡ Some v → (1 ≤ v) × (v ≤ 64)
 widths w places met t v h = go (slice_get (complete w) t) refl h
   where
     arguments_met : TestsMet (each (wrong_arguments (complete w) places) (length w) 0)

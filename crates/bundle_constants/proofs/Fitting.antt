@@ -73,9 +73,9 @@ all_one P t p = All-cons P t [] p (All-nil P)
 
 all_leaves : (P : ℕ → Type 0) (of : ℕ → List ℕ) (t : ℕ) (d : TypeDef) → P t → All (λ x. All P (of x)) (parts d) → All P (leaves_by of t d)
 all_leaves P of t (Int w) p a = all_one P t p
-all_leaves P of t (Struct fields) p a = all_flat P of fields.members a
+all_leaves P of t (Struct fields) p a = all_flat P of fields a
 all_leaves P of t (Array element size) p a = all_times P size (of element) (All-head (λ x. All P (of x)) element [] a)
-all_leaves P of t (Hybrid fixed element) p a = all_flat P of fixed.members (front_all (λ x. All P (of x)) fixed.members element a)
+all_leaves P of t (Hybrid fixed element) p a = all_flat P of fixed (front_all (λ x. All P (of x)) fixed element a)
 all_leaves P of t Void p a = All-nil P
 all_leaves P of t (Ref x) p a = all_one P t p
 all_leaves P of t (Iref x) p a = all_one P t p
@@ -156,7 +156,7 @@ fits_members : (g : List TypeDef) (V : ℕ → List Scalar) (t : ℕ) (d : Optio
     ((k : ℕ) → k < length ms → FitsLeaves g (leaves g (member_type d k)) (V (slice_index ms k))) → FitsLeaves g (leaves_at (leaves g) t d) (flat_map V ms)
 fits_members g V t None ms c f = absurd (false≢true c)
 fits_members g V t (Some (Int width)) ms c f = absurd (false≢true c)
-fits_members g V t (Some (Struct fields)) ms c f = fits_fields g V fields.members ms (eqb-true (length fields.members) (length ms) c) f
+fits_members g V t (Some (Struct fields)) ms c f = fits_fields g V fields ms (eqb-true (length fields) (length ms) c) f
 fits_members g V t (Some (Array element size)) ms c f = fits_elements g V element size ms (eqb-true size (length ms) c) f
 fits_members g V t (Some (Hybrid fixed element)) ms c f = absurd (false≢true c)
 fits_members g V t (Some Void) ms c f = absurd (false≢true c)
@@ -226,18 +226,18 @@ fits_kind g cs law V t place (literals.Number negative magnitude) h f =
     fits_number g V t (slice_get g t) negative magnitude w.0 refl w.1 w.2
 fits_kind g cs law V t place literals.Null h f = fits_null g t (slice_get g t) refl (met_is (is_reference (slice_get g t)) (At NotNullable place) h)
 fits_kind g cs law V t place (literals.Members members places) h f =
-    let many = length members.members in
+    let many = length members in
     let counted = is_count (member_count (slice_get g t)) many in
-    let both = both_met (if counted then None else Some (At WrongShape place)) (first_unmet (member_demands g (types_of cs) (slice_get g t) members.members places.members many 0)) h in
+    let both = both_met (if counted then None else Some (At WrongShape place)) (first_unmet (member_demands g (types_of cs) (slice_get g t) members places many 0)) h in
     let count : counted ≡ true = met_is counted (At WrongShape place) both.0 in
-    fits_members g V t (slice_get g t) members.members count (λ k l.
+    fits_members g V t (slice_get g t) members count (λ k l.
     let index : 0 + k ≡ k = omega arith in
-    let alike : same g (slice_index (types_of cs) (slice_index members.members k)) (member_type (slice_get g t) k) ≡ true =
-    subst (λ (n : ℕ). same g (slice_index (types_of cs) (slice_index members.members n)) (member_type (slice_get g t) n) ≡ true) index
-    (members_met g (types_of cs) (slice_get g t) members.members places.members many 0 k both.1 l) in
+    let alike : same g (slice_index (types_of cs) (slice_index members k)) (member_type (slice_get g t) k) ≡ true =
+    subst (λ (n : ℕ). same g (slice_index (types_of cs) (slice_index members n)) (member_type (slice_get g t) n) ≡ true) index
+    (members_met g (types_of cs) (slice_get g t) members places many 0 k both.1 l) in
     let low : member_type (slice_get g t) k < length g = member_all (λ p. p < length g) (slice_get g t) many k count l (parts_within g law.graph t) in
-    type_same g law.graph (slice_index (types_of cs) (slice_index members.members k)) (member_type (slice_get g t) k) (type_low g cs law (slice_index members.members k)) low alike
-    (V (slice_index members.members k)) (f k l))
+    type_same g law.graph (slice_index (types_of cs) (slice_index members k)) (member_type (slice_get g t) k) (type_low g cs law (slice_index members k)) low alike
+    (V (slice_index members k)) (f k l))
 
 fits_to : (g : List TypeDef) (cs : List Constant) → Lawful g cs → (d n : ℕ) (c : Constant) → slice_get cs n ≡ Some c → goes g d c.of_type ≡ false → FitsLeaves g (leaves g c.of_type) (value_of g cs n)
 unfolding goes

@@ -80,7 +80,7 @@ any_at h (x ∷ xs) (suc k) l e = or_right (h x) (list_any h xs) (any_at h xs k 
 member_any : (d : Option TypeDef) (n k : ℕ) → is_count (member_count d) n ≡ true → k < n → (h : ℕ → Bool) → h (member_type d k) ≡ true → list_any h (parts_at d) ≡ true
 member_any None n k c l h e = absurd (false≢true c)
 member_any (Some (Int width)) n k c l h e = absurd (false≢true c)
-member_any (Some (Struct fields)) n k c l h e = let m : length fields.members ≡ n = eqb-true (length fields.members) n c in any_at h fields.members k (omega arith) e
+member_any (Some (Struct fields)) n k c l h e = let m : length fields ≡ n = eqb-true (length fields) n c in any_at h fields k (omega arith) e
 member_any (Some (Array element size)) n k c l h e = or_left (h element) false e
 member_any (Some (Hybrid fixed element)) n k c l h e = absurd (false≢true c)
 member_any (Some Void) n k c l h e = absurd (false≢true c)
@@ -94,7 +94,7 @@ member_any (Some (Sig takes gives)) n k c l h e = absurd (false≢true c)
 pub member_all : (P : ℕ → Type 0) (d : Option TypeDef) (n k : ℕ) → is_count (member_count d) n ≡ true → k < n → All P (parts_at d) → P (member_type d k)
 member_all P None n k c l a = absurd (false≢true c)
 member_all P (Some (Int width)) n k c l a = absurd (false≢true c)
-member_all P (Some (Struct fields)) n k c l a = let m : length fields.members ≡ n = eqb-true (length fields.members) n c in a k 0 (omega arith)
+member_all P (Some (Struct fields)) n k c l a = let m : length fields ≡ n = eqb-true (length fields) n c in a k 0 (omega arith)
 member_all P (Some (Array element size)) n k c l a = All-head P element [] a
 member_all P (Some (Hybrid fixed element)) n k c l a = absurd (false≢true c)
 member_all P (Some Void) n k c l a = absurd (false≢true c)
@@ -112,17 +112,17 @@ unfolding goes
 kind_goes g cs law t place (literals.Number negative magnitude) h d k l e = absurd (omega arith)
 kind_goes g cs law t place literals.Null h d k l e = absurd (omega arith)
 kind_goes g cs law t place (literals.Members members places) h d k l e =
-    let many = length members.members in
+    let many = length members in
     let counted = is_count (member_count (slice_get g t)) many in
-    let both = both_met (if counted then None else Some (At WrongShape place)) (first_unmet (member_demands g (types_of cs) (slice_get g t) members.members places.members many 0)) h in
+    let both = both_met (if counted then None else Some (At WrongShape place)) (first_unmet (member_demands g (types_of cs) (slice_get g t) members places many 0)) h in
     let count : counted ≡ true = met_is counted (At WrongShape place) both.0 in
     let index : 0 + k ≡ k = omega arith in
-    let alike : same g (slice_index (types_of cs) (slice_index members.members k)) (member_type (slice_get g t) k) ≡ true =
-    subst (λ (n : ℕ). same g (slice_index (types_of cs) (slice_index members.members n)) (member_type (slice_get g t) n) ≡ true) index
-    (members_met g (types_of cs) (slice_get g t) members.members places.members many 0 k both.1 l) in
+    let alike : same g (slice_index (types_of cs) (slice_index members k)) (member_type (slice_get g t) k) ≡ true =
+    subst (λ (n : ℕ). same g (slice_index (types_of cs) (slice_index members n)) (member_type (slice_get g t) n) ≡ true) index
+    (members_met g (types_of cs) (slice_get g t) members places many 0 k both.1 l) in
     let low : member_type (slice_get g t) k < length g = member_all (λ p. p < length g) (slice_get g t) many k count l (parts_within g law.graph t) in
     let on : goes g d (member_type (slice_get g t) k) ≡ true =
-    sym (goes_same g law.graph d (slice_index (types_of cs) (slice_index members.members k)) (member_type (slice_get g t) k) (type_low g cs law (slice_index members.members k)) low alike) ∙ e in
+    sym (goes_same g law.graph d (slice_index (types_of cs) (slice_index members k)) (member_type (slice_get g t) k) (type_low g cs law (slice_index members k)) low alike) ∙ e in
     member_any (slice_get g t) many k count l (λ p. goes g d p) on
 
 -- ---- values do not change past the depth that is the number of types
@@ -134,7 +134,7 @@ flat_same of to (x ∷ xs) a = rw (All-head (λ m. of m ≡ to m) x xs a, flat_s
 pub value_same : (of to : ℕ → List Scalar) (d : Option TypeDef) (kind : LiteralKind) → All (λ m. of m ≡ to m) (members_of kind) → kind_value of d kind ≡ kind_value to d kind
 value_same of to d (literals.Number negative magnitude) a = refl
 value_same of to d literals.Null a = refl
-value_same of to d (literals.Members members places) a = flat_same of to members.members a
+value_same of to d (literals.Members members places) a = flat_same of to members a
 
 pub told_at : (g : List TypeDef) (of : ℕ → List Scalar) (cs : List Constant) (n : ℕ) (c : Constant) → slice_get cs n ≡ Some c → told (values_by g cs of) n ≡ constant_value g of c.of_type c.literal
 told_at g of [] n c e = cc

@@ -18,11 +18,9 @@ use Rattle.mu_values.specs.declared.literals.LiteralKind.{LiteralKind}
 use Rattle.mu_values.specs.declared.literals.LiteralKind.TheVariants as literals
 use Rattle.mu_values.specs.declared.literals.ConstKind.TheVariants.{OutOfWidth}
 use Rattle.mu_values.specs.Constants.{width_of, fits, number_demands, kind_value, constant_value, kind_demands, value_at, HasMembers, FitsWidth}
-use Rattle.check_tables.specs.Bare.{bare}
-use Rattle.bundle_tables.specs.Literals.{bare_kind, bare_literal}
 use Rattle.bundle_constants.specs.declared.constants.Constant.{Constant}
 use Rattle.bundle_constants.specs.declared.making.Making.{Making}
-use Rattle.bundle_constants.specs.Members.{types_of, bare_constant, members_of, is_made, is_ready, is_ready_at, value_by, value_of, Lawful, IsMaking, AreLeft}
+use Rattle.bundle_constants.specs.Members.{types_of, members_of, is_made, is_ready, is_ready_at, value_by, value_of, Lawful, IsMaking, AreLeft}
 use Rattle.bundle_constants.proofs.Members.{none_stuck, constant_at, not_ready, kind_low, holds_at, value_same, settled_at, met_is}
 
 -- ---- one pass, where so many were left: those that are still to be looked at, and those that are kept
@@ -208,38 +206,6 @@ pub is_empty : (xs : List ℕ) → (0 < length xs → ⊥) → xs ≡ []
 is_empty [] h = refl
 is_empty (x ∷ xs) h = absurd (h (omega arith))
 
--- ---- room
-
-width_bare : (o : Option TypeDef) → width_of (option_map bare o) ≡ width_of o
-width_bare None = refl
-width_bare (Some (Int width)) = refl
-width_bare (Some (Struct fields)) = refl
-width_bare (Some (Array element size)) = refl
-width_bare (Some (Hybrid fixed element)) = refl
-width_bare (Some Void) = refl
-width_bare (Some (Ref t)) = refl
-width_bare (Some (Iref t)) = refl
-width_bare (Some (FuncRef s)) = refl
-width_bare (Some StackRef) = refl
-width_bare (Some ThreadRef) = refl
-width_bare (Some (Sig takes gives)) = refl
-
-pub width_at_bare : (g : List TypeDef) (t : ℕ) → width_of (slice_get (map bare g) t) ≡ width_of (slice_get g t)
-width_at_bare g t = ap width_of (slice_get-map bare g t) ∙ width_bare (slice_get g t)
-
-kind_bare : (of : ℕ → List Scalar) (d e : Option TypeDef) (kind : LiteralKind) → width_of d ≡ width_of e → kind_value of d (bare_kind kind) ≡ kind_value of e kind
-kind_bare of d e (literals.Number negative magnitude) h = rw h refl
-kind_bare of d e literals.Null h = refl
-kind_bare of d e (literals.Members members places) h = refl
-
-pub value_bare : (g : List TypeDef) (of : ℕ → List Scalar) (t : ℕ) (l : Literal) → constant_value g of t l ≡ constant_value (map bare g) of t (bare_literal l)
-value_bare g of t l = sym (kind_bare of (slice_get (map bare g) t) (slice_get g t) l.kind (width_at_bare g t))
-
-pub members_bare : (kind : LiteralKind) → members_of (bare_kind kind) ≡ members_of kind
-members_bare (literals.Number negative magnitude) = refl
-members_bare literals.Null = refl
-members_bare (literals.Members members places) = refl
-
 -- ---- numbers fit the widths of their types
 
 fits_low : (negative : Bool) (magnitude w : ℕ) → 1 ≤ w → fits negative magnitude w ≡ true → magnitude < 2 ^ w
@@ -262,25 +228,11 @@ kind_fits g types d place (literals.Number negative magnitude) widths h = number
 kind_fits g types d place literals.Null widths h = tt
 kind_fits g types d place (literals.Members members places) widths h = tt
 
-fits_bare : (o p : Option ℕ) (kind : LiteralKind) → o ≡ p → FitsWidth o (bare_kind kind) → FitsWidth p kind
-fits_bare o p (literals.Number negative magnitude) e h = subst (λ (q : Option ℕ). FitsWidth q (literals.Number negative magnitude)) e h
-fits_bare o p literals.Null e h = tt
-fits_bare o p (literals.Members members places) e h = tt
+pub literal_fits : (g : List TypeDef) (cs : List Constant) → Lawful g cs → (n : ℕ) (c : Constant) → slice_get cs n ≡ Some c → FitsWidth (width_of (slice_get g c.of_type)) c.literal.kind
+literal_fits g cs law n c e = kind_fits g (types_of cs) (slice_get g c.of_type) c.literal.place c.literal.kind (law.widths c.of_type) (law.judged n c e)
 
-pub constant_there : (cs : List Constant) (n : ℕ) (c : Constant) → slice_get cs n ≡ Some c → slice_get (map bare_constant cs) n ≡ Some (bare_constant c)
-constant_there cs n c e = slice_get-map bare_constant cs n ∙ ap (λ (o : Option Constant). option_map bare_constant o) e
+pub type_fits : (g : List TypeDef) (cs : List Constant) → Lawful g cs → (n : ℕ) (c : Constant) → slice_get cs n ≡ Some c → c.of_type < length g
+type_fits g cs law n c e = holds_at (λ (d : Constant). d.of_type < length g) cs n c law.typed e
 
-pub literal_fits : (g : List TypeDef) (cs : List Constant) → Lawful (map bare g) (map bare_constant cs) → (n : ℕ) (c : Constant) → slice_get cs n ≡ Some c → FitsWidth (width_of (slice_get g c.of_type)) c.literal.kind
-literal_fits g cs law n c e =
-    fits_bare (width_of (slice_get (map bare g) c.of_type)) (width_of (slice_get g c.of_type)) c.literal.kind (width_at_bare g c.of_type)
-    (kind_fits (map bare g) (types_of (map bare_constant cs)) (slice_get (map bare g) c.of_type) c.literal.place (bare_kind c.literal.kind) (law.widths c.of_type)
-    (law.judged n (bare_constant c) (constant_there cs n c e)))
-
-pub type_fits : (g : List TypeDef) (cs : List Constant) → Lawful (map bare g) (map bare_constant cs) → (n : ℕ) (c : Constant) → slice_get cs n ≡ Some c → c.of_type < length g
-type_fits g cs law n c e =
-    subst (λ (m : ℕ). c.of_type < m) (length-map g bare)
-    (holds_at (λ (d : Constant). d.of_type < length (map bare g)) (map bare_constant cs) n (bare_constant c) law.typed (constant_there cs n c e))
-
-pub value_is : (g : List TypeDef) (cs : List Constant) (of : ℕ → List Scalar) (n : ℕ) (c : Constant) → slice_get cs n ≡ Some c →
-    constant_value g of c.of_type c.literal ≡ value_by (map bare g) of (slice_get (map bare_constant cs) n)
-value_is g cs of n c e = value_bare g of c.of_type c.literal ∙ sym (ap (λ (o : Option Constant). value_by (map bare g) of o) (constant_there cs n c e))
+pub value_is : (g : List TypeDef) (cs : List Constant) (of : ℕ → List Scalar) (n : ℕ) (c : Constant) → slice_get cs n ≡ Some c → constant_value g of c.of_type c.literal ≡ value_by g of (slice_get cs n)
+value_is g cs of n c e = sym (ap (λ (o : Option Constant). value_by g of o) e)

@@ -13,12 +13,8 @@ use Rattle.bundle_constants.specs.Values.{values_to}
 -- the constants in text order, each by the number of its type and by what it is written as
 abbrev pub constants_of : Globals → List Item → List Constant
 constants_of g [] = []
-constants_of g (items.Typedef d ∷ is) = constants_of g is
-constants_of g (items.Funcsig d ∷ is) = constants_of g is
 constants_of g (items.Const d ∷ is) = record { of_type = type_id g d.of_type; literal = literal_of g d.literal } ∷ constants_of g is
-constants_of g (items.GlobalCell d ∷ is) = constants_of g is
-constants_of g (items.Funcdecl d ∷ is) = constants_of g is
-constants_of g (items.Funcdef d ∷ is) = constants_of g is
+constants_of g (_ ∷ is) = constants_of g is
 
 -- the values of all constants in text order. Where no type contains itself, no member stands deeper than the number of types
 abbrev pub constant_values : Tables → List Item → List (List Scalar)

@@ -1,6 +1,5 @@
 -- Worked examples, to read beside the definitions.
 use Rattle.std.specs.Prelude.{◌≡◌, refl, ℕ, ◌<◌, ◌^◌, true, false, List, [], ◌∷◌, Some}
-use Rattle.mu_base.specs.Lists.{Roomy}
 use Rattle.type_laws.specs.declared.definition.TypeDef.{TypeDef}
 use Rattle.type_laws.specs.declared.definition.TypeDef.TheVariants.{Struct, Array, Ref}
 use Rattle.type_laws.specs.declared.definition.TypeDef.TheVariants as types
@@ -12,12 +11,9 @@ use Rattle.bundle_constants.specs.declared.constants.Constant.{Constant}
 use Rattle.bundle_constants.specs.Values.{told, values_to}
 use Rattle.bundle_constants.specs.Fits.{FitsLeaf, FitsLeaves}
 
-abbrev ids : List ℕ → Roomy ℕ
-ids members = record { members = members; spare = 0 }
-
 -- int<8>; a reference to it; a struct of an int<8> and a reference; an array of two such structs
 abbrev graph : List TypeDef
-graph = types.Int 8 ∷ Ref 0 ∷ Struct (ids (0 ∷ 1 ∷ [])) ∷ Array 2 2 ∷ []
+graph = types.Int 8 ∷ Ref 0 ∷ Struct (0 ∷ 1 ∷ []) ∷ Array 2 2 ∷ []
 
 abbrev constant : ℕ → LiteralKind → Constant
 constant t kind = record { of_type = t; literal = record { place = 0; kind = kind } }
@@ -25,11 +21,11 @@ constant t kind = record { of_type = t; literal = record { place = 0; kind = kin
 -- an array of constants 1 and 4; a struct of constants 2 and 3; 7; NULL; a struct of constants 5 and 3; -1
 abbrev constants : List Constant
 constants =
-    constant 3 (Members (ids (1 ∷ 4 ∷ [])) (ids (0 ∷ 0 ∷ [])))
-    ∷ constant 2 (Members (ids (2 ∷ 3 ∷ [])) (ids (0 ∷ 0 ∷ [])))
+    constant 3 (Members (1 ∷ 4 ∷ []) (0 ∷ 0 ∷ []))
+    ∷ constant 2 (Members (2 ∷ 3 ∷ []) (0 ∷ 0 ∷ []))
     ∷ constant 0 (Number false 7)
     ∷ constant 1 NullLiteral
-    ∷ constant 2 (Members (ids (5 ∷ 3 ∷ [])) (ids (0 ∷ 0 ∷ [])))
+    ∷ constant 2 (Members (5 ∷ 3 ∷ []) (0 ∷ 0 ∷ []))
     ∷ constant 0 (Number true 1)
     ∷ []
 

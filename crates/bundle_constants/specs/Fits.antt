@@ -1,44 +1,29 @@
 -- To believe: what scalars the value of a constant has at the leaves of its type.
 use Rattle.std.specs.Prelude.{◌≡◌, ℕ, ◌<◌, ◌^◌, List, [], ◌∷◌, Option, Some, None, slice_get}
 use Rattle.type_laws.specs.declared.definition.TypeDef.{TypeDef}
-use Rattle.type_laws.specs.declared.definition.TypeDef.TheVariants.{Struct, Array, Hybrid, Void, Ref, Iref, FuncRef, StackRef, ThreadRef, Sig}
+use Rattle.type_laws.specs.declared.definition.TypeDef.TheVariants.{Ref, Iref, FuncRef, StackRef, ThreadRef}
 use Rattle.type_laws.specs.declared.definition.TypeDef.TheVariants as types
 use Rattle.mu_values.specs.declared.scalars.Scalar.{Scalar}
-use Rattle.mu_values.specs.declared.scalars.Scalar.TheVariants.{Int, Null, Object, Place, Func, Stack, Thread}
+use Rattle.mu_values.specs.declared.scalars.Scalar.TheVariants.{Int, Null}
 
 -- an integer of that width
 abbrev pub IsOfWidth : ℕ → Scalar → Type 0
 IsOfWidth width (Int w bits) = (w ≡ width) × (bits < 2 ^ width)
-IsOfWidth width Null = ⊥
-IsOfWidth width (Object n) = ⊥
-IsOfWidth width (Place object at) = ⊥
-IsOfWidth width (Func n) = ⊥
-IsOfWidth width (Stack n) = ⊥
-IsOfWidth width (Thread n) = ⊥
+IsOfWidth width _ = ⊥
 
 abbrev pub IsNull : Scalar → Type 0
-IsNull (Int w bits) = ⊥
 IsNull Null = Unit {0}
-IsNull (Object n) = ⊥
-IsNull (Place object at) = ⊥
-IsNull (Func n) = ⊥
-IsNull (Stack n) = ⊥
-IsNull (Thread n) = ⊥
+IsNull _ = ⊥
 
 -- at a leaf with this definition: an int has an integer of its width, a reference has NULL; nothing else is a leaf
 abbrev pub FitsLeaf : Option TypeDef → Scalar → Type 0
 FitsLeaf (Some (types.Int width)) s = IsOfWidth width s
-FitsLeaf (Some (Struct fields)) s = ⊥
-FitsLeaf (Some (Array element size)) s = ⊥
-FitsLeaf (Some (Hybrid fixed element)) s = ⊥
-FitsLeaf (Some Void) s = ⊥
 FitsLeaf (Some (Ref t)) s = IsNull s
 FitsLeaf (Some (Iref t)) s = IsNull s
 FitsLeaf (Some (FuncRef r)) s = IsNull s
 FitsLeaf (Some StackRef) s = IsNull s
 FitsLeaf (Some ThreadRef) s = IsNull s
-FitsLeaf (Some (Sig takes gives)) s = ⊥
-FitsLeaf None s = ⊥
+FitsLeaf _ s = ⊥
 
 -- as many scalars as leaves, each of which fits its leaf
 abbrev pub FitsLeaves : List TypeDef → List ℕ → List Scalar → Type 0

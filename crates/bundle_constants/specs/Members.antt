@@ -9,17 +9,12 @@ use Rattle.mu_values.specs.declared.scalars.Scalar.{Scalar}
 use Rattle.mu_values.specs.declared.literals.LiteralKind.{LiteralKind}
 use Rattle.mu_values.specs.declared.literals.LiteralKind.TheVariants as literals
 use Rattle.mu_values.specs.Constants.{width_of, constant_demands, constant_value, value_at, HasMembers}
-use Rattle.bundle_tables.specs.Literals.{bare_literal}
 use Rattle.bundle_constants.specs.declared.constants.Constant.{Constant}
 use Rattle.bundle_constants.specs.declared.making.Making.{Making}
 use Rattle.bundle_constants.specs.Values.{told, values_to}
 
 abbrev pub types_of : List Constant → List ℕ
 types_of cs = map (λ (c : Constant). c.of_type) cs
-
--- a constant whose lists have no room
-abbrev pub bare_constant : Constant → Constant
-bare_constant c = record { of_type = c.of_type; literal = bare_literal c.literal }
 
 -- no type contains itself
 pub record NoneEndless (g : List TypeDef) : Type 0 where
@@ -36,9 +31,8 @@ pub record Lawful (g : List TypeDef) (cs : List Constant) : Type 0 where
   pub judged : (n : ℕ) (c : Constant) → slice_get cs n ≡ Some c → first_unmet (constant_demands g (types_of cs) c.of_type c.literal) ≡ None
 
 abbrev pub members_of : LiteralKind → List ℕ
-members_of (literals.Number negative magnitude) = []
-members_of literals.Null = []
-members_of (literals.Members members places) = members.members
+members_of (literals.Members members places) = members
+members_of _ = []
 
 -- whether constant n is made
 abbrev pub is_made : List Bool → ℕ → Bool

@@ -4,7 +4,6 @@ ghost use Rattle.ir_tree.specs.declared.items.Item.{Item};
 ghost use Rattle.bundle_tables.specs.Graph.{type_id};
 ghost use Rattle.bundle_tables.specs.Rules.{literal_of};
 ghost use Rattle.bundle_constants.specs.Bundle.{constants_of};
-ghost use Rattle.bundle_constants.specs.Members.{bare_constant};
 
 use bundle_names::Globals;
 use bundle_tables::{literal, type_id};
@@ -21,7 +20,7 @@ pub struct Constant {
 }
 
 fn numbered(alloc: Global, globals: &Globals, item: &Const) -> Result<Constant, AllocError>
-    ensures { IfOk result (λ made. bare_constant made ≡ record { of_type = type_id globals.now item.now.of_type; literal = literal_of globals.now item.now.literal }) }
+    ensures { IfOk result (λ made. made ≡ record { of_type = type_id globals.now item.now.of_type; literal = literal_of globals.now item.now.literal }) }
 {
     Ok(Constant {
         of_type: type_id(globals, &item.of_type)?,
@@ -35,7 +34,7 @@ pub(crate) fn constants(
     globals: &Globals,
     items: &[Item],
 ) -> Result<Listing<Constant>, AllocError>
-    ensures { IfOk result (λ all. map bare_constant all ≡ constants_of globals.now items.now) }
+    ensures { IfOk result (λ all. all ≡ constants_of globals.now items.now) }
 {
     let mut all = Listing::new(alloc);
     let mut left = items;

@@ -2,8 +2,7 @@
 ghost use Rattle.std.specs.Prelude.{◌≡◌, ℕ, ◌<◌, ◌≤◌, true, false, length, map, set, slice_get, vec_len, IfOk, OnOk};
 ghost use Rattle.std.specs.List.{All, Contains, list_all};
 ghost use Rattle.mu_values.specs.Constants.{value_at};
-ghost use Rattle.check_tables.specs.Bare.{bare};
-ghost use Rattle.bundle_constants.specs.Members.{bare_constant, is_made, is_ready, is_ready_at, value_by, value_of, Lawful, IsMaking, AreLeft};
+ghost use Rattle.bundle_constants.specs.Members.{is_made, is_ready, is_ready_at, value_by, value_of, Lawful, IsMaking, AreLeft};
 
 use crate::constants::Constant;
 use mu_types::Classes;
@@ -42,7 +41,7 @@ fn is_literal_ready(done: &[bool], kind: &LiteralKind) -> bool
 /// Whether all members of constant `n` are made.
 fn is_constant_ready(constants: &[Constant], done: &[bool], n: u32) -> bool
     requires { n < length constants.now }
-    ensures { result ≡ is_ready_at done.now (slice_get (map bare_constant constants.now) n) }
+    ensures { result ≡ is_ready_at done.now (slice_get constants.now n) }
 {
     is_literal_ready(done, &constants[n as usize].literal.kind)
 }
@@ -54,9 +53,9 @@ fn value(
     n: u32,
     made: &Made,
 ) -> Result<Value, AllocError>
-    requires lawful { Lawful (map bare classes.now.definitions) (map bare_constant constants.now) }
+    requires lawful { Lawful classes.now.definitions constants.now }
     requires n { n < length constants.now }
-    ensures { IfOk result (λ v. v.members ≡ value_by (map bare classes.now.definitions) (value_at made.now) (slice_get (map bare_constant constants.now) n)) }
+    ensures { IfOk result (λ v. v.members ≡ value_by classes.now.definitions (value_at made.now) (slice_get constants.now n)) }
 {
     let constant = &constants[n as usize];
     make_const(alloc, classes, constant.of_type, &constant.literal, made)
@@ -70,11 +69,11 @@ fn make(
     n: u32,
     making: &mut Making,
 ) -> Result<(), AllocError>
-    requires lawful { Lawful (map bare classes.now.definitions) (map bare_constant constants.now) }
+    requires lawful { Lawful classes.now.definitions constants.now }
     requires n { n < length constants.now }
-    requires making { IsMaking (map bare classes.now.definitions) (map bare_constant constants.now) making.old }
-    requires ready { is_ready_at making.old.done.items (slice_get (map bare_constant constants.now) n) ≡ true }
-    ensures making { OnOk result (IsMaking (map bare classes.now.definitions) (map bare_constant constants.now) making.new) }
+    requires making { IsMaking classes.now.definitions constants.now making.old }
+    requires ready { is_ready_at making.old.done.items (slice_get constants.now n) ≡ true }
+    ensures making { OnOk result (IsMaking classes.now.definitions constants.now making.new) }
     ensures done { OnOk result (making.new.done.items ≡ set making.old.done.items n true) }
 {
     let value = value(alloc, classes, constants, n, &making.made)?;
@@ -92,10 +91,10 @@ fn pass(
     left: Vec<u32>,
     making: &mut Making,
 ) -> Result<Vec<u32>, AllocError>
-    requires lawful { Lawful (map bare classes.now.definitions) (map bare_constant constants.now) }
-    requires making { IsMaking (map bare classes.now.definitions) (map bare_constant constants.now) making.old }
+    requires lawful { Lawful classes.now.definitions constants.now }
+    requires making { IsMaking classes.now.definitions constants.now making.old }
     requires left { AreLeft (length constants.now) making.old.done.items left.items }
-    ensures making { OnOk result (IsMaking (map bare classes.now.definitions) (map bare_constant constants.now) making.new) }
+    ensures making { OnOk result (IsMaking classes.now.definitions constants.now making.new) }
     ensures left { IfOk result (λ kept. AreLeft (length constants.now) making.new.done.items kept.items) }
     ensures fewer { IfOk result (λ kept. 0 < vec_len left → vec_len kept < vec_len left) }
 {
@@ -142,9 +141,9 @@ pub(crate) fn make_all(
     constants: &[Constant],
     many: u32,
 ) -> Result<Made, AllocError>
-    requires lawful { Lawful (map bare classes.now.definitions) (map bare_constant constants.now) }
+    requires lawful { Lawful classes.now.definitions constants.now }
     requires many { many ≡ length constants.now }
-    ensures { IfOk result (λ made. (n : ℕ) → n < many → value_at made n ≡ value_of (map bare classes.now.definitions) (map bare_constant constants.now) n) }
+    ensures { IfOk result (λ made. (n : ℕ) → n < many → value_at made n ≡ value_of classes.now.definitions constants.now n) }
 {
     let mut left = numbers(alloc, many)?;
     let mut making = Making {

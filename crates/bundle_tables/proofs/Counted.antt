@@ -1,6 +1,6 @@
 -- The counts of names are the numbers of items.
 use Rattle.std.proofs.Common.{◌≡◌, ℕ, ◌+◌, ◌≤◌, List, [], ◌∷◌, ◌++◌, length, map, sym, ◌∙◌, ap, arith, rules}
-use Rattle.std.proofs.lemmas.List.{length-map, length-append}
+use Rattle.std.proofs.lemmas.List.{length-append}
 use Rattle.ir_tree.specs.declared.items.Item.{Item}
 use Rattle.ir_tree.specs.declared.items.Item.TheVariants as items
 use Rattle.type_laws.specs.declared.definition.TypeDef.{TypeDef}
@@ -10,7 +10,6 @@ use Rattle.mu_types.specs.Graph.{Table}
 use Rattle.mu_types.specs.Implied.{complete, references_from}
 use Rattle.bundle_names.specs.declared.globals.Globals.{Globals}
 use Rattle.bundle_names.specs.Globals.{with_item, with_items, no_globals, globals_of}
-use Rattle.check_tables.specs.Bare.{bare}
 use Rattle.bundle_tables.specs.Graph.{types_of, signatures_of, graph_of, table_of}
 use Rattle.bundle_tables.specs.Rules.{constant_types}
 use Rattle.bundle_tables.specs.Inner.{AllBelow}
@@ -69,9 +68,9 @@ written_within g is p f e =
     let same : length p.definitions ≡ length (complete (graph_of g is)) = ap (λ (q : Table). length q.definitions) f in
     omega (arith, same, graph_counted g is e, complete_longer (graph_of g is))
 
-pub is_graph : (g : Globals) (is : List Item) (ds : List TypeDef) → g ≡ globals_of is → map bare ds ≡ graph_of g is → AllBelow (g.counts.written + g.counts.signatures) ds → IsGraph ds
+pub is_graph : (g : Globals) (is : List Item) (ds : List TypeDef) → g ≡ globals_of is → ds ≡ graph_of g is → AllBelow (g.counts.written + g.counts.signatures) ds → IsGraph ds
 is_graph g is ds e same below =
-    let count : g.counts.written + g.counts.signatures ≡ length ds = graph_counted g is e ∙ ap (λ (l : List TypeDef). length l) (sym same) ∙ length-map ds bare in
+    let count : g.counts.written + g.counts.signatures ≡ length ds = graph_counted g is e ∙ ap (λ (l : List TypeDef). length l) (sym same) in
     rw count at below
 
 pub none_below : (many : ℕ) (ds : List TypeDef) → ds ≡ [] → AllBelow many ds

@@ -1,4 +1,3 @@
 pub mod Counted
 pub mod Faults
 pub mod Literals
-pub mod Room

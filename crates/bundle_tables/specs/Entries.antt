@@ -1,5 +1,5 @@
 -- To believe: what the items of a bundle say, each sort of item by number.
-use Rattle.std.specs.Prelude.{ℕ, suc, Bool, false, List, [], ◌∷◌, Option, Some, None, map, slice_get, nat_eq, if◌then◌else◌}
+use Rattle.std.specs.Prelude.{ℕ, suc, Bool, false, List, [], ◌∷◌, Option, Some, map, slice_get, nat_eq, unwrap_or, option_and_then, if◌then◌else◌}
 use Rattle.demands.specs.Names.{found}
 use Rattle.ir_lex.specs.declared.name.Name.{Name}
 use Rattle.ir_tree.specs.declared.definitions.Funcsig.{Funcsig}
@@ -36,33 +36,21 @@ signature_entry t g d =
 
 abbrev pub signature_entries : Table → Globals → List Item → List Signature
 signature_entries t g [] = []
-signature_entries t g (items.Typedef d ∷ is) = signature_entries t g is
 signature_entries t g (items.Funcsig d ∷ is) = signature_entry t g d ∷ signature_entries t g is
-signature_entries t g (items.Const d ∷ is) = signature_entries t g is
-signature_entries t g (items.GlobalCell d ∷ is) = signature_entries t g is
-signature_entries t g (items.Funcdecl d ∷ is) = signature_entries t g is
-signature_entries t g (items.Funcdef d ∷ is) = signature_entries t g is
+signature_entries t g (_ ∷ is) = signature_entries t g is
 
 -- ---- constants and globals
 
 abbrev pub constant_entries : Table → Globals → List Item → List ℕ
 constant_entries t g [] = []
-constant_entries t g (items.Typedef d ∷ is) = constant_entries t g is
-constant_entries t g (items.Funcsig d ∷ is) = constant_entries t g is
 constant_entries t g (items.Const d ∷ is) = noted_type t g d.of_type ∷ constant_entries t g is
-constant_entries t g (items.GlobalCell d ∷ is) = constant_entries t g is
-constant_entries t g (items.Funcdecl d ∷ is) = constant_entries t g is
-constant_entries t g (items.Funcdef d ∷ is) = constant_entries t g is
+constant_entries t g (_ ∷ is) = constant_entries t g is
 
 -- a global is a reference to a place of its type
 abbrev pub global_entries : Table → Globals → List Item → List ℕ
 global_entries t g [] = []
-global_entries t g (items.Typedef d ∷ is) = global_entries t g is
-global_entries t g (items.Funcsig d ∷ is) = global_entries t g is
-global_entries t g (items.Const d ∷ is) = global_entries t g is
 global_entries t g (items.GlobalCell d ∷ is) = or_zero (iref_in t (written_number (found g.names d.of_type.text))) ∷ global_entries t g is
-global_entries t g (items.Funcdecl d ∷ is) = global_entries t g is
-global_entries t g (items.Funcdef d ∷ is) = global_entries t g is
+global_entries t g (_ ∷ is) = global_entries t g is
 
 -- ---- functions
 
@@ -73,54 +61,31 @@ noted_signature g n = or_zero (signature_number (found g.names n.text))
 -- the signatures of the declarations, and of the definitions
 abbrev pub declared_signatures : Globals → List Item → List ℕ
 declared_signatures g [] = []
-declared_signatures g (items.Typedef d ∷ is) = declared_signatures g is
-declared_signatures g (items.Funcsig d ∷ is) = declared_signatures g is
-declared_signatures g (items.Const d ∷ is) = declared_signatures g is
-declared_signatures g (items.GlobalCell d ∷ is) = declared_signatures g is
 declared_signatures g (items.Funcdecl d ∷ is) = noted_signature g d.signature ∷ declared_signatures g is
-declared_signatures g (items.Funcdef d ∷ is) = declared_signatures g is
+declared_signatures g (_ ∷ is) = declared_signatures g is
 
 abbrev pub defined_signatures : Globals → List Item → List ℕ
 defined_signatures g [] = []
-defined_signatures g (items.Typedef d ∷ is) = defined_signatures g is
-defined_signatures g (items.Funcsig d ∷ is) = defined_signatures g is
-defined_signatures g (items.Const d ∷ is) = defined_signatures g is
-defined_signatures g (items.GlobalCell d ∷ is) = defined_signatures g is
-defined_signatures g (items.Funcdecl d ∷ is) = defined_signatures g is
 defined_signatures g (items.Funcdef d ∷ is) = noted_signature g d.signature ∷ defined_signatures g is
+defined_signatures g (_ ∷ is) = defined_signatures g is
 
 -- whether the name is that of the function with this number
 abbrev pub is_function : Option Sort → ℕ → Bool
-is_function (Some (sorts.Written n)) k = false
-is_function (Some (sorts.Signature n)) k = false
-is_function (Some (sorts.Constant n)) k = false
-is_function (Some (sorts.GlobalCell n)) k = false
 is_function (Some (sorts.Function n)) k = nat_eq n k
-is_function None k = false
+is_function _ k = false
 
 -- a function that is declared has the signature of its definition, where it has one
-abbrev pub signature_or : Option ℕ → ℕ → ℕ
-signature_or None own = own
-signature_or (Some s) own = s
-
-abbrev pub definition_at : List ℕ → Option ℕ → Option ℕ
-definition_at defined None = None
-definition_at defined (Some n) = slice_get defined n
-
 abbrev pub declared_entry : Globals → List ℕ → Funcdecl → ℕ
-declared_entry g defined d = signature_or (definition_at defined (found g.defined d.name.text)) (noted_signature g d.signature)
+declared_entry g defined d = unwrap_or (option_and_then (slice_get defined) (found g.defined d.name.text)) (noted_signature g d.signature)
 
 -- the signatures of the functions behind so many, each where its name comes first
 abbrev pub function_entries : Globals → List ℕ → ℕ → List Item → List ℕ
 function_entries g defined k [] = []
-function_entries g defined k (items.Typedef d ∷ is) = function_entries g defined k is
-function_entries g defined k (items.Funcsig d ∷ is) = function_entries g defined k is
-function_entries g defined k (items.Const d ∷ is) = function_entries g defined k is
-function_entries g defined k (items.GlobalCell d ∷ is) = function_entries g defined k is
 function_entries g defined k (items.Funcdecl d ∷ is) =
     if is_function (found g.names d.name.text) k then declared_entry g defined d ∷ function_entries g defined (suc k) is else function_entries g defined k is
 function_entries g defined k (items.Funcdef d ∷ is) =
     if is_function (found g.names d.name.text) k then noted_signature g d.signature ∷ function_entries g defined (suc k) is else function_entries g defined k is
+function_entries g defined k (_ ∷ is) = function_entries g defined k is
 
 -- ---- all of them
 

@@ -2,7 +2,6 @@
 use Rattle.std.specs.Prelude.{ℕ, ◌+◌, List, [], ◌∷◌, ◌++◌, Option, Some, None, map, length, nat_lt, if◌then◌else◌}
 use Rattle.demands.specs.Demands.{Demands, none, demand, ◌⨾◌}
 use Rattle.demands.specs.Names.{found}
-use Rattle.mu_base.specs.Lists.{Roomy}
 use Rattle.ir_lex.specs.declared.name.Name.{Name}
 use Rattle.ir_lex.specs.declared.token.Number.{Number}
 use Rattle.ir_tree.specs.declared.definitions.TypeForm.{TypeForm}
@@ -17,7 +16,6 @@ use Rattle.mu_types.specs.Tests.{Test, passes}
 use Rattle.bundle_names.specs.declared.globals.Globals.{Globals}
 use Rattle.check_tables.specs.declared.fault.CheckKind.{CheckKind}
 use Rattle.check_tables.specs.declared.fault.CheckKind.TheVariants.{Types}
-use Rattle.check_tables.specs.Bare.{ids}
 use Rattle.check_tables.specs.Lookups.{written_number, signature_number}
 
 -- ---- numbers; a name that is not there, which the names of the bundle rule out, has the number 0
@@ -43,9 +41,9 @@ size_of n = if n.negative then 0 else n.magnitude
 
 abbrev pub type_definition : Globals → TypeForm → TypeDef
 type_definition g (written.Int w) = Int (size_of w.number)
-type_definition g (written.Struct fields) = Struct (ids (type_ids g fields))
+type_definition g (written.Struct fields) = Struct (type_ids g fields)
 type_definition g (written.Array element size) = Array (type_id g element) (size_of size.number)
-type_definition g (written.Hybrid fixed element) = Hybrid (ids (type_ids g fixed)) (type_id g element)
+type_definition g (written.Hybrid fixed element) = Hybrid (type_ids g fixed) (type_id g element)
 type_definition g written.Void = Void
 type_definition g (written.Ref t) = Ref (type_id g t)
 type_definition g (written.Iref t) = Iref (type_id g t)
@@ -56,20 +54,12 @@ type_definition g written.Threadref = ThreadRef
 abbrev pub types_of : Globals → List Item → List TypeDef
 types_of g [] = []
 types_of g (items.Typedef d ∷ is) = type_definition g d.form ∷ types_of g is
-types_of g (items.Funcsig d ∷ is) = types_of g is
-types_of g (items.Const d ∷ is) = types_of g is
-types_of g (items.GlobalCell d ∷ is) = types_of g is
-types_of g (items.Funcdecl d ∷ is) = types_of g is
-types_of g (items.Funcdef d ∷ is) = types_of g is
+types_of g (_ ∷ is) = types_of g is
 
 abbrev pub signatures_of : Globals → List Item → List TypeDef
 signatures_of g [] = []
-signatures_of g (items.Typedef d ∷ is) = signatures_of g is
-signatures_of g (items.Funcsig d ∷ is) = Sig (ids (type_ids g d.takes)) (ids (type_ids g d.gives)) ∷ signatures_of g is
-signatures_of g (items.Const d ∷ is) = signatures_of g is
-signatures_of g (items.GlobalCell d ∷ is) = signatures_of g is
-signatures_of g (items.Funcdecl d ∷ is) = signatures_of g is
-signatures_of g (items.Funcdef d ∷ is) = signatures_of g is
+signatures_of g (items.Funcsig d ∷ is) = Sig (type_ids g d.takes) (type_ids g d.gives) ∷ signatures_of g is
+signatures_of g (_ ∷ is) = signatures_of g is
 
 abbrev pub graph_of : Globals → List Item → List TypeDef
 graph_of g bundle = types_of g bundle ++ signatures_of g bundle
@@ -88,32 +78,22 @@ argument_places (written.Int w) = w.place ∷ []
 argument_places (written.Struct fields) = places_of_names fields
 argument_places (written.Array element size) = element.place ∷ size.place ∷ []
 argument_places (written.Hybrid fixed element) = places_of_names fixed ++ element.place ∷ []
-argument_places written.Void = []
 argument_places (written.Ref t) = t.place ∷ []
 argument_places (written.Iref t) = t.place ∷ []
 argument_places (written.Funcref s) = s.place ∷ []
-argument_places written.Stackref = []
-argument_places written.Threadref = []
+argument_places _ = []
 
-abbrev pub type_places : List Item → List (Roomy ℕ)
+abbrev pub type_places : List Item → List (List ℕ)
 type_places [] = []
-type_places (items.Typedef d ∷ is) = ids (d.name.place ∷ argument_places d.form) ∷ type_places is
-type_places (items.Funcsig d ∷ is) = type_places is
-type_places (items.Const d ∷ is) = type_places is
-type_places (items.GlobalCell d ∷ is) = type_places is
-type_places (items.Funcdecl d ∷ is) = type_places is
-type_places (items.Funcdef d ∷ is) = type_places is
+type_places (items.Typedef d ∷ is) = (d.name.place ∷ argument_places d.form) ∷ type_places is
+type_places (_ ∷ is) = type_places is
 
-abbrev pub signature_places : List Item → List (Roomy ℕ)
+abbrev pub signature_places : List Item → List (List ℕ)
 signature_places [] = []
-signature_places (items.Typedef d ∷ is) = signature_places is
-signature_places (items.Funcsig d ∷ is) = ids (d.name.place ∷ places_of_names d.takes ++ places_of_names d.gives) ∷ signature_places is
-signature_places (items.Const d ∷ is) = signature_places is
-signature_places (items.GlobalCell d ∷ is) = signature_places is
-signature_places (items.Funcdecl d ∷ is) = signature_places is
-signature_places (items.Funcdef d ∷ is) = signature_places is
+signature_places (items.Funcsig d ∷ is) = (d.name.place ∷ places_of_names d.takes ++ places_of_names d.gives) ∷ signature_places is
+signature_places (_ ∷ is) = signature_places is
 
-abbrev pub places_of : List Item → List (Roomy ℕ)
+abbrev pub places_of : List Item → List (List ℕ)
 places_of bundle = type_places bundle ++ signature_places bundle
 
 -- ---- demands: three passes over the types, as the tests of a graph have them

@@ -1,7 +1,6 @@
 -- Inner: what contracts inside the crate cite; no public one does, so no reader of those needs it.
 use Rattle.std.specs.List.{All}
 use Rattle.std.specs.Prelude.{ℕ, suc, ◌<◌, List, ◌∷◌, Option, Some, None}
-use Rattle.mu_base.specs.Lists.{Roomy}
 use Rattle.ir_tree.specs.declared.items.Item.{Item}
 use Rattle.bundle_names.specs.declared.globals.Globals.{Globals}
 use Rattle.type_laws.specs.declared.definition.TypeDef.{TypeDef}
@@ -12,7 +11,6 @@ use Rattle.mu_types.specs.declared.faults.TypeKind.{TypeKind}
 use Rattle.mu_types.specs.declared.faults.TypeKind.TheVariants as kinds
 use Rattle.check_tables.specs.declared.fault.CheckKind.{CheckKind}
 use Rattle.check_tables.specs.declared.fault.CheckKind.TheVariants.{Types}
-use Rattle.check_tables.specs.Bare.{ids}
 use Rattle.bundle_tables.specs.Entries.{function_entries}
 
 -- the signatures of the functions, where that of the first is told if there is one
@@ -20,17 +18,11 @@ abbrev pub entered : Option ℕ → Globals → List ℕ → ℕ → List Item �
 entered None g defined k is = function_entries g defined k is
 entered (Some s) g defined k is = s ∷ function_entries g defined (suc k) is
 
--- a list without its room
-abbrev pub bare_ids : Roomy ℕ → Roomy ℕ
-bare_ids r = ids r.members
-
 -- each argument of each definition is below that number
 abbrev pub AllBelow : ℕ → List TypeDef → Type 0
 AllBelow many ds = All (λ d. All (λ n. n < many) (arguments d)) ds
 
 -- the fault of a graph as the fault of a bundle
 abbrev pub fault_of : TypeKind → ℕ → Fault CheckKind
-fault_of kinds.EndlessType place = faults.At (Types kinds.EndlessType) place
-fault_of kinds.WrongArgument place = faults.At (Types kinds.WrongArgument) place
-fault_of kinds.TooManyLeaves place = faults.At (Types kinds.TooManyLeaves) place
 fault_of kinds.Memory place = faults.Memory
+fault_of kind place = faults.At (Types kind) place

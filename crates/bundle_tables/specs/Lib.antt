@@ -1,5 +1,4 @@
 pub mod Graph
 pub mod Entries
 pub mod Rules
-pub mod Literals
 pub mod Inner

@@ -17,7 +17,6 @@ use Rattle.bundle_names.specs.declared.globals.Globals.{Globals}
 use Rattle.check_tables.specs.declared.fault.CheckKind.{CheckKind}
 use Rattle.check_tables.specs.declared.fault.CheckKind.TheVariants.{Types, Const, OperandType, BadSignature}
 use Rattle.check_tables.specs.declared.tables.Tables.{Tables}
-use Rattle.check_tables.specs.Bare.{ids}
 use Rattle.check_tables.specs.Lookups.{definition_named, leaves_named}
 use Rattle.check_tables.specs.TypeTests.{is_sized, is_value_type}
 use Rattle.bundle_tables.specs.Graph.{within, type_id, places_of_names, type_demands}
@@ -26,12 +25,8 @@ use Rattle.bundle_tables.specs.Entries.{tables_of}
 -- ---- constants
 
 abbrev pub constant_number : Option Sort → Option ℕ
-constant_number (Some (sorts.Written n)) = None
-constant_number (Some (sorts.Signature n)) = None
 constant_number (Some (sorts.Constant n)) = Some n
-constant_number (Some (sorts.GlobalCell n)) = None
-constant_number (Some (sorts.Function n)) = None
-constant_number None = None
+constant_number _ = None
 
 abbrev pub constant_id : Globals → Name → ℕ
 constant_id g n = within g.counts.constants (constant_number (found g.names n.text))
@@ -39,28 +34,20 @@ constant_id g n = within g.counts.constants (constant_number (found g.names n.te
 abbrev pub literal_of : Globals → WrittenLiteral → Literal
 literal_of g (written.Number n) = record { place = n.place; kind = literals.Number n.number.negative n.number.magnitude }
 literal_of g (written.Null place) = record { place = place; kind = literals.Null }
-literal_of g (written.Members place cs) = record { place = place; kind = literals.Members (ids (map (constant_id g) cs)) (ids (places_of_names cs)) }
+literal_of g (written.Members place cs) = record { place = place; kind = literals.Members (map (constant_id g) cs) (places_of_names cs) }
 
 -- the types of all constants
 abbrev pub constant_types : Globals → List Item → List ℕ
 constant_types g [] = []
-constant_types g (items.Typedef d ∷ is) = constant_types g is
-constant_types g (items.Funcsig d ∷ is) = constant_types g is
 constant_types g (items.Const d ∷ is) = type_id g d.of_type ∷ constant_types g is
-constant_types g (items.GlobalCell d ∷ is) = constant_types g is
-constant_types g (items.Funcdecl d ∷ is) = constant_types g is
-constant_types g (items.Funcdef d ∷ is) = constant_types g is
+constant_types g (_ ∷ is) = constant_types g is
 
 -- each literal is one of its type, where the constants have these types
 abbrev pub constants_demands : Tables → List ℕ → List Item → Demands CheckKind
 constants_demands p types [] = none
-constants_demands p types (items.Typedef d ∷ is) = constants_demands p types is
-constants_demands p types (items.Funcsig d ∷ is) = constants_demands p types is
 constants_demands p types (items.Const d ∷ is) =
     as_kind Const (constant_demands p.types.definitions types (type_id p.globals d.of_type) (literal_of p.globals d.literal)) ⨾ constants_demands p types is
-constants_demands p types (items.GlobalCell d ∷ is) = constants_demands p types is
-constants_demands p types (items.Funcdecl d ∷ is) = constants_demands p types is
-constants_demands p types (items.Funcdef d ∷ is) = constants_demands p types is
+constants_demands p types (_ ∷ is) = constants_demands p types is
 
 -- ---- signatures
 
@@ -71,12 +58,8 @@ signature_type_demands p (n ∷ ns) = demand n.place BadSignature (is_value_type
 
 abbrev pub signatures_demands : Tables → List Item → Demands CheckKind
 signatures_demands p [] = none
-signatures_demands p (items.Typedef d ∷ is) = signatures_demands p is
 signatures_demands p (items.Funcsig d ∷ is) = (signature_type_demands p d.takes ⨾ signature_type_demands p d.gives) ⨾ signatures_demands p is
-signatures_demands p (items.Const d ∷ is) = signatures_demands p is
-signatures_demands p (items.GlobalCell d ∷ is) = signatures_demands p is
-signatures_demands p (items.Funcdecl d ∷ is) = signatures_demands p is
-signatures_demands p (items.Funcdef d ∷ is) = signatures_demands p is
+signatures_demands p (_ ∷ is) = signatures_demands p is
 
 -- ---- globals
 
@@ -86,15 +69,11 @@ most_leaves_of_globals = 65536
 -- behind globals with so many leaves: neither void nor a hybrid, and not too many leaves together
 abbrev pub globals_demands : Tables → ℕ → List Item → Demands CheckKind
 globals_demands p leaves [] = none
-globals_demands p leaves (items.Typedef d ∷ is) = globals_demands p leaves is
-globals_demands p leaves (items.Funcsig d ∷ is) = globals_demands p leaves is
-globals_demands p leaves (items.Const d ∷ is) = globals_demands p leaves is
 globals_demands p leaves (items.GlobalCell d ∷ is) =
     (demand d.of_type.place OperandType (is_sized (definition_named p d.of_type))
     ⨾ demand d.of_type.place (Types TooManyLeaves) (nat_le (leaves + length (leaves_named p d.of_type)) most_leaves_of_globals))
     ⨾ globals_demands p (leaves + length (leaves_named p d.of_type)) is
-globals_demands p leaves (items.Funcdecl d ∷ is) = globals_demands p leaves is
-globals_demands p leaves (items.Funcdef d ∷ is) = globals_demands p leaves is
+globals_demands p leaves (_ ∷ is) = globals_demands p leaves is
 
 -- ---- all of them
 

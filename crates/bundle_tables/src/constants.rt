@@ -6,7 +6,6 @@ ghost use Rattle.mu_values.specs.Constants.{constant_demands, HasMembers};
 ghost use Rattle.check_tables.specs.declared.fault.CheckKind.TheVariants.{Const as OfConst};
 ghost use Rattle.bundle_tables.specs.Graph.{type_id};
 ghost use Rattle.bundle_tables.specs.Rules.{constant_id, literal_of, constant_types, constants_demands};
-ghost use Rattle.bundle_tables.specs.Literals.{bare_literal};
 
 use crate::graph::places_of_names;
 use crate::numbers::{constant_id, type_id};
@@ -14,15 +13,19 @@ use bundle_names::Globals;
 use check_tables::{CheckFault, CheckKind, Tables, fault_at};
 use ir_lex::Name;
 use ir_tree::{Const, Item};
-use mu_base::Ids;
 use mu_values::{Literal, LiteralKind, judge_const};
 use std::alloc::{AllocError, Global};
+use text_forms::Listing;
 
-fn constant_ids(alloc: Global, globals: &Globals, names: &[Name]) -> Result<Ids, AllocError>
-    ensures same { IfOk result (λ numbers. numbers.members ≡ map (constant_id globals.now) names.now) }
-    ensures below { IfOk result (λ numbers. All (λ n. n < globals.now.counts.constants) numbers.members) }
+fn constant_ids(
+    alloc: Global,
+    globals: &Globals,
+    names: &[Name],
+) -> Result<Listing<u32>, AllocError>
+    ensures same { IfOk result (λ numbers. numbers ≡ map (constant_id globals.now) names.now) }
+    ensures below { IfOk result (λ numbers. All (λ n. n < globals.now.counts.constants) numbers) }
 {
-    let mut numbers = Ids::new(alloc);
+    let mut numbers = Listing::new(alloc);
     let mut left = names;
     'each: while let [first, more @ ..] = left {
         numbers.push(constant_id(globals, first)?)?;
@@ -38,7 +41,7 @@ pub fn literal(
     globals: &Globals,
     literal: &ir_tree::Literal,
 ) -> Result<Literal, AllocError>
-    ensures same { IfOk result (λ made. bare_literal made ≡ literal_of globals.now literal.now) }
+    ensures same { IfOk result (λ made. made ≡ literal_of globals.now literal.now) }
     ensures members { IfOk result (λ made. HasMembers globals.now.counts.constants made.kind) }
 {
     Ok(match literal {
@@ -64,11 +67,15 @@ pub fn literal(
 }
 
 /// The types of all constants, by id.
-pub fn constant_types(alloc: Global, globals: &Globals, items: &[Item]) -> Result<Ids, AllocError>
-    ensures same { IfOk result (λ types. types.members ≡ constant_types globals.now items.now) }
-    ensures below { IfOk result (λ types. All (λ t. t < globals.now.counts.written) types.members) }
+pub fn constant_types(
+    alloc: Global,
+    globals: &Globals,
+    items: &[Item],
+) -> Result<Listing<u32>, AllocError>
+    ensures same { IfOk result (λ types. types ≡ constant_types globals.now items.now) }
+    ensures below { IfOk result (λ types. All (λ t. t < globals.now.counts.written) types) }
 {
-    let mut types = Ids::new(alloc);
+    let mut types = Listing::new(alloc);
     let mut left = items;
     'each: while let [first, more @ ..] = left {
         if let Item::Const(item) = first {
@@ -82,13 +89,13 @@ pub fn constant_types(alloc: Global, globals: &Globals, items: &[Item]) -> Resul
 fn judge_constant(
     alloc: Global,
     tables: &Tables,
-    types: &Ids,
+    types: &Listing<u32>,
     item: &Const,
 ) -> Result<(), CheckFault>
-    requires types { All (λ t. t < length tables.now.types.definitions) types.now.members }
+    requires types { All (λ t. t < length tables.now.types.definitions) types.now }
     requires written { tables.now.globals.counts.written ≤ length tables.now.types.definitions }
-    requires constants { tables.now.globals.counts.constants ≡ length types.now.members }
-    ensures { Meets (as_kind OfConst (constant_demands tables.now.types.definitions types.now.members (type_id tables.now.globals item.now.of_type) (literal_of tables.now.globals item.now.literal))) result }
+    requires constants { tables.now.globals.counts.constants ≡ length types.now }
+    ensures { Meets (as_kind OfConst (constant_demands tables.now.types.definitions types.now (type_id tables.now.globals item.now.of_type) (literal_of tables.now.globals item.now.literal))) result }
 {
     let t = type_id(&tables.globals, &item.of_type)?;
     let literal = literal(alloc, &tables.globals, &item.literal)?;
@@ -102,13 +109,13 @@ fn judge_constant(
 pub fn judge_constants(
     alloc: Global,
     tables: &Tables,
-    types: &Ids,
+    types: &Listing<u32>,
     items: &[Item],
 ) -> Result<(), CheckFault>
-    requires types { All (λ t. t < length tables.now.types.definitions) types.now.members }
+    requires types { All (λ t. t < length tables.now.types.definitions) types.now }
     requires written { tables.now.globals.counts.written ≤ length tables.now.types.definitions }
-    requires constants { tables.now.globals.counts.constants ≡ length types.now.members }
-    ensures { Meets (constants_demands tables.now types.now.members items.now) result }
+    requires constants { tables.now.globals.counts.constants ≡ length types.now }
+    ensures { Meets (constants_demands tables.now types.now items.now) result }
 {
     let mut left = items;
     'each: while let [first, more @ ..] = left {

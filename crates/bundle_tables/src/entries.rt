@@ -1,12 +1,12 @@
 // What the items of a bundle say, each sort of item by number.
-ghost use Rattle.std.specs.Prelude.{◌≡◌, List, ◌∷◌, length, IfOk};
+ghost use Rattle.std.specs.Prelude.{◌≡◌, List, ◌∷◌, length, slice_get, option_and_then, IfOk};
 ghost use Rattle.demands.specs.Names.{found};
 ghost use Rattle.check_tables.specs.Types.{iref_in};
 ghost use Rattle.check_tables.specs.Lookups.{written_number, or_zero};
 ghost use Rattle.ir_tree.specs.declared.items.Item.{Item};
 ghost use Rattle.bundle_tables.specs.Graph.{table_of};
 ghost use Rattle.bundle_tables.specs.Inner.{entered};
-ghost use Rattle.bundle_tables.specs.Entries.{noted_type, noted_types, signature_entry, signature_entries, constant_entries, global_entries, noted_signature, declared_signatures, defined_signatures, is_function, definition_at, declared_entry, function_entries, tables_of};
+ghost use Rattle.bundle_tables.specs.Entries.{noted_type, noted_types, signature_entry, signature_entries, constant_entries, global_entries, noted_signature, declared_signatures, defined_signatures, is_function, declared_entry, function_entries, tables_of};
 
 use crate::numbers::{or_zero, signature_id, signature_number, written_number};
 use bundle_names::{Globals, Sort};
@@ -182,7 +182,7 @@ fn is_function(globals: &Globals, name: &Name, number: usize) -> bool
 
 /// The signature of the definition of the function with this name, where it has one.
 fn definition_at(globals: &Globals, defined: &[u32], name: &Name) -> Option<u32>
-    ensures { result ≡ definition_at defined.now (found globals.now.defined name.now.text) }
+    ensures { result ≡ option_and_then (slice_get defined.now) (found globals.now.defined name.now.text) }
 {
     match globals.defined.find(name.text.as_slice()) {
         Some(n) => defined.get(*n as usize).copied(),

@@ -5,24 +5,23 @@ ghost use Rattle.type_laws.specs.declared.definition.TypeDef.TheVariants.{Sig};
 ghost use Rattle.type_laws.specs.Definition.{arguments};
 ghost use Rattle.type_laws.specs.Same.{IsGraph};
 ghost use Rattle.bundle_names.specs.Globals.{globals_of};
-ghost use Rattle.check_tables.specs.Bare.{bare, ids};
 ghost use Rattle.bundle_tables.specs.Graph.{size_of, type_ids, type_definition, types_of, signatures_of, graph_of, places_of_names, argument_places, type_places, signature_places, places_of};
-ghost use Rattle.bundle_tables.specs.Inner.{bare_ids, AllBelow};
+ghost use Rattle.bundle_tables.specs.Inner.{AllBelow};
 
 use crate::numbers::{signature_id, type_id};
 use bundle_names::Globals;
 use ir_lex::{Name, Number};
 use ir_tree::{Funcsig, Item, TypeForm, Typedef};
-use mu_base::Ids;
 use mu_types::{TypeDef, TypeGraph};
 use std::alloc::{AllocError, Global};
+use text_forms::Listing;
 
 /// The most items that a graph is built of.
 const MOST_ITEMS: usize = 500000000;
 
 /// A place. Past 2^32 - 1 the answer is want of memory.
-fn add_place(places: &mut Ids, place: usize) -> Result<(), AllocError>
-    ensures { OnOk result (places.new.members ≡ places.old.members ++ place ∷ []) }
+fn add_place(places: &mut Listing<u32>, place: usize) -> Result<(), AllocError>
+    ensures { OnOk result (places.new ≡ places.old ++ place ∷ []) }
 {
     match u32::try_from(place) {
         Ok(place) => places.push(place),
@@ -30,8 +29,8 @@ fn add_place(places: &mut Ids, place: usize) -> Result<(), AllocError>
     }
 }
 
-fn add_places_of_names(places: &mut Ids, names: &[Name]) -> Result<(), AllocError>
-    ensures { OnOk result (places.new.members ≡ places.old.members ++ places_of_names names.now) }
+fn add_places_of_names(places: &mut Listing<u32>, names: &[Name]) -> Result<(), AllocError>
+    ensures { OnOk result (places.new ≡ places.old ++ places_of_names names.now) }
 {
     let mut left = names;
     'each: while let [first, more @ ..] = left {
@@ -42,16 +41,16 @@ fn add_places_of_names(places: &mut Ids, names: &[Name]) -> Result<(), AllocErro
 }
 
 /// The places of names.
-pub fn places_of_names(alloc: Global, names: &[Name]) -> Result<Ids, AllocError>
-    ensures { IfOk result (λ places. places.members ≡ places_of_names names.now) }
+pub fn places_of_names(alloc: Global, names: &[Name]) -> Result<Listing<u32>, AllocError>
+    ensures { IfOk result (λ places. places ≡ places_of_names names.now) }
 {
-    let mut places = Ids::new(alloc);
+    let mut places = Listing::new(alloc);
     add_places_of_names(&mut places, names)?;
     Ok(places)
 }
 
-fn add_argument_places(places: &mut Ids, form: &TypeForm) -> Result<(), AllocError>
-    ensures { OnOk result (places.new.members ≡ places.old.members ++ argument_places form.now) }
+fn add_argument_places(places: &mut Listing<u32>, form: &TypeForm) -> Result<(), AllocError>
+    ensures { OnOk result (places.new ≡ places.old ++ argument_places form.now) }
 {
     match form {
         TypeForm::Int { width } => add_place(places, width.place),
@@ -71,30 +70,30 @@ fn add_argument_places(places: &mut Ids, form: &TypeForm) -> Result<(), AllocErr
     }
 }
 
-fn type_places(alloc: Global, item: &Typedef) -> Result<Ids, AllocError>
-    ensures { IfOk result (λ places. places.members ≡ item.now.name.place ∷ argument_places item.now.form) }
+fn type_places(alloc: Global, item: &Typedef) -> Result<Listing<u32>, AllocError>
+    ensures { IfOk result (λ places. places ≡ item.now.name.place ∷ argument_places item.now.form) }
 {
-    let mut places = Ids::new(alloc);
+    let mut places = Listing::new(alloc);
     add_place(&mut places, item.name.place)?;
     add_argument_places(&mut places, &item.form)?;
     Ok(places)
 }
 
-fn signature_places(alloc: Global, item: &Funcsig) -> Result<Ids, AllocError>
-    ensures { IfOk result (λ places. places.members ≡ item.now.name.place ∷ places_of_names item.now.takes ++ places_of_names item.now.gives) }
+fn signature_places(alloc: Global, item: &Funcsig) -> Result<Listing<u32>, AllocError>
+    ensures { IfOk result (λ places. places ≡ item.now.name.place ∷ places_of_names item.now.takes ++ places_of_names item.now.gives) }
 {
-    let mut places = Ids::new(alloc);
+    let mut places = Listing::new(alloc);
     add_place(&mut places, item.name.place)?;
     add_places_of_names(&mut places, item.takes.as_slice())?;
     add_places_of_names(&mut places, item.gives.as_slice())?;
     Ok(places)
 }
 
-fn type_ids(alloc: Global, globals: &Globals, names: &[Name]) -> Result<Ids, AllocError>
-    ensures same { IfOk result (λ numbers. numbers.members ≡ type_ids globals.now names.now) }
-    ensures below { IfOk result (λ numbers. All (λ n. n < globals.now.counts.written + globals.now.counts.signatures) numbers.members) }
+fn type_ids(alloc: Global, globals: &Globals, names: &[Name]) -> Result<Listing<u32>, AllocError>
+    ensures same { IfOk result (λ numbers. numbers ≡ type_ids globals.now names.now) }
+    ensures below { IfOk result (λ numbers. All (λ n. n < globals.now.counts.written + globals.now.counts.signatures) numbers) }
 {
-    let mut numbers = Ids::new(alloc);
+    let mut numbers = Listing::new(alloc);
     let mut left = names;
     'each: while let [first, more @ ..] = left {
         numbers.push(type_id(globals, first)?)?;
@@ -110,7 +109,7 @@ fn size(number: Number) -> u128
 }
 
 fn type_definition(alloc: Global, globals: &Globals, form: &TypeForm) -> Result<TypeDef, AllocError>
-    ensures same { IfOk result (λ definition. bare definition ≡ type_definition globals.now form.now) }
+    ensures same { IfOk result (λ definition. definition ≡ type_definition globals.now form.now) }
     ensures below { IfOk result (λ definition. All (λ n. n < globals.now.counts.written + globals.now.counts.signatures) (arguments definition)) }
 {
     Ok(match form {
@@ -137,15 +136,31 @@ fn type_definition(alloc: Global, globals: &Globals, form: &TypeForm) -> Result<
     })
 }
 
-fn add(graph: &mut TypeGraph, definition: TypeDef, places: Ids) -> Result<(), AllocError>
+fn add(graph: &mut TypeGraph, definition: TypeDef, places: Listing<u32>) -> Result<(), AllocError>
     requires { length graph.old.definitions + 1 < 2 ^ 32 - 1 }
-    ensures definitions { OnOk result (map bare graph.new.definitions ≡ map bare graph.old.definitions ++ bare definition ∷ []) }
-    ensures places { OnOk result (map bare_ids graph.new.places ≡ map bare_ids graph.old.places ++ ids places.members ∷ []) }
+    ensures definitions { OnOk result (graph.new.definitions ≡ graph.old.definitions ++ definition ∷ []) }
+    ensures places { OnOk result (graph.new.places ≡ graph.old.places ++ places ∷ []) }
     ensures below { OnOk result ((many : ℕ) → AllBelow many graph.old.definitions → All (λ n. n < many) (arguments definition) → AllBelow many graph.new.definitions) }
     ensures count { OnOk result (length graph.new.definitions ≡ length graph.old.definitions + 1) }
 {
     graph.add(definition, places)?;
     Ok(())
+}
+
+fn add_type(
+    alloc: Global,
+    globals: &Globals,
+    graph: &mut TypeGraph,
+    item: &Typedef,
+) -> Result<(), AllocError>
+    requires { length graph.old.definitions + 1 < 2 ^ 32 - 1 }
+    ensures definitions { OnOk result (graph.new.definitions ≡ graph.old.definitions ++ type_definition globals.now item.now.form ∷ []) }
+    ensures places { OnOk result (graph.new.places ≡ graph.old.places ++ (item.now.name.place ∷ argument_places item.now.form) ∷ []) }
+    ensures below { OnOk result (AllBelow (globals.now.counts.written + globals.now.counts.signatures) graph.old.definitions → AllBelow (globals.now.counts.written + globals.now.counts.signatures) graph.new.definitions) }
+    ensures count { OnOk result (length graph.new.definitions ≡ length graph.old.definitions + 1) }
+{
+    let definition = type_definition(alloc, globals, &item.form)?;
+    add(graph, definition, type_places(alloc, item)?)
 }
 
 fn add_types(
@@ -155,16 +170,15 @@ fn add_types(
     items: &[Item],
 ) -> Result<(), AllocError>
     requires { length graph.old.definitions + length items.now < 2 ^ 32 - 1 }
-    ensures definitions { OnOk result (map bare graph.new.definitions ≡ map bare graph.old.definitions ++ types_of globals.now items.now) }
-    ensures places { OnOk result (map bare_ids graph.new.places ≡ map bare_ids graph.old.places ++ type_places items.now) }
+    ensures definitions { OnOk result (graph.new.definitions ≡ graph.old.definitions ++ types_of globals.now items.now) }
+    ensures places { OnOk result (graph.new.places ≡ graph.old.places ++ type_places items.now) }
     ensures below { OnOk result (AllBelow (globals.now.counts.written + globals.now.counts.signatures) graph.old.definitions → AllBelow (globals.now.counts.written + globals.now.counts.signatures) graph.new.definitions) }
     ensures count { OnOk result (length graph.new.definitions ≤ length graph.old.definitions + length items.now) }
 {
     let mut left = items;
     'each: while let [first, more @ ..] = left {
         if let Item::Typedef(item) = first {
-            let definition = type_definition(alloc, globals, &item.form)?;
-            add(graph, definition, type_places(alloc, item)?)?;
+            add_type(alloc, globals, graph, item)?;
         }
         left = more;
     }
@@ -176,7 +190,7 @@ fn signature_definition(
     globals: &Globals,
     item: &Funcsig,
 ) -> Result<TypeDef, AllocError>
-    ensures same { IfOk result (λ definition. bare definition ≡ Sig (ids (type_ids globals.now item.now.takes)) (ids (type_ids globals.now item.now.gives))) }
+    ensures same { IfOk result (λ definition. definition ≡ Sig (type_ids globals.now item.now.takes) (type_ids globals.now item.now.gives)) }
     ensures below { IfOk result (λ definition. All (λ n. n < globals.now.counts.written + globals.now.counts.signatures) (arguments definition)) }
 {
     Ok(TypeDef::Sig {
@@ -192,8 +206,8 @@ fn add_signatures(
     items: &[Item],
 ) -> Result<(), AllocError>
     requires { length graph.old.definitions + length items.now < 2 ^ 32 - 1 }
-    ensures definitions { OnOk result (map bare graph.new.definitions ≡ map bare graph.old.definitions ++ signatures_of globals.now items.now) }
-    ensures places { OnOk result (map bare_ids graph.new.places ≡ map bare_ids graph.old.places ++ signature_places items.now) }
+    ensures definitions { OnOk result (graph.new.definitions ≡ graph.old.definitions ++ signatures_of globals.now items.now) }
+    ensures places { OnOk result (graph.new.places ≡ graph.old.places ++ signature_places items.now) }
     ensures below { OnOk result (AllBelow (globals.now.counts.written + globals.now.counts.signatures) graph.old.definitions → AllBelow (globals.now.counts.written + globals.now.counts.signatures) graph.new.definitions) }
     ensures count { OnOk result (length graph.new.definitions ≤ length graph.old.definitions + length items.now) }
 {
@@ -211,8 +225,8 @@ fn add_signatures(
 /// The graph of the types and signatures of a bundle. Past 5 * 10^8 items the answer is want of memory.
 pub fn graph(alloc: Global, globals: &Globals, items: &[Item]) -> Result<TypeGraph, AllocError>
     requires { globals.now ≡ globals_of items.now }
-    ensures definitions { IfOk result (λ graph. map bare graph.definitions ≡ graph_of globals.now items.now) }
-    ensures places { IfOk result (λ graph. map bare_ids graph.places ≡ places_of items.now) }
+    ensures definitions { IfOk result (λ graph. graph.definitions ≡ graph_of globals.now items.now) }
+    ensures places { IfOk result (λ graph. graph.places ≡ places_of items.now) }
     ensures closed { IfOk result (λ graph. IsGraph graph.definitions) }
     ensures few { IfOk result (λ graph. length graph.definitions ≤ 1000000000) }
 {

@@ -11,7 +11,7 @@ ghost use Rattle.code_check.specs.Objects.{allocation_demands, allocation_gives,
 
 use crate::code::{AddressingForm, AllocationForm, Source};
 use crate::gifts::{Gift, or_zero};
-use crate::operands::{index_type, of_type, operand, type_demand};
+use crate::operands::{of_type, operand, type_demand, type_of_index};
 use crate::scopes::Locals;
 use check_tables::{CheckFault, CheckKind, Tables, fault_at};
 use ir_lex::{Name, Numeral};
@@ -38,7 +38,7 @@ fn newhybrid(
     ensures { Judges (allocation_demands tables.now locals.now (allocations.Newhybrid hybrid.now length_type.now length.now None)) (allocation_code tables.now locals.now (allocations.Newhybrid hybrid.now length_type.now length.now None)) result }
 {
     let class = tested_type(tables, hybrid, tables.is_hybrid(hybrid))?;
-    let length_class = index_type(tables, length_type)?;
+    let length_class = type_of_index(tables, length_type)?;
     let length = of_type(tables, locals, length, length_type)?;
     Ok(AllocationForm::Newhybrid {
         class,
@@ -160,7 +160,7 @@ fn getelemiref(
     ensures { Judges (addressing_demands tables.now locals.now (addressings.Getelemiref name.now index_type.now location.now index.now)) (addressing_code tables.now locals.now (addressings.Getelemiref name.now index_type.now location.now index.now)) result }
 {
     let class = tested_type(tables, name, tables.element(name).is_some())?;
-    let index_class = index_type(tables, index_type)?;
+    let index_class = type_of_index(tables, index_type)?;
     let location = place_of_type(tables, locals, location, name)?;
     let index = of_type(tables, locals, index, index_type)?;
     Ok(AddressingForm::Getelemiref {
@@ -183,7 +183,7 @@ fn shiftiref(
     ensures { Judges (addressing_demands tables.now locals.now (addressings.Shiftiref name.now offset_type.now location.now offset.now)) (addressing_code tables.now locals.now (addressings.Shiftiref name.now offset_type.now location.now offset.now)) result }
 {
     let class = tested_type(tables, name, tables.is_sized(name))?;
-    let offset_class = index_type(tables, offset_type)?;
+    let offset_class = type_of_index(tables, offset_type)?;
     let location = place_of_type(tables, locals, location, name)?;
     let offset = of_type(tables, locals, offset, offset_type)?;
     Ok(AddressingForm::Shiftiref {

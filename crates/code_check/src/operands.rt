@@ -171,7 +171,7 @@ pub fn int_type(tables: &Tables, name: &Name) -> Result<u32, CheckFault>
 }
 
 /// A type of indexes.
-pub fn index_type(tables: &Tables, name: &Name) -> Result<u32, CheckFault>
+pub fn type_of_index(tables: &Tables, name: &Name) -> Result<u32, CheckFault>
     ensures { Judges (type_demand name.now (is_index_type (definition_named tables.now name.now))) (noted_class tables.now name.now) result }
 {
     type_demand(name, tables.is_index_type(name))?;

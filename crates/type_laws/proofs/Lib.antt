@@ -7,3 +7,5 @@ pub mod Proved
 pub mod Respect
 pub mod Counts
 pub mod Walks
+pub mod Descents
+pub mod Unfolds

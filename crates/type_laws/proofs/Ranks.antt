@@ -83,7 +83,7 @@ by_same of to t StackRef h = refl
 by_same of to t ThreadRef h = refl
 by_same of to t (Sig takes gives) h = refl
 
-at_same : (of to : ℕ → List ℕ) (t : ℕ) (o : Option TypeDef) → All (λ p. of p ≡ to p) (parts_at o) → leaves_at of t o ≡ leaves_at to t o
+pub at_same : (of to : ℕ → List ℕ) (t : ℕ) (o : Option TypeDef) → All (λ p. of p ≡ to p) (parts_at o) → leaves_at of t o ≡ leaves_at to t o
 at_same of to t None h = refl
 at_same of to t (Some d) h = by_same of to t d h
 

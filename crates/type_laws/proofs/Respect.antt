@@ -72,3 +72,6 @@ respect_to g i (suc k) a b la lb h =
 
 pub respected : (g : List TypeDef) → IsGraph g → (a b : ℕ) → a < length g → b < length g → same g a b ≡ true → map (class_of g) (leaves g a) ≡ map (class_of g) (leaves g b)
 respected g i a b la lb h = respect_to g i (length g) a b la lb h
+
+pub class_decides : (g : List TypeDef) → IsGraph g → (a b : ℕ) → a < length g → b < length g → class_of g a ≡ class_of g b → map (class_of g) (leaves g a) ≡ map (class_of g) (leaves g b)
+class_decides g i a b la lb e = respected g i a b la lb (((decided g i).equal a b la lb).0 e)

@@ -1,9 +1,11 @@
 -- To believe: what holds of the same type, of classes, of leaves and of walks in every graph; all but the laws of walks ask that its arguments are ids of it.
-use Rattle.std.specs.Prelude.{◌≡◌, ◌↔◌, ℕ, true, ◌<◌, ◌≤◌, List, length, map, slice_get}
+use Rattle.std.specs.Prelude.{◌≡◌, ◌↔◌, ℕ, true, false, ◌<◌, ◌≤◌, List, length, map, slice_get}
+use Rattle.std.specs.List.{All}
 use Rattle.type_laws.specs.declared.definition.TypeDef.{TypeDef}
 use Rattle.type_laws.specs.Same.{alike, same, agree_at}
 use Rattle.type_laws.specs.Class.{class_of}
-use Rattle.type_laws.specs.Leaves.{leaves}
+use Rattle.type_laws.specs.Scalars.{is_scalar}
+use Rattle.type_laws.specs.Leaves.{leaves, leaves_at}
 use Rattle.type_laws.specs.Parts.{leads, contains_itself}
 
 -- the same type is an equivalence
@@ -30,6 +32,23 @@ pub record ClassesDecide (graph : List TypeDef) : Type 0 where
 -- the leaves of two that are the same type are the same types, one by one
 abbrev pub LeavesRespect : List TypeDef → Type 0
 LeavesRespect graph = (a b : ℕ) → a < length graph → b < length graph → same graph a b ≡ true →
+    map (class_of graph) (leaves graph a) ≡ map (class_of graph) (leaves graph b)
+
+-- no type contains itself
+abbrev pub IsFinite : List TypeDef → Type 0
+IsFinite graph = (t : ℕ) → t < length graph → contains_itself graph t ≡ false
+
+-- the leaves of a type are by its definition those of its parts
+abbrev pub LeavesUnfold : List TypeDef → Type 0
+LeavesUnfold graph = (t : ℕ) → t < length graph → leaves graph t ≡ leaves_at (leaves graph) t (slice_get graph t)
+
+-- each leaf is a scalar type
+abbrev pub LeavesAreScalar : List TypeDef → Type 0
+LeavesAreScalar graph = (t : ℕ) → All (λ leaf. is_scalar (slice_get graph leaf) ≡ true) (leaves graph t)
+
+-- types of one class have leaves of the same classes
+abbrev pub ClassesDecideLeaves : List TypeDef → Type 0
+ClassesDecideLeaves graph = (a b : ℕ) → a < length graph → b < length graph → class_of graph a ≡ class_of graph b →
     map (class_of graph) (leaves graph a) ≡ map (class_of graph) (leaves graph b)
 
 -- where a walk of any number of steps leads from a to b, one of at most as many steps as there are types and signatures does

@@ -5,6 +5,7 @@ pub mod Parts
 pub mod Leaves
 pub mod Partition
 pub mod Ranks
+pub mod Scalars
 pub mod Laws
 pub mod Counts
 pub mod Examples

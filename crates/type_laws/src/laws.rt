@@ -1,6 +1,6 @@
 // What holds of the same type, of classes and of leaves in every graph.
 ghost use Rattle.type_laws.specs.Same.{IsGraph};
-ghost use Rattle.type_laws.specs.Laws.{IsEquivalence, IsCongruence, IsSteady, ClassesDecide, LeavesRespect, WalksAreCut, ReturnsAreFound};
+ghost use Rattle.type_laws.specs.Laws.{IsEquivalence, IsCongruence, IsSteady, ClassesDecide, LeavesRespect, ClassesDecideLeaves, IsFinite, LeavesUnfold, LeavesAreScalar, WalksAreCut, ReturnsAreFound};
 
 use super::definition::TypeDef;
 
@@ -37,6 +37,28 @@ pub fn classes_decide(graph: &[TypeDef])
 pub fn leaves_respect_the_same_type(graph: &[TypeDef])
     requires { IsGraph graph.now }
     ensures { LeavesRespect graph.now }
+{}
+
+/// Types of one class have as many leaves, of the same classes one by one.
+#[tactic(auto, using(crate::proofs::Respect::class_decides))]
+pub fn classes_decide_leaves(graph: &[TypeDef])
+    requires { IsGraph graph.now }
+    ensures { ClassesDecideLeaves graph.now }
+{}
+
+/// Where no type contains itself, the leaves of a struct are those of its fields, those of an array its element's as often as its
+/// length, those of a hybrid its fixed fields', and a scalar type is its own leaf.
+#[tactic(auto, using(crate::proofs::Unfolds::leaves_are))]
+pub fn leaves_unfold(graph: &[TypeDef])
+    requires graph { IsGraph graph.now }
+    requires finite { IsFinite graph.now }
+    ensures { LeavesUnfold graph.now }
+{}
+
+/// Each leaf is an int or a reference.
+#[tactic(auto, using(crate::proofs::Unfolds::leaves_scalar))]
+pub fn leaves_are_scalar(graph: &[TypeDef])
+    ensures { LeavesAreScalar graph.now }
 {}
 
 /// A walk from wholes to parts, of any number of steps, can be cut to one of at most as many steps as there are types and

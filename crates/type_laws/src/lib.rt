@@ -6,6 +6,7 @@ mod laws;
 
 pub use definition::TypeDef;
 pub use laws::{
-    classes_decide, leaves_respect_the_same_type, same_type_is_a_congruence,
-    same_type_is_an_equivalence, same_type_is_steady, walks_can_be_cut,
+    classes_decide, classes_decide_leaves, leaves_are_scalar, leaves_respect_the_same_type,
+    leaves_unfold, same_type_is_a_congruence, same_type_is_an_equivalence, same_type_is_steady,
+    walks_can_be_cut,
 };

@@ -4,17 +4,16 @@ use Rattle.mu_base.specs.Lists.{Roomy}
 use Rattle.mu_types.specs.Graph.{Table}
 use Rattle.mu_values.specs.declared.scalars.Scalar.{Scalar}
 use Rattle.mu_values.specs.Constants.{value_at}
-use Rattle.check_tables.specs.Bare.{bare}
 use Rattle.bundle_constants.specs.declared.constants.Constant.{Constant}
 use Rattle.bundle_constants.specs.Values.{told}
 use Rattle.bundle_constants.specs.Bundle.{constant_values}
-use Rattle.bundle_constants.specs.Members.{bare_constant, Lawful}
+use Rattle.bundle_constants.specs.Members.{Lawful}
 use Rattle.bundle_constants.proofs.Answered.{AreHeld, lawful_held, values_held, if_ok}
 use Rattle.bundle_constants.proofs.bundle.values.Goals as goal
 
 pub make_all-requires-clause-lawful : goal.make_all-requires-clause-lawful
 make_all-requires-clause-lawful c =
-    subst (λ (cs : List Constant). Lawful (map bare c.classes.result.now.definitions) (map bare_constant cs)) (sym c.as_slice-2.ensures)
+    subst (λ (cs : List Constant). Lawful c.classes.result.now.definitions cs) (sym c.as_slice-2.ensures)
     (lawful_held c.args.tables.now c.args.items.now c.classes.result.now.definitions c.in_ok-constants.constants (record {
       globals = c.requires.globals;
       tables = c.requires.tables;
@@ -30,7 +29,7 @@ returns c =
       tables = c.requires.tables;
       met = c.requires.met;
       types = ap (λ (t : Table). t.definitions) c.classes.ensures.same;
-      constants = ap (λ (cs : List Constant). map bare_constant cs) c.as_slice-2.ensures ∙ c.in_ok-constants.ensures;
+      constants = c.as_slice-2.ensures ∙ c.in_ok-constants.ensures;
     } in
     let many : c.in_ok-many.many ≡ length c.as_slice-2.result.now = c.in_ok-many.ensures ∙ ap (λ (cs : List Constant). length cs) (c.as_slice.ensures ∙ sym c.as_slice-2.ensures) in
     if_ok (λ (all : List (Roomy Scalar)). length all ≡ c.in_ok-many.many) (λ (all : List (Roomy Scalar)). (n : ℕ) → n < c.in_ok-many.many → told (map (λ v. v.members) all) n ≡ value_at c.in_ok-made.made n)

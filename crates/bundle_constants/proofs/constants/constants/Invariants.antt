@@ -1,10 +1,9 @@
 use Rattle.std.proofs.Common.{◌≡◌, ◌++◌, length, map}
 use Rattle.bundle_constants.specs.Bundle.{constants_of}
-use Rattle.bundle_constants.specs.Members.{bare_constant}
 use Rattle.bundle_constants.proofs.constants.constants.Given as goal
 
 abbrev pub invariant-each : goal.invariant-each
-invariant-each l = map bare_constant l.all ++ constants_of l.globals l.left ≡ constants_of l.globals l.fn.items
+invariant-each l = l.all ++ constants_of l.globals l.left ≡ constants_of l.globals l.fn.items
 
 abbrev pub decreases-each : goal.decreases-each
 decreases-each l = length l.left

@@ -1,11 +1,10 @@
 use Rattle.std.proofs.Common.{length, map, vec_len}
-use Rattle.check_tables.specs.Bare.{bare}
-use Rattle.bundle_constants.specs.Members.{bare_constant, IsMaking, AreLeft}
+use Rattle.bundle_constants.specs.Members.{IsMaking, AreLeft}
 use Rattle.bundle_constants.proofs.making.make_all.Given as goal
 
 abbrev pub invariant-pass : goal.invariant-pass
 invariant-pass l = record {
-  making : IsMaking (map bare l.classes.definitions) (map bare_constant l.constants) l.making;
+  making : IsMaking l.classes.definitions l.constants l.making;
   left : AreLeft (length l.constants) l.making.done.items l.left.items;
 }
 

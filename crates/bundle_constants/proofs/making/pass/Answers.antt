@@ -1,14 +1,12 @@
-use Rattle.std.proofs.Common.{◌≡◌, ◌<◌, ◌++◌, ◌∷◌, [], false, List, ℕ, length, map, slice_get, vec_len, subst, sym, ◌∙◌}
+use Rattle.std.proofs.Common.{◌≡◌, ◌<◌, ◌++◌, ◌∷◌, [], false, List, ℕ, length, slice_get, vec_len, refl, subst, sym, ◌∙◌}
 use Rattle.std.proofs.lemmas.Bool.{false≢true}
-use Rattle.std.proofs.lemmas.List.{length-map}
-use Rattle.check_tables.specs.Bare.{bare}
-use Rattle.bundle_constants.specs.Members.{bare_constant, is_ready_at}
+use Rattle.bundle_constants.specs.Members.{is_ready_at}
 use Rattle.bundle_constants.proofs.Passes.{IsPass, kept_more, fewer_kept, is_empty}
 use Rattle.bundle_constants.proofs.making.pass.Goals as goal
 
 pub each-preserved : goal.each-preserved
 each-preserved c =
-    let constants = map bare_constant c.args.constants.now in
+    let constants = c.args.constants.now in
     let many = length c.args.constants.now in
     let total = vec_len c.args.left in
     let ready : is_ready_at c.each.making.done.items (slice_get constants c.in-Some.n) ≡ false =
@@ -22,10 +20,10 @@ each-preserved c =
 
 pub returns-clause-fewer : goal.returns-clause-fewer
 returns-clause-fewer c =
-    let constants = map bare_constant c.args.constants.now in
+    let constants = c.args.constants.now in
     let long : vec_len c.each.left ≡ length c.each.left.items = c.each.left.ok.0 in
     let none : 0 < length c.each.left.items → ⊥ = λ some. false≢true (c.in_default.ensures.variant.1 (subst (λ (n : ℕ). 0 < n) (sym long) some)) in
     let kept : vec_len c.each.kept ≡ length c.each.kept.items = c.each.kept.ok.0 in
     λ some. subst (λ (n : ℕ). n < vec_len c.args.left) (sym kept)
-    (fewer_kept (map bare c.args.classes.now.definitions) (length c.args.constants.now) (vec_len c.args.left) constants c.each.making.done.items c.each.left.items c.each.kept.items c.requires.lawful
-    (sym (length-map c.args.constants.now bare_constant)) (is_empty c.each.left.items none) c.each.invariant.state some)
+    (fewer_kept c.args.classes.now.definitions (length c.args.constants.now) (vec_len c.args.left) constants c.each.making.done.items c.each.left.items c.each.kept.items c.requires.lawful
+    refl (is_empty c.each.left.items none) c.each.invariant.state some)

@@ -1,13 +1,12 @@
 use Rattle.std.proofs.Common.{length, map, vec_len}
-use Rattle.check_tables.specs.Bare.{bare}
-use Rattle.bundle_constants.specs.Members.{bare_constant, IsMaking}
+use Rattle.bundle_constants.specs.Members.{IsMaking}
 use Rattle.bundle_constants.proofs.Passes.{IsPass}
 use Rattle.bundle_constants.proofs.making.pass.Given as goal
 
 abbrev pub invariant-each : goal.invariant-each
 invariant-each l = record {
-  making : IsMaking (map bare l.classes.definitions) (map bare_constant l.constants) l.making;
-  state : IsPass (length l.constants) (vec_len l.fn.left) (map bare_constant l.constants) l.making.done.items l.left.items l.kept.items;
+  making : IsMaking l.classes.definitions l.constants l.making;
+  state : IsPass (length l.constants) (vec_len l.fn.left) l.constants l.making.done.items l.left.items l.kept.items;
 }
 
 abbrev pub decreases-each : goal.decreases-each

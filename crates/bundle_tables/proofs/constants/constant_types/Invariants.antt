@@ -5,8 +5,8 @@ use Rattle.bundle_tables.proofs.constants.constant_types.Given as goal
 
 abbrev pub invariant-each : goal.invariant-each
 invariant-each l = record {
-  same : l.types.members ++ constant_types l.globals l.left ≡ constant_types l.globals l.fn.items;
-  below : All (λ t. t < l.globals.counts.written) l.types.members;
+  same : l.types ++ constant_types l.globals l.left ≡ constant_types l.globals l.fn.items;
+  below : All (λ t. t < l.globals.counts.written) l.types;
 }
 
 abbrev pub decreases-each : goal.decreases-each

@@ -4,7 +4,7 @@ use Rattle.bundle_tables.specs.Rules.{constants_demands}
 use Rattle.bundle_tables.proofs.constants.judge_constants.Given as goal
 
 abbrev pub invariant-each : goal.invariant-each
-invariant-each l = first_unmet (constants_demands l.tables l.types.members l.left) ≡ first_unmet (constants_demands l.tables l.types.members l.fn.items)
+invariant-each l = first_unmet (constants_demands l.tables l.types l.left) ≡ first_unmet (constants_demands l.tables l.types l.fn.items)
 
 abbrev pub decreases-each : goal.decreases-each
 decreases-each l = length l.left

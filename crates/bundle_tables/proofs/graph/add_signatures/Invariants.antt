@@ -1,13 +1,12 @@
 use Rattle.std.proofs.Common.{◌≡◌, ◌++◌, ◌+◌, ◌≤◌, length, map}
-use Rattle.check_tables.specs.Bare.{bare}
-use Rattle.bundle_tables.specs.Inner.{bare_ids, AllBelow}
+use Rattle.bundle_tables.specs.Inner.{AllBelow}
 use Rattle.bundle_tables.specs.Graph.{signatures_of, signature_places}
 use Rattle.bundle_tables.proofs.graph.add_signatures.Given as goal
 
 abbrev pub invariant-each : goal.invariant-each
 invariant-each l = record {
-  definitions : map bare l.graph.definitions ++ signatures_of l.globals l.left ≡ map bare l.fn.graph.definitions ++ signatures_of l.globals l.fn.items;
-  places : map bare_ids l.graph.places ++ signature_places l.left ≡ map bare_ids l.fn.graph.places ++ signature_places l.fn.items;
+  definitions : l.graph.definitions ++ signatures_of l.globals l.left ≡ l.fn.graph.definitions ++ signatures_of l.globals l.fn.items;
+  places : l.graph.places ++ signature_places l.left ≡ l.fn.graph.places ++ signature_places l.fn.items;
   below : AllBelow (l.globals.counts.written + l.globals.counts.signatures) l.fn.graph.definitions → AllBelow (l.globals.counts.written + l.globals.counts.signatures) l.graph.definitions;
   count : length l.graph.definitions + length l.left ≤ length l.fn.graph.definitions + length l.fn.items;
 }

@@ -5,8 +5,8 @@ use Rattle.bundle_tables.proofs.graph.type_ids.Given as goal
 
 abbrev pub invariant-each : goal.invariant-each
 invariant-each l = record {
-  same : l.numbers.members ++ type_ids l.globals l.left ≡ type_ids l.globals l.fn.names;
-  below : All (λ n. n < l.globals.counts.written + l.globals.counts.signatures) l.numbers.members;
+  same : l.numbers ++ type_ids l.globals l.left ≡ type_ids l.globals l.fn.names;
+  below : All (λ n. n < l.globals.counts.written + l.globals.counts.signatures) l.numbers;
 }
 
 abbrev pub decreases-each : goal.decreases-each
