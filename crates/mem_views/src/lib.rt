@@ -15,4 +15,3 @@ mod view_memory;
 
 pub use clocks::Clock;
 pub use view_memory::ViewMemory;
-
