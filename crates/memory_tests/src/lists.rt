@@ -124,7 +124,15 @@ static INITIAL_SCALARS: [Line; 6] = [
     put!(0, Read, NotAtomic, 0, 0, 0, Scalar::Object(2)),
     put!(0, Read, NotAtomic, 2, 1, 0, Scalar::Object(3)),
     put!(0, Read, NotAtomic, 3, 0, 0, int!(7)),
-    put!(0, Read, NotAtomic, 1, 0, 0, Scalar::Place { object: 4, at: 1 }),
+    put!(
+        0,
+        Read,
+        NotAtomic,
+        1,
+        0,
+        0,
+        Scalar::Place { object: 4, at: 1 }
+    ),
     put!(0, Read, NotAtomic, 4, 1, 0, int!(9)),
 ];
 
@@ -172,7 +180,13 @@ static MESSAGE_PASSING_THROUGH_AN_UPDATE: [Line; 13] = [
     stack!(2, Enter, 2),
     put!(0, Write, NotAtomic, 0, 0, 1, int!(40)),
     put!(0, Write, Release, 1, 0, 1, int!(1)),
-    Line::Choice(1, CellId { object: 1, at: 0 }, Wanted::Swap, 0, chosen!(1, 1, true)),
+    Line::Choice(
+        1,
+        CellId { object: 1, at: 0 },
+        Wanted::Swap,
+        0,
+        chosen!(1, 1, true),
+    ),
     put!(1, Update, Relaxed, 1, 0, 2, int!(2)),
     put!(2, Read, Acquire, 1, 0, 2, int!(2)),
     no_load!(2, NotAtomic, 0, 1),
@@ -235,9 +249,15 @@ static WAKE: [Line; 6] = [
     put!(1, Read, Relaxed, 0, 0, 0, int!(0)),
     Line::Put(Event {
         thread: 0,
-        kind: Kind::Wake { cell: CellId { object: 0, at: 0 }, count: 1 },
+        kind: Kind::Wake {
+            cell: CellId { object: 0, at: 0 },
+            count: 1,
+        },
     }),
-    Line::Put(Event { thread: 1, kind: Kind::Woken { wake: 4 } }),
+    Line::Put(Event {
+        thread: 1,
+        kind: Kind::Woken { wake: 4 },
+    }),
 ];
 
 static FENCED_STORE_BUFFERING: [Line; 8] = [

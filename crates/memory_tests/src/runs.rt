@@ -1,5 +1,5 @@
 // A run of any memory, whose events are given one by one.
-ghost use Rattle.std.specs.Prelude.{◌≡◌, ◌&&◌, ◌==◌, ◌<◌, ◌≤◌, ◌↔◌, ℕ, [], ◌∷◌, true, All, reverse, length, IsTrue, IfOk, OnOk, IfSome};
+ghost use Rattle.std.specs.Prelude.{◌≡◌, ◌+◌, ◌&&◌, ◌==◌, ◌<◌, ◌≤◌, ◌↔◌, ℕ, [], ◌∷◌, true, All, reverse, length, IsTrue, IfOk, OnOk, OnErr, IfSome};
 ghost use Rattle.mem_axioms.specs.Events.{is_wake};
 ghost use Rattle.mem_axioms.specs.Logs.{newest};
 ghost use Rattle.mem_axioms.specs.Objects.{HasCell};
@@ -80,13 +80,10 @@ fn pair(alloc: Global, cells: [Scalar; 2]) -> Result<Value, AllocError>
 }
 
 /// Adds an object of two cells to objects of two cells each.
-fn add_pair<M: Memory>(
-    memory: &mut M,
-    alloc: Global,
-    cells: [Scalar; 2],
-) -> Result<(), AllocError>
+fn add_pair<M: Memory>(memory: &mut M, alloc: Global, cells: [Scalar; 2]) -> Result<(), AllocError>
     requires { All (λ cells. length cells ≡ 2) (M.objects memory.old) }
     ensures count { OnOk result (length (M.objects memory.new) ≡ length (M.objects memory.old) + 1) }
+    ensures refused { OnErr result (M.objects memory.new ≡ M.objects memory.old) }
     ensures pairs { All (λ cells. length cells ≡ 2) (M.objects memory.new) }
     ensures log { M.log memory.new ≡ M.log memory.old }
     ensures rule { M.rule memory.new ≡ M.rule memory.old }
@@ -138,18 +135,15 @@ impl<M: Memory + Drop> Run<M> {
     }
 
     /// The newest position of a cell.
-    fn newest_position<L: Ledger>(
-        &self,
-        thread: u32,
-        cell: CellId,
-        steps: &mut Steps<L>,
-    ) -> u32
+    fn newest_position<L: Ledger>(&self, thread: u32, cell: CellId, steps: &mut Steps<L>) -> u32
         requires thread { is_thread (M.log self.now.memory) thread ≡ true }
         requires cell { HasCell (M.objects self.now.memory) cell }
         requires count { length (M.log self.now.memory) < 1000 }
         ensures { result ≡ newest (M.log self.now.memory) cell }
     {
-        self.memory.choose(thread, cell, &Wanted::Swap, 0, steps).position
+        self.memory
+            .choose(thread, cell, &Wanted::Swap, 0, steps)
+            .position
     }
 
     /// Whether a write or update of that position fits.
