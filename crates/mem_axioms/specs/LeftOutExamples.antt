@@ -27,3 +27,17 @@ z6_u = read 1 Relaxed y 3 3 ∷ write 2 SeqCst y 3 3 ∷ update 1 SeqCst y 2 2 �
 pub weak_outcome_of_z6_u : options C11 zeros z6_u 2 x SeqCst ≡ 1 ∷ []
 unfolding happens_before is_coherent is_seq_cst_ordered meets_axioms options
 weak_outcome_of_z6_u = refl
+
+-- Message passing with SEQ_CST data x and a RELAXED flag y: thread 1 has seen the flag, which synchronizes nothing. A SEQ_CST load of
+-- the data reads 1 alone, as its write stands before it in S. That it reads 0 needs an S in which the load comes first.
+abbrev flag_seen : List Event
+flag_seen = read 1 Relaxed y 1 1 ∷ write 0 Relaxed y 1 1 ∷ write 0 SeqCst x 1 1 ∷ []
+
+pub seq_cst_data_after_a_relaxed_flag : options C11 zeros flag_seen 1 x SeqCst ≡ 1 ∷ []
+unfolding happens_before is_coherent is_seq_cst_ordered meets_axioms options
+seq_cst_data_after_a_relaxed_flag = refl
+
+-- A RELAXED load may read either.
+pub relaxed_data_after_a_relaxed_flag : options C11 zeros flag_seen 1 x Relaxed ≡ 1 ∷ 0 ∷ []
+unfolding happens_before is_coherent is_seq_cst_ordered meets_axioms options
+relaxed_data_after_a_relaxed_flag = refl

@@ -22,8 +22,11 @@
 -- What is left out. The order of the writes of a cell is that of the run, and the total order S of SEQ_CST events is the
 -- order of the log. A read takes only a write that is in the log. So some outcomes that the standards allow do not occur:
 -- load buffering; 2+2W, and whatever else needs a write that stands earlier in its cell's order than in the run; the weak
--- outcome of Z6.U, and that of a chain from a write to a read through SEQ_CST fences that stand on its outside, as both
--- need an S that is not the order of the log. Their absence says nothing about an implementation.
+-- outcome of Z6.U, that of a chain from a write to a read through SEQ_CST fences that stand on its outside, and, most often,
+-- the old data in message passing with SEQ_CST data and a RELAXED flag, as these need an S that is not the order of the
+-- log. Their absence says nothing about an implementation.
+--
+-- A race is judged of an event as it stands, so of a read after its position was picked.
 --
 -- A log is best read from its newest event back: each rule speaks of one event and of its past.
 -- The model, in reading order.

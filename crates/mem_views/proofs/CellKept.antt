@@ -1,5 +1,5 @@
 -- What is kept of a cell with one more event.
-use Rattle.std.proofs.Common.{◌≡◌, ℕ, zero, suc, slice_index, ◌≤◌, ◌+◌, ◌-◌, ◌<◌, Bool, true, false, cond, List, [], ◌∷◌, length, refl, sym, ap, ◌∙◌, arith}
+use Rattle.std.proofs.Common.{◌≡◌, ℕ, zero, suc, slice_index, ◌+◌, ◌-◌, ◌<◌, Bool, true, false, cond, List, [], ◌∷◌, length, refl, sym, ap, ◌∙◌, arith}
 use Rattle.std.specs.Prelude.{◌^◌, Option}
 use Rattle.mu_values.specs.declared.scalars.Scalar.TheVariants.{Null}
 use Rattle.heap_cells.specs.declared.cells.CellId.{CellId}

@@ -15,7 +15,7 @@ use Rattle.clock_laws.specs.Clocks.{Views, views, gains, knows, pends, gives}
 use Rattle.clock_laws.specs.NamedWakes.{names_wake}
 use Rattle.std.specs.Prelude.{Option}
 use Rattle.clocks.specs.Knowing.{known_by}
-use Rattle.clocks.specs.Tables.{table_at, row_at}
+use Rattle.clocks.specs.Tables.{row_at}
 use Rattle.clocks.specs.Spans.{Spans}
 use Rattle.mem_views.specs.CellClocks.{released_at}
 use Rattle.mem_views.specs.Gaining.{takes_atomic, given_of}

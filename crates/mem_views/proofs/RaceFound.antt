@@ -1,5 +1,5 @@
 -- The least of what look-ups for each thread find is the race.
-use Rattle.std.proofs.Common.{◌≡◌, ◌≢◌, ℕ, suc, ◌≤◌, Bool, true, false, cond, not, ◌&&◌, ◌||◌, eqb, ltb, leb, ◌-◌, max, List, ◌∷◌, length, Option, Some, None, slice_index, refl, sym, ap, ◌∙◌, inl, inr, arith}
+use Rattle.std.proofs.Common.{◌≡◌, ◌≢◌, ℕ, suc, ◌≤◌, Bool, true, false, cond, not, ◌&&◌, ◌||◌, eqb, ltb, leb, ◌-◌, List, ◌∷◌, length, Option, Some, None, slice_index, refl, sym, ap, ◌∙◌, inl, inr, arith}
 use Rattle.std.proofs.lemmas.Bool.{false≢true, le-leb, lt-ltb, le-ltb, leb-true, eqb-true, eq-eqb, cases_lt, and_from, and_parts}
 use Rattle.mu_values.specs.declared.scalars.Scalar.{Scalar}
 use Rattle.heap_cells.specs.declared.cells.CellId.{CellId}
@@ -27,14 +27,11 @@ use Rattle.mem_views.proofs.Entries.{entries-after}
 use Rattle.mem_views.proofs.CellsKept.{one-access}
 use Rattle.mem_views.proofs.FloorFound.{form-of}
 use Rattle.mem_views.proofs.ThreadsMade.{fits-named}
-use Rattle.clocks.specs.Tables.{table_at}
-use Rattle.mem_views.specs.Holding.{LogHolds, RowsHold}
-use Rattle.mem_views.specs.declared.rows.Rows.{Rows}
+use Rattle.mem_views.specs.Holding.{LogHolds}
 use Rattle.mem_axioms.specs.Objects.{initial_of}
 use Rattle.mem_axioms.specs.EventFits.{EventFits}
 use Rattle.mem_axioms.specs.Lemmas.Positions.{form-parts}
 use Rattle.mem_axioms.specs.Lemmas.Kept.{keeps-fit}
-use Rattle.clock_laws.specs.Clocks.{gains}
 
 -- of the accesses of its cell, those that may race with e
 abbrev family_of : Event → Event → Bool

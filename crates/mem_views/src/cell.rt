@@ -7,9 +7,9 @@ ghost use Rattle.clocks.specs.Knowing.{known_by};
 ghost use Rattle.clocks.specs.KeptClocks.{kept_at, Grown};
 ghost use Rattle.mem_views.specs.Indexed.{index_at, accesses_at};
 
-use mem_axioms::event_facts::{atomic, modification, order_in, position_in, seq_cst, update};
 use crate::indexes;
 use clocks::{Clock, ClockList, keep_with};
+use mem_axioms::event_facts::{atomic, modification, order_in, position_in, seq_cst, update};
 use mem_axioms::{Event, Kind, Rule};
 use mu_values::Scalar;
 use std::alloc::{AllocError, Global};

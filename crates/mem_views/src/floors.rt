@@ -6,10 +6,10 @@ ghost use Rattle.mem_views.specs.Looks.{IsMade, IsFew, AllMade, AllFew};
 ghost use Rattle.mem_views.specs.FloorLooks.{IsFound, FoundFloor};
 
 use crate::cell::CellViews;
-use mem_axioms::event_facts::seq_cst;
 use crate::look_ups::{floor_over, greater};
 use crate::rows::Rows;
 use clocks::Clock;
+use mem_axioms::event_facts::seq_cst;
 use mu_base::{Order, Steps};
 use std::sync::ledger::Ledger;
 use write_history::AccessIndex;

@@ -9,9 +9,9 @@ ghost use Rattle.mem_views.specs.RowsAdded.{row_gains};
 ghost use Rattle.mem_views.specs.Gaining.{takes_atomic, given_of};
 
 use crate::cell::{CellViews, number_at};
-use mem_axioms::event_facts::{acquire, atomic, order_in, release, taken_by};
 use crate::rows::Rows;
 use clocks::{Clock, ClockList, ThreadClocks, clock_under};
+use mem_axioms::event_facts::{acquire, atomic, order_in, release, taken_by};
 use mem_axioms::{Event, Kind, Mode};
 use mu_base::Order;
 

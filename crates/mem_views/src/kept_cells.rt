@@ -17,10 +17,10 @@ ghost use Rattle.mem_views.specs.Holding.{CellsHold};
 ghost use Rattle.mem_views.specs.declared.cell.CellViews.{CellViews};
 
 use crate::cell::CellViews;
-use mem_axioms::event_facts::cell_of;
 use crate::places::Places;
 use clocks::{Clock, ClockList};
 use heap_cells::CellId;
+use mem_axioms::event_facts::cell_of;
 use mem_axioms::{Event, Rule};
 use std::alloc::{AllocError, Global};
 

@@ -4,10 +4,10 @@ ghost use Rattle.mem_views.specs.Looks.{IsMade, IsFew, AllMade, AllFew};
 ghost use Rattle.mem_views.specs.Racing.{race_indexes, IsFirstUnknown};
 
 use crate::cell::{CellViews, not_atomic};
-use mem_axioms::event_facts::modification;
 use crate::look_ups::first_unknown;
 use clocks::Clock;
 use mem_axioms::Event;
+use mem_axioms::event_facts::modification;
 use mu_base::Steps;
 use std::sync::ledger::Ledger;
 use write_history::AccessIndex;

@@ -8,9 +8,9 @@ ghost use Rattle.clocks.specs.Knowing.{known_by};
 ghost use Rattle.clocks.specs.Tables.{table_at, row_at};
 ghost use Rattle.mem_views.specs.Indexed.{index_at, accesses_at};
 
-use mem_axioms::event_facts::{fence, order_in, release, seq_cst_fence};
 use crate::indexes;
 use clocks::{Clock, ClockTable, EventClocks, ThreadClocks};
+use mem_axioms::event_facts::{fence, order_in, release, seq_cst_fence};
 use mem_axioms::{Event, Kind};
 use std::alloc::{AllocError, Global};
 use write_history::AccessIndex;

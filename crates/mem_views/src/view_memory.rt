@@ -25,7 +25,6 @@ ghost use Rattle.mem_views.specs.Differing.{differs_from, floor_bound, looks_bou
 ghost use Rattle.mem_axioms.specs.Lemmas.Downward.{below};
 
 use crate::cell::CellViews;
-use mem_axioms::event_facts::{cell_of, is_same_scalar, seq_cst};
 use crate::floors::{fences_before, found_floor, greatest_of_kinds, last_fence};
 use crate::gains::{gain, given_by, taken_from};
 use crate::kept_cells;
@@ -34,6 +33,7 @@ use crate::racing::first_racing;
 use crate::rows::Rows;
 use clocks::{Clock, ClockList};
 use heap_cells::CellId;
+use mem_axioms::event_facts::{cell_of, is_same_scalar, seq_cst};
 use mem_axioms::{Chosen, Event, Kind, Memory, Race, Room, Rule, Wanted};
 use mu_base::{Order, Steps};
 use mu_values::{Scalar, Value};

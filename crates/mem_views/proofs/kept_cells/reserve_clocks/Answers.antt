@@ -1,4 +1,4 @@
-use Rattle.std.proofs.Common.{ℕ, zero, suc, ◌≤◌, ◌≡◌, refl, length, arith}
+use Rattle.std.proofs.Common.{ℕ, zero, suc, ◌≡◌, refl, length, arith}
 use Rattle.clocks.specs.KeptClocks.{Grown, kept_at}
 use Rattle.clocks.specs.Spans.{Spans, span_at}
 use Rattle.mem_views.proofs.CellsKept.{cells-grown}

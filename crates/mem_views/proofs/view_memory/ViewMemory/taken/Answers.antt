@@ -1,4 +1,4 @@
-use Rattle.std.proofs.Common.{◌∙◌, sym}
+use Rattle.std.proofs.Common.{sym}
 use Rattle.clock_laws.specs.Clocks.{views}
 use Rattle.mem_views.proofs.Gained.{none-taken, untaken-are}
 use Rattle.mem_views.proofs.view_memory.ViewMemory.taken.Goals as goal
