@@ -8,8 +8,9 @@ use std::alloc::{AllocError, Global};
 use std::process::Abort;
 use std::test::Fail;
 
+// The constant `@both` has a member before it and one behind it, where its type stands too.
 const TEXT: &[u8] =
-    b".typedef @i64 = int<64> .typedef @i1 = int<1> .funcsig @s = (@i64) -> (@i64) .funcsig @m = () -> (@i64) .const @a <@i64> = 7 .global @g <@i1> .funcdecl @d <@m> .funcdef @f VERSION %v <@s> { %e(<@i64> %x): %y = ADD <@i64> %x @a RET (%y) %h() [%z]: RET (@a) } .funcdef @main VERSION %w <@m> { %e(): %r = CALL <@s> @f (@a) RET (%r) }";
+    b".typedef @i64 = int<64> .typedef @i1 = int<1> .funcsig @s = (@i64) -> (@i64) .funcsig @m = () -> (@i64) .const @a <@i64> = 7 .global @g <@i1> .funcdecl @d <@m> .funcdef @f VERSION %v <@s> { %e(<@i64> %x): %y = ADD <@i64> %x @a RET (%y) %h() [%z]: RET (@a) } .funcdef @main VERSION %w <@m> { %e(): %r = CALL <@s> @f (@a) RET (%r) } .const @both <@pair> = {@a @on} .const @on <@i1> = -1 .typedef @pair = struct<@i64 @i1>";
 
 // A checked bundle is dropped at one place alone, since each place is proved: the tests lend it.
 fn checked(alloc: Global, text: &[u8]) -> Result<Checked, Fail> {
@@ -35,10 +36,12 @@ fn enters(rt: &impl Abort, code: &Checked) {
 }
 
 fn knows_constants(rt: &impl Abort, code: &Checked) {
-    assert_eq!(rt; code.constants(), 1);
+    assert_eq!(rt; code.constants(), 3);
     assert_eq!(rt; code.constant_type(0), 0);
     let seven = Scalar::Int { width: 64, bits: 7 };
+    let one = Scalar::Int { width: 1, bits: 1 };
     assert_eq!(rt; code.constant(0).as_slice(), [seven].as_slice());
+    assert_eq!(rt; code.constant(1).as_slice(), [seven, one].as_slice());
 }
 
 fn knows_globals(rt: &impl Abort, code: &Checked) {

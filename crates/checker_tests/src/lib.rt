@@ -1,9 +1,5 @@
-//! Tests of the checker over texts: what its calls answer once each, from the bytes of a bundle up.
+//! A test of the checker from a text up: what each call on a checked bundle answers.
 #![tactic(auto)]
 
 #[cfg(test)]
 mod checked;
-#[cfg(test)]
-mod constants;
-#[cfg(test)]
-mod tables;

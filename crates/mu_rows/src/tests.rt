@@ -1,4 +1,5 @@
-// What `mu` writes, and its status, where no clause of its contract says it: whole texts, faults of files and of the sink, limits.
+// What `mu` writes, and its status, where no clause of its contract says it: whole texts, faults of files and of the sink, the limit of
+// a file. More texts are shown by the cases of the built program.
 use mu_base::{File, MemoryInputs, MemorySink, Status, Text, Words};
 use mu_command::mu;
 use std::alloc::{AllocError, Global};
@@ -44,7 +45,7 @@ fn writes(
 }
 
 // What the program writes of a bundle's bytes, and its status, where nothing fails.
-pub(crate) fn answers(
+fn answers(
     rt: &impl Abort,
     alloc: Global,
     all: &[&str],
@@ -120,7 +121,16 @@ fn runs(rt: HostRuntime) -> Result<(), Fail> {
     Ok(())
 }
 
-const CHECKS: [Row; 6] = [
+const TWO_NAMES: &str =
+    ".typedef @i1 = int<1> .typedef @i8 = int<8> .typedef @i32 = int<32> .typedef @i64 = int<64> .typedef @void = void .typedef @rv = ref<@void> .typedef @st = stackref .funcsig @m = () -> () .funcsig @mi = () -> (@i64) .funcsig @gs = (@st) -> () .const @c0 <@i64> = 0 .const @c1 <@i64> = 1 .const @c2 <@i64> = 2 .const @c10 <@i64> = 10 .const @c40 <@i64> = 40 .const @n2 <@i64> = -2 .const @w1 <@i32> = 1 .const @nul <@rv> = NULL .typedef @la = struct<@i64 @ra> .typedef @ra = ref<@la> .typedef @lb = struct<@i64 @rb> .typedef @rb = ref<@lb> .funcsig @f = (@ra) -> (@i64) .const @n <@rb> = NULL .funcdef @g VERSION %v <@f> { %e(<@ra> %p): %q = EQ <@rb> %p @n %z = ZEXT <@i1 @i64> %q RET (%z) } .funcdef @main VERSION %v <@mi> { %e(): %r = CALL <@f> @g (@n) RET (%r) }";
+
+const NAME_AND_OPERAND: &str =
+    ".typedef @a = int<32>\n.typedef @b = int<64>\n.funcsig @s = (@a) -> ()\n.funcdef @f VERSION %v <@s> {\n%e(<@a> %x): %y = ADD <@b> %x %x\nRET () }\n.funcdef @g VERSION %v <@t> {\n%e(<@a> %x): RET () }\n";
+
+const OPERAND: &str =
+    ".typedef @a = int<32>\n.typedef @b = int<64>\n.funcsig @s = (@a) -> ()\n.funcdef @f VERSION %v <@s> {\n%e(<@a> %x): %y = ADD <@b> %x %x\nRET () }\n.funcdef @g VERSION %v <@s> {\n%e(<@a> %x): RET () }\n";
+
+const CHECKS: [Row; 11] = [
     (ADDS_40_AND_2, "ok\n", Status::Done),
     ("", "ok\n", Status::Done),
     (
@@ -144,6 +154,25 @@ const CHECKS: [Row; 6] = [
         "refused bundle 47 Duplicate\n",
         Status::Refused,
     ),
+    (
+        ".typedef @a = struct<@a>",
+        "refused bundle 9 EndlessType\n",
+        Status::Refused,
+    ),
+    (
+        ".typedef @a = struct<@r> .typedef @r = ref<@a>",
+        "ok\n",
+        Status::Done,
+    ),
+    // Two names of one recursive type.
+    (TWO_NAMES, "ok\n", Status::Done),
+    // A name that nothing defines comes before an operand of another type.
+    (
+        NAME_AND_OPERAND,
+        "refused bundle 165 Unknown\n",
+        Status::Refused,
+    ),
+    (OPERAND, "refused bundle 126 OperandType\n", Status::Refused),
 ];
 
 #[test]
@@ -334,205 +363,5 @@ fn files_at_the_limit(rt: HostRuntime) -> Result<(), Fail> {
         "too long bundle\n",
         Status::TooLong,
     )?;
-    Ok(())
-}
-
-// Bytes that are no text, or hardly one, and what is written of them.
-type Hostile = (&'static [u8], &'static str);
-
-const HOSTILE: [Hostile; 5] = [
-    (b"@", "refused bundle 0 BadName\n"),
-    (b"\x80", "refused bundle 0 BadByte\n"),
-    (
-        b".typedef @a = int<340282366920938463463374607431768211456>",
-        "refused bundle 18 NumberTooLarge\n",
-    ),
-    (b".typedef @a = int<09>", "refused bundle 18 BadByte\n"),
-    // A number in octal, which is no width.
-    (
-        b".typedef @a = int<012>",
-        "refused bundle 18 WrongArgument\n",
-    ),
-];
-
-fn each_is_refused(rt: &impl Abort, alloc: Global, rows: &[Hostile]) -> Result<(), AllocError> {
-    for (bundle, text) in rows {
-        let bytes = Vec::from_slice(alloc, bundle)?;
-        answers(rt, alloc, &["check", "b"], bytes, text, Status::Refused)?;
-    }
-    Ok(())
-}
-
-#[test]
-fn refuses_hostile_bundles(rt: HostRuntime) -> Result<(), Fail> {
-    each_is_refused(&rt, rt.alloc(), &HOSTILE)?;
-    let long = repeated(rt.alloc(), ".typedef @", "a", 65_536, "")?;
-    answers(
-        &rt,
-        rt.alloc(),
-        &["check", "b"],
-        long,
-        "refused bundle 9 TooLong\n",
-        Status::Refused,
-    )?;
-    Ok(())
-}
-
-// `front`, that many times `piece`, and `back`.
-pub(crate) fn repeated(
-    alloc: Global,
-    front: &str,
-    piece: &str,
-    count: usize,
-    back: &str,
-) -> Result<Vec<u8>, AllocError> {
-    let mut text = Vec::from_slice(alloc, front.as_bytes())?;
-    for _ in 0..count {
-        text.extend_from_slice(piece.as_bytes())?;
-    }
-    text.extend_from_slice(back.as_bytes())?;
-    Ok(text)
-}
-
-// Where the pieces of a limited list begin, a piece, how many may stand, what is behind them, what is answered to so many, whose
-// names and types are at fault, and what to one more.
-type Limit = (
-    &'static str,
-    &'static str,
-    usize,
-    &'static str,
-    &'static str,
-    &'static str,
-);
-
-const LIMITS: [Limit; 14] = [
-    (
-        "",
-        ".global @g <@t> ",
-        16_384,
-        "",
-        "refused bundle 24 Duplicate\n",
-        "refused bundle 262144 TooMany\n",
-    ),
-    (
-        ".funcdef @f VERSION %v <@s> { ",
-        "%b: ",
-        4096,
-        "}",
-        "refused bundle 34 Duplicate\n",
-        "refused bundle 16414 TooMany\n",
-    ),
-    (
-        ".funcdef @f VERSION %v <@s> { %b: ",
-        "RET () ",
-        4096,
-        "}",
-        "refused bundle 24 Unknown\n",
-        "refused bundle 28706 TooMany\n",
-    ),
-    (
-        ".funcdef @f VERSION %v <@s> { %b: SWITCH <@t> %x %d() { ",
-        "@c %d() ",
-        1024,
-        "} }",
-        "refused bundle 24 Unknown\n",
-        "refused bundle 8248 TooMany\n",
-    ),
-    (
-        ".funcsig @s = (",
-        "@t ",
-        256,
-        ") -> ()",
-        "refused bundle 15 Unknown\n",
-        "refused bundle 783 TooMany\n",
-    ),
-    (
-        ".funcsig @s = () -> (",
-        "@t ",
-        256,
-        ")",
-        "refused bundle 21 Unknown\n",
-        "refused bundle 789 TooMany\n",
-    ),
-    (
-        ".typedef @t = struct<",
-        "@t ",
-        256,
-        ">",
-        "refused bundle 9 EndlessType\n",
-        "refused bundle 789 TooMany\n",
-    ),
-    (
-        ".typedef @t = hybrid<",
-        "@t ",
-        256,
-        ">",
-        "refused bundle 21 WrongArgument\n",
-        "refused bundle 789 TooMany\n",
-    ),
-    (
-        ".const @c <@t> = {",
-        "@c ",
-        256,
-        "}",
-        "refused bundle 11 Unknown\n",
-        "refused bundle 786 TooMany\n",
-    ),
-    (
-        ".funcdef @f VERSION %v <@s> { %b(",
-        "<@t> %x ",
-        256,
-        "): }",
-        "refused bundle 46 Duplicate\n",
-        "refused bundle 2081 TooMany\n",
-    ),
-    (
-        ".funcdef @f VERSION %v <@s> { %b: (",
-        "%x ",
-        256,
-        ") = RET () }",
-        "refused bundle 38 Duplicate\n",
-        "refused bundle 803 TooMany\n",
-    ),
-    (
-        ".funcdef @f VERSION %v <@s> { %b: RET (",
-        "%x ",
-        256,
-        ") }",
-        "refused bundle 24 Unknown\n",
-        "refused bundle 807 TooMany\n",
-    ),
-    (
-        ".funcdef @f VERSION %v <@s> { %b: TRAP <",
-        "@t ",
-        256,
-        "> }",
-        "refused bundle 24 Unknown\n",
-        "refused bundle 808 TooMany\n",
-    ),
-    (
-        ".funcdef @f VERSION %v <@s> { %b: TRAP <> KEEPALIVE (",
-        "%x ",
-        256,
-        ") }",
-        "refused bundle 24 Unknown\n",
-        "refused bundle 821 TooMany\n",
-    ),
-];
-
-fn each_is_limited(rt: &impl Abort, alloc: Global, limits: &[Limit]) -> Result<(), AllocError> {
-    for (front, piece, limit, back, at_limit, refusal) in limits {
-        let most = repeated(alloc, front, piece, *limit, back)?;
-        answers(rt, alloc, &["check", "b"], most, at_limit, Status::Refused)?;
-        let mut past = repeated(alloc, front, piece, *limit, piece)?;
-        past.extend_from_slice(back.as_bytes())?;
-        answers(rt, alloc, &["print", "b"], past, refusal, Status::Refused)?;
-    }
-    Ok(())
-}
-
-#[test]
-fn refuses_one_past_each_limit(rt: HostRuntime) -> Result<(), Fail> {
-    each_is_limited(&rt, rt.alloc(), &LIMITS)?;
     Ok(())
 }
