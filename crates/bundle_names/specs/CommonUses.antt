@@ -25,3 +25,5 @@ common_use g f commons.GetThreadlocal = none
 common_use g f (commons.FutexWait t p v) = type_use g t ⨾ operand_use g f p ⨾ operand_use g f v
 -- @uvm.futex.wake < T > ( p n )
 common_use g f (commons.FutexWake t p n) = type_use g t ⨾ operand_use g f p ⨾ operand_use g f n
+-- @uvm.futex.wait_timeout < T > ( p v n )
+common_use g f (commons.FutexWaitTimeout t p v n) = type_use g t ⨾ operand_use g f p ⨾ operand_use g f v ⨾ operand_use g f n

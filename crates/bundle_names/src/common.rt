@@ -45,5 +45,16 @@ pub fn use_in_common(
             use_operand(globals, function, location)?;
             use_operand(globals, function, count)
         }
+        CommonInst::FutexWaitTimeout {
+            of_type,
+            location,
+            value,
+            limit,
+        } => {
+            use_type(globals, of_type)?;
+            use_operand(globals, function, location)?;
+            use_operand(globals, function, value)?;
+            use_operand(globals, function, limit)
+        }
     }
 }

@@ -126,6 +126,7 @@ common_leaves_again (commons.SetThreadlocal reference) = refl
 common_leaves_again commons.GetThreadlocal = refl
 common_leaves_again (commons.FutexWait of_type location value) = refl
 common_leaves_again (commons.FutexWake of_type location count) = refl
+common_leaves_again (commons.FutexWaitTimeout of_type location value limit) = refl
 
 pub leaves_again : (o : Op) → leaves_out (bare_op o) ≡ leaves_out o
 leaves_again (ops.Computation x) = refl

@@ -27,6 +27,10 @@ one_value_words space v = mark space marks.Open ∷ (value_words tight v ++ mark
 unfoldable pub two_values_words : List ℕ → Operand → Operand → List Piece
 two_values_words space v w = mark space marks.Open ∷ (value_words tight v ++ (value_words spaced w ++ mark tight marks.Close ∷ []))
 
+-- ( value value value )
+unfoldable pub three_values_words : List ℕ → Operand → Operand → Operand → List Piece
+three_values_words space v w x = mark space marks.Open ∷ (value_words tight v ++ (value_words spaced w ++ (value_words spaced x ++ mark tight marks.Close ∷ [])))
+
 -- what stands behind COMMINST
 unfoldable pub common_inst_words : CommonInst → List Piece
 common_inst_words (commons.NewStack signature function) =
@@ -38,3 +42,5 @@ common_inst_words (commons.SetThreadlocal reference) = common_name (spelling sym
 common_inst_words commons.GetThreadlocal = common_name (spelling symbols.UvmGetThreadlocal) ∷ no_values
 common_inst_words (commons.FutexWait of_type location value) = common_name (spelling symbols.UvmFutexWait) ∷ (bracketed_words spaced of_type ++ two_values_words spaced location value)
 common_inst_words (commons.FutexWake of_type location count) = common_name (spelling symbols.UvmFutexWake) ∷ (bracketed_words spaced of_type ++ two_values_words spaced location count)
+common_inst_words (commons.FutexWaitTimeout of_type location value limit) =
+    common_name (spelling symbols.UvmFutexWaitTimeout) ∷ (bracketed_words spaced of_type ++ three_values_words spaced location value limit)

@@ -14,7 +14,7 @@ use Rattle.ir_tree.specs.Control.{branch, branch2, switch_case, switch, call, ta
 use Rattle.ir_tree.specs.Objects.{new_object, newhybrid, alloca, allocation, getiref, getfieldiref, getelemiref, shiftiref, getvarpartiref, addressing_form}
 use Rattle.ir_tree.specs.Accesses.{optional_order, load, store, weak, cmpxchg, atomicrmw, fence, access}
 use Rattle.ir_tree.specs.Stacks.{trap, wpexc, watchpoint, wpbranch, trapping_form, returning, killing, swapstack, threadlocal, newthread, stack_switch}
-use Rattle.ir_tree.specs.CommonForms.{one_value, two_values, new_stack, kill_stack, thread_exit, current_stack, set_threadlocal, get_threadlocal, futex_wait, futex_wake, common_inst}
+use Rattle.ir_tree.specs.CommonForms.{one_value, two_values, three_values, new_stack, kill_stack, thread_exit, current_stack, set_threadlocal, get_threadlocal, futex_wait, futex_wake, futex_wait_timeout, common_inst}
 use Rattle.ir_tree.specs.Instructions.{op, label, labelled}
 use Rattle.ir_tree.specs.Blocks.{pair, params, handler, head_rest, head, result}
 use Rattle.ir_tree.specs.Bodies.{results, more_results, body_rest, body}
@@ -28,7 +28,7 @@ use Rattle.ir_print.specs.Control.{switch_case_words, case_list_words, control_w
 use Rattle.ir_print.specs.Objects.{allocation_words, addressing_words}
 use Rattle.ir_print.specs.Accesses.{order_words, weak_words, stored_words, exchanged_words, access_words}
 use Rattle.ir_print.specs.Stacks.{wpexc_words, watched_words, trapping_words, threadlocal_words, ret_with_words, stack_switch_words}
-use Rattle.ir_print.specs.CommonForms.{one_value_words, two_values_words, common_inst_words}
+use Rattle.ir_print.specs.CommonForms.{one_value_words, two_values_words, three_values_words, common_inst_words}
 use Rattle.ir_print.specs.Instructions.{op_words, labelled_words, results_words}
 use Rattle.ir_print.specs.Bodies.{pair_words, handler_words, head_words, block_words, body_words}
 use Rattle.ir_print.specs.Items.{typedef_words, funcsig_words, constant_words, global_cell_words, funcdecl_words, funcdef_words, item_words}
@@ -64,5 +64,5 @@ bundles_are_written :
     × (bundle_again (codes ".global @g<@t>.funcdecl @f<@s>") ≡ Ok (codes ".global @g <@t>\n.funcdecl @f <@s>\n"))
     × (bundle_again (codes "") ≡ Ok (codes ""))
     × (bundle_again (codes ".funcdef@f VERSION%v<@s>{%a:(%x %y)=[%l]CALL<@s>@f() %b(<@t>%x<@u>%y)[%h]:()=COMMINST@uvm.thread_exit(%z)=[%m]COMMINST@uvm.current_stack}") ≡ Ok (codes ".funcdef @f VERSION %v <@s> {\n%a():\n  (%x %y) = [%l] CALL <@s> @f ()\n%b(<@t> %x <@u> %y) [%h]:\n  COMMINST @uvm.thread_exit ()\n  %z = [%m] COMMINST @uvm.current_stack ()\n}\n"))
-unfolding tokens_from tokens_within next_of gap_len words directives common_names elements mark name numeral order global local bracketed bracketed_pair global_list local_list type_list value values dest exc keep pass_values throw_exc new_stack_clause int_type some_types struct_type array_type hybrid_type type_form literal binary compare convert refcast select bracketed_field extractvalue insertvalue computation branch branch2 switch_case switch call tailcall ret throw control new_object newhybrid alloca allocation getiref getfieldiref getelemiref shiftiref getvarpartiref addressing_form optional_order load store weak cmpxchg atomicrmw fence access trap wpexc watchpoint wpbranch trapping_form returning killing swapstack threadlocal newthread stack_switch one_value two_values new_stack kill_stack thread_exit current_stack set_threadlocal get_threadlocal futex_wait futex_wake common_inst op label labelled pair params handler head_rest head result results more_results body_rest body typedef funcsig constant global_cell funcdecl funcdef item bundle listed bracketed_words bracketed_pair_words bracketed_field_words global_list_words local_list_words type_list_words value_words values_words dest_words exc_words keep_words exc_keep_words new_stack_clause_words type_form_words literal_words computation_words switch_case_words case_list_words control_words allocation_words addressing_words order_words weak_words stored_words exchanged_words access_words wpexc_words watched_words trapping_words threadlocal_words ret_with_words stack_switch_words one_value_words two_values_words common_inst_words op_words labelled_words results_words pair_words handler_words head_words block_words body_words typedef_words funcsig_words constant_words global_cell_words funcdecl_words funcdef_words item_words spelling digits
+unfolding tokens_from tokens_within next_of gap_len words directives common_names elements mark name numeral order global local bracketed bracketed_pair global_list local_list type_list value values dest exc keep pass_values throw_exc new_stack_clause int_type some_types struct_type array_type hybrid_type type_form literal binary compare convert refcast select bracketed_field extractvalue insertvalue computation branch branch2 switch_case switch call tailcall ret throw control new_object newhybrid alloca allocation getiref getfieldiref getelemiref shiftiref getvarpartiref addressing_form optional_order load store weak cmpxchg atomicrmw fence access trap wpexc watchpoint wpbranch trapping_form returning killing swapstack threadlocal newthread stack_switch one_value two_values three_values new_stack kill_stack thread_exit current_stack set_threadlocal get_threadlocal futex_wait futex_wake futex_wait_timeout common_inst op label labelled pair params handler head_rest head result results more_results body_rest body typedef funcsig constant global_cell funcdecl funcdef item bundle listed bracketed_words bracketed_pair_words bracketed_field_words global_list_words local_list_words type_list_words value_words values_words dest_words exc_words keep_words exc_keep_words new_stack_clause_words type_form_words literal_words computation_words switch_case_words case_list_words control_words allocation_words addressing_words order_words weak_words stored_words exchanged_words access_words wpexc_words watched_words trapping_words threadlocal_words ret_with_words stack_switch_words one_value_words two_values_words three_values_words common_inst_words op_words labelled_words results_words pair_words handler_words head_words block_words body_words typedef_words funcsig_words constant_words global_cell_words funcdecl_words funcdef_words item_words spelling digits
 bundles_are_written = (refl, refl, refl, refl)

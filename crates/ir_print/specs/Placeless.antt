@@ -166,6 +166,7 @@ bare_common_inst (commons.SetThreadlocal reference) = commons.SetThreadlocal (ba
 bare_common_inst commons.GetThreadlocal = commons.GetThreadlocal
 bare_common_inst (commons.FutexWait of_type location value) = commons.FutexWait (bare_name of_type) (bare_value location) (bare_value value)
 bare_common_inst (commons.FutexWake of_type location count) = commons.FutexWake (bare_name of_type) (bare_value location) (bare_value count)
+bare_common_inst (commons.FutexWaitTimeout of_type location value limit) = commons.FutexWaitTimeout (bare_name of_type) (bare_value location) (bare_value value) (bare_value limit)
 
 abbrev pub bare_op : Op → Op
 bare_op (ops.Computation x) = ops.Computation (bare_computation x)

@@ -1,7 +1,7 @@
 // Common instructions: those that stand under names.
 ghost use Rattle.std.specs.Prelude.{◌≡◌, ◌++◌, OnOk};
 ghost use Rattle.ir_print.specs.Words.{text};
-ghost use Rattle.ir_print.specs.CommonForms.{one_value_words, two_values_words, common_inst_words};
+ghost use Rattle.ir_print.specs.CommonForms.{one_value_words, two_values_words, three_values_words, common_inst_words};
 
 use crate::lists::{bracketed, value};
 use crate::spellings::spelling;
@@ -32,6 +32,24 @@ fn two_values(
     put(out, space, b"(")?;
     value(out, b"", first)?;
     value(out, b" ", second)?;
+    out.push(b')')?;
+    Ok(())
+}
+
+#[tactic(auto, using(crate::proofs::Texts::text_append), unfolding(crate::specs::CommonForms::three_values_words))]
+fn three_values(
+    out: &mut Vec<u8>,
+    space: &[u8],
+    first: &Operand,
+    second: &Operand,
+    third: &Operand,
+) -> Result<(), AllocError>
+    ensures { OnOk result (out.new.items ≡ out.old.items ++ text (three_values_words space.now first.now second.now third.now)) }
+{
+    put(out, space, b"(")?;
+    value(out, b"", first)?;
+    value(out, b" ", second)?;
+    value(out, b" ", third)?;
     out.push(b')')?;
     Ok(())
 }
@@ -89,6 +107,16 @@ pub fn common_inst(out: &mut Vec<u8>, inst: &CommonInst) -> Result<(), AllocErro
             put(out, b" ", spelling(Symbol::UvmFutexWake))?;
             bracketed(out, b" ", of_type)?;
             two_values(out, b" ", location, count)?;
+        }
+        CommonInst::FutexWaitTimeout {
+            of_type,
+            location,
+            value: expected,
+            limit,
+        } => {
+            put(out, b" ", spelling(Symbol::UvmFutexWaitTimeout))?;
+            bracketed(out, b" ", of_type)?;
+            three_values(out, b" ", location, expected, limit)?;
         }
     }
     Ok(())

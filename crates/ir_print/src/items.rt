@@ -1,5 +1,5 @@
 // Items and bundles.
-ghost use Rattle.std.specs.Prelude.{◌≡◌, ◌++◌, OnOk};
+ghost use Rattle.std.specs.Prelude.{◌≡◌, ◌++◌, OnOk, OnErr};
 ghost use Rattle.ir_print.specs.Words.{text};
 ghost use Rattle.ir_print.specs.Items.{typedef_words, funcsig_words, constant_words, global_cell_words, funcdecl_words, funcdef_words, item_words, bundle_text};
 
@@ -96,9 +96,8 @@ fn item(out: &mut Vec<u8>, space: &[u8], item: &Item) -> Result<(), AllocError>
     Ok(())
 }
 
-/// Appends the canonical text of a bundle. It is refused only for want of memory, and then a part of the text may have been
-/// appended. It takes time in proportion to the text.
-pub fn print_bundle(bundle: &Bundle, out: &mut Vec<u8>) -> Result<(), AllocError>
+// Appends the items, each with a line feed behind it. Where no memory is found a part of them may have been appended.
+fn items(out: &mut Vec<u8>, bundle: &Bundle) -> Result<(), AllocError>
     ensures { OnOk result (out.new.items ≡ out.old.items ++ bundle_text bundle.now) }
 {
     for one in bundle.as_slice() {
@@ -106,4 +105,15 @@ pub fn print_bundle(bundle: &Bundle, out: &mut Vec<u8>) -> Result<(), AllocError
         out.push(b'\n')?;
     }
     Ok(())
+}
+
+/// Appends the canonical text of a bundle. It is refused only for want of memory, and then `out` is as it was: the text is made apart
+/// first. It takes time in proportion to the text, and room for the text twice.
+pub fn print_bundle(bundle: &Bundle, out: &mut Vec<u8>) -> Result<(), AllocError>
+    ensures appended { OnOk result (out.new.items ≡ out.old.items ++ bundle_text bundle.now) }
+    ensures stays { OnErr result (out.new.items ≡ out.old.items) }
+{
+    let mut text = Vec::new(*out.allocator());
+    items(&mut text, bundle)?;
+    out.extend_from_slice(text.as_slice())
 }

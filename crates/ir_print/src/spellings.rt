@@ -23,6 +23,7 @@ pub fn spelling(symbol: Symbol) -> &'static [u8]
         Symbol::UvmGetThreadlocal => b"@uvm.get_threadlocal",
         Symbol::UvmFutexWait => b"@uvm.futex.wait",
         Symbol::UvmFutexWake => b"@uvm.futex.wake",
+        Symbol::UvmFutexWaitTimeout => b"@uvm.futex.wait_timeout",
         Symbol::Int => b"int",
         Symbol::Struct => b"struct",
         Symbol::Array => b"array",

@@ -11,7 +11,7 @@ use Rattle.ir_tree.specs.declared.common.CommonInst.{CommonInst}
 use Rattle.ir_tree.specs.declared.code.Op.{Op}
 use Rattle.ir_tree.specs.declared.code.Op.TheVariants as ops
 use Rattle.ir_tree.specs.declared.code.Inst.{Inst}
-use Rattle.ir_tree.specs.CommonForms.{new_stack, kill_stack, thread_exit, current_stack, set_threadlocal, get_threadlocal, futex_wait, futex_wake, common_inst}
+use Rattle.ir_tree.specs.CommonForms.{new_stack, kill_stack, thread_exit, current_stack, set_threadlocal, get_threadlocal, futex_wait, futex_wake, futex_wait_timeout, common_inst}
 use Rattle.ir_tree.specs.Instructions.{op, op_with, labelled, common_leaves_out, leaves_out}
 use Rattle.ir_tree.specs.Written.{no_values, written_common, written_labelled}
 
@@ -53,11 +53,12 @@ common_plain u y (inr (inr (inr (inl d)))) = inr (inr (inr (inl (alone current_s
 common_plain u y (inr (inr (inr (inr (inl d))))) = inr (inr (inr (inr (inl d))))
 common_plain u y (inr (inr (inr (inr (inr (inl d)))))) = inr (inr (inr (inr (inr (inl (alone get_threadlocal u y d))))))
 common_plain u y (inr (inr (inr (inr (inr (inr (inl d))))))) = inr (inr (inr (inr (inr (inr (inl d))))))
-common_plain u y (inr (inr (inr (inr (inr (inr (inr (inl d)))))))) = inr (inr (inr (inr (inr (inr (inr d))))))
-common_plain u y (inr (inr (inr (inr (inr (inr (inr (inr d)))))))) = absurd d
+common_plain u y (inr (inr (inr (inr (inr (inr (inr (inl d)))))))) = inr (inr (inr (inr (inr (inr (inr (inl d)))))))
+common_plain u y (inr (inr (inr (inr (inr (inr (inr (inr (inl d))))))))) = inr (inr (inr (inr (inr (inr (inr (inr d)))))))
+common_plain u y (inr (inr (inr (inr (inr (inr (inr (inr (inr d))))))))) = absurd d
 
 pub common_list : (u v : List Tok) (y : CommonInst) → common_leaves_out y ≡ true → Brackets v → Derives common_inst u y → Derives written_common (u ++ v) y
-unfolding common_inst written_common new_stack kill_stack set_threadlocal futex_wait futex_wake
+unfolding common_inst written_common new_stack kill_stack set_threadlocal futex_wait futex_wake futex_wait_timeout
 common_list u v y l b (inl (x, d, e)) = no (ap common_leaves_out (sym e) ∙ l)
 common_list u v y l b (inr (inl (x, d, e))) = no (ap common_leaves_out (sym e) ∙ l)
 common_list u v y l b (inr (inr (inl d))) = inr (inr (inl (followed thread_exit u v y d b)))
@@ -66,7 +67,8 @@ common_list u v y l b (inr (inr (inr (inr (inl (x, d, e)))))) = no (ap common_le
 common_list u v y l b (inr (inr (inr (inr (inr (inl d)))))) = inr (inr (inr (inr (inr (inl (followed get_threadlocal u v y d b))))))
 common_list u v y l b (inr (inr (inr (inr (inr (inr (inl (x, d, e)))))))) = no (ap common_leaves_out (sym e) ∙ l)
 common_list u v y l b (inr (inr (inr (inr (inr (inr (inr (inl (x, d, e))))))))) = no (ap common_leaves_out (sym e) ∙ l)
-common_list u v y l b (inr (inr (inr (inr (inr (inr (inr (inr d)))))))) = absurd d
+common_list u v y l b (inr (inr (inr (inr (inr (inr (inr (inr (inl (x, d, e)))))))))) = no (ap common_leaves_out (sym e) ∙ l)
+common_list u v y l b (inr (inr (inr (inr (inr (inr (inr (inr (inr d))))))))) = absurd d
 
 -- as it is read, or as it is read and then ( )
 abbrev Common : List Tok → CommonInst → Type 0
@@ -89,7 +91,8 @@ common_back u y (inr (inr (inr (inl d)))) = parted current_stack u y (λ w e. in
 common_back u y (inr (inr (inr (inr (inl d))))) = inl (inr (inr (inr (inr (inl d)))))
 common_back u y (inr (inr (inr (inr (inr (inl d)))))) = parted get_threadlocal u y (λ w e. inr (inr (inr (inr (inr (inl e)))))) (λ w e. ap common_leaves_out e.2) d
 common_back u y (inr (inr (inr (inr (inr (inr (inl d))))))) = inl (inr (inr (inr (inr (inr (inr (inl d)))))))
-common_back u y (inr (inr (inr (inr (inr (inr (inr d))))))) = inl (inr (inr (inr (inr (inr (inr (inr (inl d))))))))
+common_back u y (inr (inr (inr (inr (inr (inr (inr (inl d)))))))) = inl (inr (inr (inr (inr (inr (inr (inr (inl d))))))))
+common_back u y (inr (inr (inr (inr (inr (inr (inr (inr d)))))))) = inl (inr (inr (inr (inr (inr (inr (inr (inr (inl d)))))))))
 
 -- ---- what an instruction does
 

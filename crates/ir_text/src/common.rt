@@ -5,7 +5,7 @@ ghost use Rattle.text_forms.specs.Reading.{read};
 ghost use Rattle.text_forms.specs.Answers.{Gives};
 ghost use Rattle.ir_lex.specs.TokenForms.{mark};
 ghost use Rattle.ir_tree.specs.Lists.{global};
-ghost use Rattle.ir_tree.specs.CommonForms.{one_value, two_values, new_stack, kill_stack, thread_exit, current_stack, set_threadlocal, get_threadlocal, futex_wait, futex_wake, common_inst};
+ghost use Rattle.ir_tree.specs.CommonForms.{one_value, two_values, three_values, new_stack, kill_stack, thread_exit, current_stack, set_threadlocal, get_threadlocal, futex_wait, futex_wake, futex_wait_timeout, common_inst};
 
 use crate::lists::{bracketed, global, value};
 use ir_lex::{Cursor, Name};
@@ -14,7 +14,7 @@ use std::alloc::Global;
 use text_forms::{ReadError, Symbol};
 
 /// The names that are of no instruction in the profile.
-const LEFT_OUT: [Symbol; 2] = [Symbol::Global, Symbol::UvmFutexWaitTimeout];
+const LEFT_OUT: [Symbol; 1] = [Symbol::Global];
 
 /// `( value )`
 #[tactic(auto, unfolding(ir_tree::specs::CommonForms::one_value))]
@@ -37,6 +37,22 @@ fn two_values(cursor: &mut Cursor, alloc: Global) -> Result<(Operand, Operand), 
     let second = value(cursor, alloc)?;
     cursor.mark(Symbol::Close)?;
     Ok((first, second))
+}
+
+/// `( value value value )`
+#[tactic(auto, unfolding(ir_tree::specs::CommonForms::three_values))]
+fn three_values(
+    cursor: &mut Cursor,
+    alloc: Global,
+) -> Result<(Operand, Operand, Operand), ReadError>
+    ensures { Gives result cursor.new (read three_values cursor.old) }
+{
+    cursor.mark(Symbol::Open)?;
+    let first = value(cursor, alloc)?;
+    let second = value(cursor, alloc)?;
+    let third = value(cursor, alloc)?;
+    cursor.mark(Symbol::Close)?;
+    Ok((first, second, third))
 }
 
 /// `< [ S ] >`
@@ -142,6 +158,22 @@ fn futex_wake(cursor: &mut Cursor, alloc: Global) -> Result<CommonInst, ReadErro
     })
 }
 
+/// `@uvm.futex.wait_timeout < T > ( p v n )`
+#[tactic(auto, unfolding(ir_tree::specs::CommonForms::futex_wait_timeout))]
+fn futex_wait_timeout(cursor: &mut Cursor, alloc: Global) -> Result<CommonInst, ReadError>
+    ensures { Gives result cursor.new (read futex_wait_timeout cursor.old) }
+{
+    cursor.mark(Symbol::UvmFutexWaitTimeout)?;
+    let of_type = bracketed(cursor, alloc)?;
+    let (location, value, limit) = three_values(cursor, alloc)?;
+    Ok(CommonInst::FutexWaitTimeout {
+        of_type,
+        location,
+        value,
+        limit,
+    })
+}
+
 /// Any of them. At every other name the profile leaves an instruction out.
 #[tactic(auto, unfolding(ir_tree::specs::CommonForms::common_inst))]
 pub fn common_inst(cursor: &mut Cursor, alloc: Global) -> Result<CommonInst, ReadError>
@@ -156,6 +188,7 @@ pub fn common_inst(cursor: &mut Cursor, alloc: Global) -> Result<CommonInst, Rea
         Symbol::UvmGetThreadlocal => get_threadlocal(cursor),
         Symbol::UvmFutexWait => futex_wait(cursor, alloc),
         Symbol::UvmFutexWake => futex_wake(cursor, alloc),
+        Symbol::UvmFutexWaitTimeout => futex_wait_timeout(cursor, alloc),
         _ => Err(ReadError::Fault(cursor.refusal(&LEFT_OUT))),
     }
 }

@@ -17,6 +17,10 @@ one_value = mark symbols.Open ▸ value ◂ mark symbols.Close
 unfoldable pub two_values : Form (Operand × Operand)
 two_values = mark symbols.Open ▸ both value value ◂ mark symbols.Close
 
+-- ( value value value )
+unfoldable pub three_values : Form (Operand × Operand × Operand)
+three_values = made (λ x. (x.0, x.1.0, x.1.1)) (mark symbols.Open ▸ both value (both value value) ◂ mark symbols.Close)
+
 -- @uvm.new_stack < [ S ] > ( f )
 unfoldable pub new_stack : Form CommonInst
 new_stack =
@@ -51,9 +55,13 @@ futex_wait = made (λ x. commons.FutexWait x.0 x.1.0 x.1.1) (mark symbols.UvmFut
 unfoldable pub futex_wake : Form CommonInst
 futex_wake = made (λ x. commons.FutexWake x.0 x.1.0 x.1.1) (mark symbols.UvmFutexWake ▸ both bracketed two_values)
 
+-- @uvm.futex.wait_timeout < T > ( p v n )
+unfoldable pub futex_wait_timeout : Form CommonInst
+futex_wait_timeout = made (λ x. commons.FutexWaitTimeout x.0 x.1.0 x.1.1 x.1.2) (mark symbols.UvmFutexWaitTimeout ▸ both bracketed three_values)
+
 -- every other name is of an instruction that the profile leaves out
 abbrev pub left_out_names : List Symbol
-left_out_names = symbols.Global ∷ symbols.UvmFutexWaitTimeout ∷ []
+left_out_names = symbols.Global ∷ []
 
 unfoldable pub common_inst : Form CommonInst
 common_inst =
@@ -65,4 +73,5 @@ common_inst =
     (on (symbols.UvmGetThreadlocal ∷ []) get_threadlocal
     (on (symbols.UvmFutexWait ∷ []) futex_wait
     (on (symbols.UvmFutexWake ∷ []) futex_wake
-    (left_out left_out_names commons.ThreadExit))))))))
+    (on (symbols.UvmFutexWaitTimeout ∷ []) futex_wait_timeout
+    (left_out left_out_names commons.ThreadExit)))))))))

@@ -18,7 +18,7 @@ use Rattle.ir_tree.specs.Control.{branch, branch2, switch_case, switch, call, ta
 use Rattle.ir_tree.specs.Objects.{new_object, newhybrid, alloca, allocation, getiref, getfieldiref, getelemiref, shiftiref, getvarpartiref, addressing_form}
 use Rattle.ir_tree.specs.Accesses.{optional_order, load, store, weak, cmpxchg, atomicrmw, fence, access}
 use Rattle.ir_tree.specs.Stacks.{trap, wpexc, watchpoint, wpbranch, trapping_form, returning, killing, swapstack, threadlocal, newthread, stack_switch}
-use Rattle.ir_tree.specs.CommonForms.{one_value, two_values, new_stack, kill_stack, thread_exit, current_stack, set_threadlocal, get_threadlocal, futex_wait, futex_wake, common_inst}
+use Rattle.ir_tree.specs.CommonForms.{one_value, two_values, three_values, new_stack, kill_stack, thread_exit, current_stack, set_threadlocal, get_threadlocal, futex_wait, futex_wake, futex_wait_timeout, common_inst}
 use Rattle.ir_tree.specs.Instructions.{op, label, labelled}
 use Rattle.ir_tree.specs.Blocks.{pair, params, handler, head_rest, head, result}
 use Rattle.ir_tree.specs.Bodies.{results, more_results, body_rest, body}
@@ -55,5 +55,5 @@ items_are_read :
     × (meaning item (codes ".global @g <@t>") ≡ Ok (items.GlobalCell (record { place = 0; name = (named 8 (codes "@g")); of_type = (named 12 (codes "@t")) })))
     × (meaning item (codes ".funcdecl @f <@s>") ≡ Ok (items.Funcdecl (record { place = 0; name = (named 10 (codes "@f")); signature = (named 14 (codes "@s")) })))
     × (meaning item (codes ".funcdef @f VERSION %v <@s> { %e(): RET () }") ≡ Ok (items.Funcdef (record { place = 0; name = (named 9 (codes "@f")); version = (named 20 (codes "%v")); signature = (named 24 (codes "@s")); blocks = record { head = record { name = (named 30 (codes "%e")); parameters = []; handler = None }; insts = record { place = 36; results = []; label = None; op = ops.ControlFlow (flows.Ret (listed 40 [])) } ∷ [] } ∷ [] })))
-unfolding tokens_from tokens_within next_of gap_len words directives common_names elements mark name numeral order global local bracketed bracketed_pair global_list local_list type_list value values dest exc keep pass_values throw_exc new_stack_clause int_type some_types struct_type array_type hybrid_type type_form literal binary compare convert refcast select bracketed_field extractvalue insertvalue computation branch branch2 switch_case switch call tailcall ret throw control new_object newhybrid alloca allocation getiref getfieldiref getelemiref shiftiref getvarpartiref addressing_form optional_order load store weak cmpxchg atomicrmw fence access trap wpexc watchpoint wpbranch trapping_form returning killing swapstack threadlocal newthread stack_switch one_value two_values new_stack kill_stack thread_exit current_stack set_threadlocal get_threadlocal futex_wait futex_wake common_inst op label labelled pair params handler head_rest head result results more_results body_rest body typedef funcsig constant global_cell funcdecl funcdef item
+unfolding tokens_from tokens_within next_of gap_len words directives common_names elements mark name numeral order global local bracketed bracketed_pair global_list local_list type_list value values dest exc keep pass_values throw_exc new_stack_clause int_type some_types struct_type array_type hybrid_type type_form literal binary compare convert refcast select bracketed_field extractvalue insertvalue computation branch branch2 switch_case switch call tailcall ret throw control new_object newhybrid alloca allocation getiref getfieldiref getelemiref shiftiref getvarpartiref addressing_form optional_order load store weak cmpxchg atomicrmw fence access trap wpexc watchpoint wpbranch trapping_form returning killing swapstack threadlocal newthread stack_switch one_value two_values three_values new_stack kill_stack thread_exit current_stack set_threadlocal get_threadlocal futex_wait futex_wake futex_wait_timeout common_inst op label labelled pair params handler head_rest head result results more_results body_rest body typedef funcsig constant global_cell funcdecl funcdef item
 items_are_read = (refl, refl, refl, refl, refl, refl)

@@ -12,7 +12,7 @@ use Rattle.ir_tree.specs.declared.common.CommonInst.TheVariants as commons
 use Rattle.ir_tree.specs.declared.code.Op.TheVariants as ops
 use Rattle.ir_tree.specs.Lists.{global, local, bracketed, local_list, type_list, value, values, dest, exc, keep, pass_values, throw_exc, new_stack_clause}
 use Rattle.ir_tree.specs.Stacks.{trap, wpexc, watchpoint, wpbranch, trapping_form, returning, killing, swapstack, threadlocal, newthread, stack_switch}
-use Rattle.ir_tree.specs.CommonForms.{one_value, two_values, new_stack, kill_stack, thread_exit, current_stack, set_threadlocal, get_threadlocal, futex_wait, futex_wake, common_inst}
+use Rattle.ir_tree.specs.CommonForms.{one_value, two_values, three_values, new_stack, kill_stack, thread_exit, current_stack, set_threadlocal, get_threadlocal, futex_wait, futex_wake, futex_wait_timeout, common_inst}
 use Rattle.ir_tree.specs.Instructions.{op}
 use Rattle.ir_tree.specs.Samples.{named, plain, meaning, local_at, global_at, listed, goes, exc_to}
 
@@ -31,5 +31,6 @@ stacks_are_read :
     × (meaning op (codes "COMMINST @uvm.get_threadlocal") ≡ Ok (0, ops.Common (commons.GetThreadlocal)))
     × (meaning op (codes "COMMINST @uvm.futex.wait <@t> (%p %v)") ≡ Ok (0, ops.Common (commons.FutexWait (named 26 (codes "@t")) (local_at 31 (codes "%p")) (local_at 34 (codes "%v")))))
     × (meaning op (codes "COMMINST @uvm.futex.wake <@t> (%p %n)") ≡ Ok (0, ops.Common (commons.FutexWake (named 26 (codes "@t")) (local_at 31 (codes "%p")) (local_at 34 (codes "%n")))))
-unfolding tokens_from tokens_within next_of gap_len words directives common_names elements mark name numeral global local bracketed local_list type_list value values dest exc keep pass_values throw_exc new_stack_clause trap wpexc watchpoint wpbranch trapping_form returning killing swapstack threadlocal newthread stack_switch one_value two_values new_stack kill_stack thread_exit current_stack set_threadlocal get_threadlocal futex_wait futex_wake common_inst op
-stacks_are_read = (refl, refl, refl, refl, refl, refl, refl, refl, refl, refl, refl, refl, refl, refl)
+    × (meaning op (codes "COMMINST @uvm.futex.wait_timeout <@t> (%p %v %n)") ≡ Ok (0, ops.Common (commons.FutexWaitTimeout (named 34 (codes "@t")) (local_at 39 (codes "%p")) (local_at 42 (codes "%v")) (local_at 45 (codes "%n")))))
+unfolding tokens_from tokens_within next_of gap_len words directives common_names elements mark name numeral global local bracketed local_list type_list value values dest exc keep pass_values throw_exc new_stack_clause trap wpexc watchpoint wpbranch trapping_form returning killing swapstack threadlocal newthread stack_switch one_value two_values three_values new_stack kill_stack thread_exit current_stack set_threadlocal get_threadlocal futex_wait futex_wake futex_wait_timeout common_inst op
+stacks_are_read = (refl, refl, refl, refl, refl, refl, refl, refl, refl, refl, refl, refl, refl, refl, refl)

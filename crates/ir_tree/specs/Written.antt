@@ -13,7 +13,7 @@ use Rattle.ir_tree.specs.declared.common.CommonInst.{CommonInst}
 use Rattle.ir_tree.specs.declared.code.Inst.{Inst}
 use Rattle.ir_tree.specs.declared.code.Block.{Block}
 use Rattle.ir_tree.specs.Lists.{optional, local}
-use Rattle.ir_tree.specs.CommonForms.{new_stack, kill_stack, thread_exit, current_stack, set_threadlocal, get_threadlocal, futex_wait, futex_wake}
+use Rattle.ir_tree.specs.CommonForms.{new_stack, kill_stack, thread_exit, current_stack, set_threadlocal, get_threadlocal, futex_wait, futex_wake, futex_wait_timeout}
 use Rattle.ir_tree.specs.Instructions.{op_with, labelled_with, with_results}
 use Rattle.ir_tree.specs.Blocks.{head}
 
@@ -30,7 +30,8 @@ written_common =
     (on (symbols.UvmSetThreadlocal ∷ []) set_threadlocal
     (on (symbols.UvmGetThreadlocal ∷ []) (get_threadlocal ◂ no_values)
     (on (symbols.UvmFutexWait ∷ []) futex_wait
-    futex_wake))))))
+    (on (symbols.UvmFutexWake ∷ []) futex_wake
+    futex_wait_timeout)))))))
 
 unfoldable pub written_labelled : Form Inst
 written_labelled = labelled_with (op_with written_common)

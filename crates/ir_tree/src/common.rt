@@ -36,4 +36,11 @@ pub enum CommonInst {
         location: Operand,
         count: Operand,
     },
+    /// `@uvm.futex.wait_timeout < of_type > ( location value limit )`
+    FutexWaitTimeout {
+        of_type: Name,
+        location: Operand,
+        value: Operand,
+        limit: Operand,
+    },
 }
