@@ -86,4 +86,12 @@ impl<T: Copy> Items<T> {
         self.items.push(member)?;
         Ok(())
     }
+
+    /// Takes all members away, and keeps the room.
+    pub fn clear(&mut self)
+        ensures members { self.new.members ≡ [] }
+        ensures spare { self.old.spare ≤ self.new.spare }
+    {
+        self.items.clear();
+    }
 }

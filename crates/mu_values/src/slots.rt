@@ -78,6 +78,16 @@ impl Slots {
         self.scalars.extend_from_slice(member.as_slice())?;
         Ok(())
     }
+
+    /// Takes all values away, and keeps the room.
+    pub fn clear(&mut self)
+        ensures values { self.new.values ≡ [] }
+        ensures spare { self.old.spare ≤ self.new.spare }
+        ensures scalars { self.old.spare_scalars ≤ self.new.spare_scalars }
+    {
+        self.scalars.clear();
+        self.ends.clear();
+    }
 }
 
 /// Where value n begins.
@@ -150,5 +160,14 @@ impl Passed {
         ensures even { length self.types ≡ length self.values }
     {
         (self.types, self.values)
+    }
+
+    /// Takes all values and their types away, and keeps the room.
+    pub fn clear(&mut self)
+        ensures types { self.new.types ≡ [] }
+        ensures values { self.new.values ≡ [] }
+    {
+        self.types.clear();
+        self.values.clear();
     }
 }
