@@ -2,7 +2,7 @@
 use Rattle.std.specs.Prelude.{◌≡◌, false, [], ◌∷◌, Option, Some, None, refl}
 use Rattle.mu_values.specs.declared.scalars.Scalar.TheVariants.{Int, Null}
 use Rattle.frames.specs.Activations.{Activation, Goal}
-use Rattle.frames.specs.Chains.{stands}
+use Rattle.frames.specs.Chains.{stands, nothing_kept}
 use Rattle.frames.specs.Handlers.{first_handler}
 
 -- a frame at instruction 3 of block 7 that waits for a value of class 4
@@ -32,5 +32,5 @@ top_frame_catches = refl
 first_from_the_top_catches : first_handler (waiting None ∷ waiting to_block_8 ∷ waiting None ∷ waiting to_block_8 ∷ []) ≡ Some 1
 first_from_the_top_catches = refl
 
-stands_at_a_block : stands (waiting to_block_8) 8 0 ((Int 8 255 ∷ []) ∷ []) ≡ record (waiting None) { block = 8; at = 0; vars = (Int 8 255 ∷ []) ∷ []; waits = []; kept = record { types = []; values = [] } }
+stands_at_a_block : stands (waiting to_block_8) 8 0 ((Int 8 255 ∷ []) ∷ []) ≡ record (waiting None) { block = 8; at = 0; vars = (Int 8 255 ∷ []) ∷ []; waits = []; kept = nothing_kept }
 stands_at_a_block = refl

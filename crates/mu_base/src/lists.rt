@@ -87,7 +87,7 @@ impl<T: Copy> Items<T> {
         Ok(())
     }
 
-    /// Takes all members away, and keeps the room.
+    /// Takes all members out. The room stays, so that as many may come again without a refusal.
     pub fn clear(&mut self)
         ensures members { self.new.members ≡ [] }
         ensures spare { self.old.spare ≤ self.new.spare }

@@ -79,7 +79,7 @@ impl Slots {
         Ok(())
     }
 
-    /// Takes all values away, and keeps the room.
+    /// Takes all values out. The room stays, so that as many values with as many scalars may come again without a refusal.
     pub fn clear(&mut self)
         ensures values { self.new.values ≡ [] }
         ensures spare { self.old.spare ≤ self.new.spare }
@@ -162,7 +162,7 @@ impl Passed {
         (self.types, self.values)
     }
 
-    /// Takes all values and their types away, and keeps the room.
+    /// Takes all values and their types out. The room stays.
     pub fn clear(&mut self)
         ensures types { self.new.types ≡ [] }
         ensures values { self.new.values ≡ [] }
