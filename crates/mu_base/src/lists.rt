@@ -86,4 +86,12 @@ impl<T: Copy> Items<T> {
         self.items.push(member)?;
         Ok(())
     }
+
+    /// Takes all members out. The room stays, so that as many may come again without a refusal.
+    pub fn clear(&mut self)
+        ensures members { self.new.members ≡ [] }
+        ensures spare { self.old.spare ≤ self.new.spare }
+    {
+        self.items.clear();
+    }
 }

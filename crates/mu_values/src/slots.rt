@@ -207,4 +207,13 @@ impl Passed {
     {
         (self.types, self.values)
     }
+
+    /// Takes all values and their types out. The room stays.
+    pub fn clear(&mut self)
+        ensures types { self.new.types ≡ [] }
+        ensures values { self.new.values ≡ [] }
+    {
+        self.types.clear();
+        self.values.clear();
+    }
 }

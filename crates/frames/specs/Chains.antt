@@ -1,0 +1,20 @@
+-- To believe: the frames of a stack, and where one goes on.
+use Rattle.std.specs.Prelude.{ℕ, false, List, [], ◌∷◌, None}
+use Rattle.mu_values.specs.Slots.{TypedValues}
+use Rattle.frames.specs.Activations.{Activation, Value}
+
+-- the frames of a stack, of which there is always one: the top one, and those below it from the top down
+pub record Chain : Type 0 where
+  pub top : Activation
+  pub below : List Activation
+
+-- all of them, from the top down
+abbrev pub frames_of : Chain → List Activation
+frames_of c = c.top ∷ c.below
+
+abbrev pub nothing_kept : TypedValues
+nothing_kept = record { types = []; values = [] }
+
+-- a frame stands at an instruction of a block with these values of its variables, and waits for nothing; its objects stay
+abbrev pub stands : Activation → ℕ → ℕ → List Value → Activation
+stands f block at vars = record f { block = block; at = at; vars = vars; fresh = false; waits = []; handler = None; kept = nothing_kept }

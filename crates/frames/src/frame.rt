@@ -1,0 +1,31 @@
+use mu_base::{Ids, Types};
+use mu_values::{Passed, Slots};
+
+/// An exceptional destination: a block, by number, with the values of its arguments.
+#[derive(Drop)]
+pub struct Handler {
+    pub block: u32,
+    pub args: Slots,
+}
+
+/// What a function has come to that was entered and did not return yet. Blocks are counted over the bundle, instructions within
+/// their block, both from 0.
+#[derive(Drop)]
+pub struct Frame {
+    /// The block that it stands in.
+    pub block: u32,
+    /// The instruction that it stands at.
+    pub at: u32,
+    /// The values of the block's variables so far, by number.
+    pub slots: Slots,
+    /// Whether it waits for its parameters, before its first instruction.
+    pub fresh: bool,
+    /// The classes of the types of the values that it waits for.
+    pub waits: Types,
+    /// Where an exception goes that comes while it waits.
+    pub handler: Option<Handler>,
+    /// What a client sees of it while it waits.
+    pub kept: Passed,
+    /// The objects that end with it.
+    pub cells: Ids,
+}

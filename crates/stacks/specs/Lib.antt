@@ -1,0 +1,5 @@
+pub mod Stacks
+pub mod Directories
+pub mod DirectoryExamples
+pub mod Lending
+pub mod Kept
