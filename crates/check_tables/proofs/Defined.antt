@@ -1,11 +1,10 @@
 -- The classes of the types that every bundle has are of types that are defined so.
-use Rattle.std.proofs.Common.{◌≡◌, ℕ, zero, suc, ◌+◌, ◌<◌, ◌==◌, ◌&&◌, Bool, true, List, [], ◌∷◌, ◌++◌, length, Option, Some, None, slice_get, refl, sym, ap, subst, arith}
+use Rattle.std.proofs.Common.{◌≡◌, ℕ, suc, ◌+◌, ◌<◌, ◌==◌, Bool, true, List, [], ◌∷◌, ◌++◌, length, Option, Some, None, slice_get, refl, ap, subst, arith}
 use Rattle.std.proofs.lemmas.Bool.{false≢true, and_parts, and_from, eqb-true, eq-eqb}
 use Rattle.std.proofs.lemmas.List.Elements.{All-head}
 use Rattle.std.proofs.lemmas.Option.{slice_get_within}
 use Rattle.type_laws.specs.declared.definition.TypeDef.{TypeDef}
-use Rattle.type_laws.specs.declared.definition.TypeDef.TheVariants.{Int, Struct, Array, Hybrid, Void, Ref, Iref, FuncRef, StackRef, ThreadRef, Sig}
-use Rattle.type_laws.specs.Definition.{arguments}
+use Rattle.type_laws.specs.declared.definition.TypeDef.TheVariants.{Int, Void, Ref, StackRef, ThreadRef}
 use Rattle.type_laws.specs.Same.{agree, agree_at, same, IsGraph}
 use Rattle.type_laws.proofs.Depth.{alike_same, args_within}
 use Rattle.type_laws.proofs.Proved.{found, congruence}
@@ -97,5 +96,5 @@ are_defined w i =
       stackref = stack_told g (length w + 3) head.stack;
       threadref = thread_told g (length w + 4) head.thread;
       ref_void = void_leads g i (length w) (class_like g (Ref (length w))) (slice_get g (class_like g (Ref (length w)))) head.nothing refl
-        (class_told g (Ref (length w)) ref.0 ref.1 (and_from (same g (length w) (length w)) true void_id refl));
+          (class_told g (Ref (length w)) ref.0 ref.1 (and_from (same g (length w) (length w)) true void_id refl));
     }

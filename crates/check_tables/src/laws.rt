@@ -2,7 +2,6 @@
 ghost use Rattle.check_tables.specs.Laws.{ImpliedTypesAreDefined};
 
 /// The classes of `int<1>`, `int<32>`, `stackref`, `threadref` and `ref<void>` are numbers of types that are defined so.
-#[tactic(auto, using(crate::proofs::Defined::are_defined))]
 pub fn implied_types_are_defined()
     ensures { ImpliedTypesAreDefined }
 {}
