@@ -1,9 +1,9 @@
 -- The value of a constant fits the leaves of its type.
 use Rattle.std.specs.Prelude.{pos, neg_ℤ, slice_index}
-use Rattle.std.proofs.Common.{◌≡◌, ℕ, zero, suc, ◌+◌, ◌^◌, ◌<◌, Bool, true, false, List, [], ◌∷◌, ◌++◌, length, map, Option, Some, None, slice_get, if◌then◌else◌, refl, sym, subst, inl, inr, arith}
-use Rattle.std.specs.List.{All, list_any, flat_map}
-use Rattle.std.proofs.lemmas.Bool.{false≢true, cases_lt, eqb-true}
-use Rattle.std.proofs.lemmas.List.Elements.{All-nil, All-cons, All-head, All-tail, All-append, All-weaker}
+use Rattle.std.proofs.Common.{◌≡◌, ℕ, zero, suc, ◌+◌, ◌<◌, Bool, true, false, List, [], ◌∷◌, ◌++◌, length, map, Option, Some, None, slice_get, if◌then◌else◌, refl, sym, subst, arith}
+use Rattle.std.specs.List.{All, flat_map}
+use Rattle.std.proofs.lemmas.Bool.{false≢true, eqb-true}
+use Rattle.std.proofs.lemmas.List.Elements.{All-head, All-tail}
 use Rattle.demands.specs.declared.fault.Fault.TheVariants.{At}
 use Rattle.demands.specs.Demands.{first_unmet}
 use Rattle.demands.proofs.Meeting.{both_met}
@@ -12,12 +12,10 @@ use Rattle.type_laws.specs.declared.definition.TypeDef.TheVariants.{Int, Struct,
 use Rattle.type_laws.specs.Definition.{constructor, number}
 use Rattle.type_laws.specs.Same.{same, IsGraph}
 use Rattle.type_laws.specs.Class.{class_of}
-use Rattle.type_laws.specs.Parts.{parts, parts_at}
-use Rattle.type_laws.specs.Leaves.{times, leaves_by, leaves_at, leaves_to, leaves}
+use Rattle.type_laws.specs.Leaves.{times, leaves_at, leaves}
 use Rattle.type_laws.proofs.Depth.{same_meets}
-use Rattle.type_laws.proofs.Ranks.{by_same}
 use Rattle.type_laws.proofs.Proved.{decided}
-use Rattle.type_laws.proofs.Respect.{respected, front_all}
+use Rattle.type_laws.proofs.Respect.{respected}
 use Rattle.mu_values.specs.declared.scalars.Scalar.{Scalar}
 use Rattle.mu_values.specs.declared.scalars.Scalar.TheVariants as scalars
 use Rattle.mu_values.specs.declared.literals.LiteralKind.{LiteralKind}

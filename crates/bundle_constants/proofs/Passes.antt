@@ -1,27 +1,18 @@
 -- Passes over the constants that are not made: each makes at least one.
-use Rattle.std.specs.Prelude.{IfSome, option_map, slice_index, slice_index_or}
-use Rattle.std.proofs.Common.{◌≡◌, ◌≢◌, ℕ, zero, suc, ◌+◌, ◌-◌, ◌^◌, ◌<◌, ◌≤◌, Bool, true, false, List, [], ◌∷◌, ◌++◌, length, map, set, Option, Some, None, slice_get, refl, sym, ◌∙◌, ap, subst, inl, inr, ◌⊎◌, arith, get_or-set_same, get_or-set_other}
+use Rattle.std.specs.Prelude.{IfSome, slice_index, slice_index_or}
+use Rattle.std.proofs.Common.{◌≡◌, ◌≢◌, ℕ, zero, suc, ◌+◌, ◌<◌, ◌≤◌, Bool, true, false, List, [], ◌∷◌, ◌++◌, length, set, Option, Some, None, slice_get, refl, sym, ◌∙◌, ap, subst, inl, inr, ◌⊎◌, arith, get_or-set_same, get_or-set_other}
 use Rattle.std.specs.List.{All, Contains}
-use Rattle.std.proofs.lemmas.Bool.{false≢true, cases_lt, leb-true, ltb-true}
-use Rattle.std.proofs.lemmas.List.{length-append, length-map, length-set}
+use Rattle.std.proofs.lemmas.Bool.{false≢true, cases_lt}
+use Rattle.std.proofs.lemmas.List.{length-append, length-set}
 use Rattle.std.proofs.lemmas.List.Elements.{All-nil, All-cons, All-append, All-contains, All-weaker, Contains-append_cases, Contains-append_left, Contains-append_right}
 use Rattle.std.proofs.lemmas.List.Sums.{AllPass-from_list_all}
-use Rattle.std.proofs.lemmas.Option.{slice_get-map}
-use Rattle.std.proofs.Math.Pow.{pow-lt}
-use Rattle.demands.specs.declared.fault.Fault.TheVariants.{At}
-use Rattle.demands.specs.Demands.{first_unmet}
 use Rattle.type_laws.specs.declared.definition.TypeDef.{TypeDef}
-use Rattle.type_laws.specs.declared.definition.TypeDef.TheVariants.{Int, Struct, Array, Hybrid, Void, Ref, Iref, FuncRef, StackRef, ThreadRef, Sig}
 use Rattle.mu_values.specs.declared.scalars.Scalar.{Scalar}
-use Rattle.mu_values.specs.declared.literals.Literal.{Literal}
-use Rattle.mu_values.specs.declared.literals.LiteralKind.{LiteralKind}
-use Rattle.mu_values.specs.declared.literals.LiteralKind.TheVariants as literals
-use Rattle.mu_values.specs.declared.literals.ConstKind.TheVariants.{OutOfWidth}
-use Rattle.mu_values.specs.Constants.{width_of, fits, number_demands, kind_value, constant_value, kind_demands, value_at, HasMembers}
+use Rattle.mu_values.specs.Constants.{width_of, constant_value, value_at, HasMembers}
 use Rattle.bundle_constants.specs.declared.constants.Constant.{Constant}
 use Rattle.bundle_constants.specs.declared.making.Making.{Making}
-use Rattle.bundle_constants.specs.Members.{types_of, members_of, is_made, is_ready, is_ready_at, value_by, value_of, Lawful, IsMaking, AreLeft}
-use Rattle.bundle_constants.proofs.Members.{none_stuck, constant_at, not_ready, kind_low, holds_at, value_same, settled_at, met_is}
+use Rattle.bundle_constants.specs.Members.{members_of, is_made, is_ready, is_ready_at, value_by, value_of, Lawful, IsMaking, AreLeft}
+use Rattle.bundle_constants.proofs.Members.{none_stuck, constant_at, not_ready, kind_low, holds_at, value_same, settled_at}
 
 -- ---- one pass, where so many were left: those that are still to be looked at, and those that are kept
 pub record IsPass (many total : ℕ) (cs : List Constant) (done : List Bool) (left kept : List ℕ) : Type 0 where
