@@ -21,6 +21,7 @@ use Rattle.type_laws.specs.declared.definition.TypeDef.{TypeDef}
 use Rattle.type_laws.specs.declared.definition.TypeDef.TheVariants.{Int, Void, Ref, Iref, FuncRef, StackRef, ThreadRef, Sig}
 use Rattle.type_laws.specs.Definition.{arguments}
 use Rattle.type_laws.specs.Same.{IsGraph}
+use Rattle.type_laws.specs.Laws.{IsFinite}
 use Rattle.type_laws.specs.Parts.{parts, parts_at, leads, contains_itself}
 use Rattle.mu_types.specs.declared.limits.TheConstants.{WIDTHS}
 use Rattle.mu_types.specs.Implied.{is_signature, references, references_from, complete}
@@ -38,9 +39,9 @@ use Rattle.bundle_tables.specs.Rules.{constant_number, constant_id, literal_of, 
 use Rattle.bundle_tables.proofs.Counted.{constants_counted, graph_counted}
 use Rattle.bundle_constants.specs.declared.constants.Constant.{Constant}
 use Rattle.bundle_constants.specs.Bundle.{constants_of}
-use Rattle.bundle_constants.specs.Members.{NoneEndless, Lawful}
+use Rattle.bundle_constants.specs.Members.{Lawful}
 use Rattle.bundle_constants.specs.Members as members
-use Rattle.bundle_constants.proofs.Walks.{hit}
+use Rattle.type_laws.proofs.Descents.{hit}
 use Rattle.bundle_constants.proofs.Members.{met_is, holds_at}
 
 -- ---- the types that every graph has behind the written ones
@@ -210,9 +211,9 @@ each_met f (suc many) first (suc k) h l =
 -- a definition without parts, and of no width that is not allowed
 record IsModest (d : TypeDef) : Type 0 where
   pub parts : parts d ≡ []
-  pub widths : (w : ℕ) → width_of (Some d) ≡ Some w → (1 ≤ w) × (w ≤ 64)
+  pub widths : (w : ℕ) → width_of (Some d) ≡ Some w → (1 ≤ w) × (w ≤ 128)
 
-modest_int : (v : ℕ) → 1 ≤ v → v ≤ 64 → IsModest (Int v)
+modest_int : (v : ℕ) → 1 ≤ v → v ≤ 128 → IsModest (Int v)
 modest_int v l m = record { parts = refl; widths = λ w e. let same : v ≡ w = cc in (omega (arith, l, same), omega (arith, m, same)) }
 
 modest_implied : (many : ℕ) → OfImplied IsModest many
@@ -246,8 +247,8 @@ not_true : (b : Bool) → not b ≡ true → b ≡ false
 not_true true h = absurd (false≢true h)
 not_true false h = refl
 
-finite : (w : List TypeDef) (places : List (List ℕ)) → TestsMet (passes (complete w) places (length w)) → NoneEndless (complete w)
-finite w places met = record { each = λ t l. elim (cases_lt t (length w)) [ inl m ↦ tested_finite t m | inr m ↦ implied_finite t m ] }
+finite : (w : List TypeDef) (places : List (List ℕ)) → TestsMet (passes (complete w) places (length w)) → IsFinite (complete w)
+finite w places met = λ t l. elim (cases_lt t (length w)) [ inl m ↦ tested_finite t m | inr m ↦ implied_finite t m ]
   where
     endless : TestsMet (each (endless_type (complete w) places) (length w) 0)
     endless = (append_met (each (wrong_arguments (complete w) places) (length w) 0) (each (endless_type (complete w) places) (length w) 0)
@@ -266,11 +267,12 @@ finite w places met = record { each = λ t l. elim (cases_lt t (length w)) [ inl
         go None e = stays (complete w) (length (complete w)) t t (rw e refl)
         go (Some d) e = stays (complete w) (length (complete w)) t t (rw e (modest_at w t d m e).parts)
 
-allowed_low : (w : ℕ) → list_any (λ allowed. allowed == w) WIDTHS ≡ true → (1 ≤ w) × (w ≤ 64)
+allowed_low : (w : ℕ) → list_any (λ allowed. allowed == w) WIDTHS ≡ true → (1 ≤ w) × (w ≤ 128)
 allowed_low w h =
-    let P : ℕ → Type 0 = λ v. (1 ≤ v) × (v ≤ 64) in
-    let all : All P WIDTHS = All-cons P 1 (8 ∷ 16 ∷ 32 ∷ 64 ∷ []) (omega arith, omega arith) (All-cons P 8 (16 ∷ 32 ∷ 64 ∷ []) (omega arith, omega arith)
-    (All-cons P 16 (32 ∷ 64 ∷ []) (omega arith, omega arith) (All-cons P 32 (64 ∷ []) (omega arith, omega arith) (All-cons P 64 [] (omega arith, omega arith) (All-nil P))))) in
+    let P : ℕ → Type 0 = λ v. (1 ≤ v) × (v ≤ 128) in
+    let all : All P WIDTHS = All-cons P 1 (8 ∷ 16 ∷ 32 ∷ 64 ∷ 128 ∷ []) (omega arith, omega arith) (All-cons P 8 (16 ∷ 32 ∷ 64 ∷ 128 ∷ []) (omega arith, omega arith)
+    (All-cons P 16 (32 ∷ 64 ∷ 128 ∷ []) (omega arith, omega arith) (All-cons P 32 (64 ∷ 128 ∷ []) (omega arith, omega arith) (All-cons P 64 (128 ∷ []) (omega arith, omega arith)
+    (All-cons P 128 [] (omega arith, omega arith) (All-nil P)))))) in
     let one = hit P (λ allowed. allowed == w) WIDTHS all h in
     let same : one.is ≡ w = eqb-true one.is w one.passes in
     subst P same one.holds
@@ -279,21 +281,21 @@ width_is : (d : TypeDef) (w : ℕ) → width_of (Some d) ≡ Some w → d ≡ In
 width_is (Int v) w e = let same : v ≡ w = cc in ap Int same
 width_is d w e = cc
 
-widths : (w : List TypeDef) (places : List (List ℕ)) → TestsMet (passes (complete w) places (length w)) → (t v : ℕ) → width_of (slice_get (complete w) t) ≡ Some v → (1 ≤ v) × (v ≤ 64)
+widths : (w : List TypeDef) (places : List (List ℕ)) → TestsMet (passes (complete w) places (length w)) → (t v : ℕ) → width_of (slice_get (complete w) t) ≡ Some v → (1 ≤ v) × (v ≤ 128)
 widths w places met t v h = go (slice_get (complete w) t) refl h
   where
     arguments_met : TestsMet (each (wrong_arguments (complete w) places) (length w) 0)
     arguments_met = (append_met (each (wrong_arguments (complete w) places) (length w) 0) (each (endless_type (complete w) places) (length w) 0)
         (append_met (each (wrong_arguments (complete w) places) (length w) 0 ++ each (endless_type (complete w) places) (length w) 0) (each (too_many_leaves (complete w) places) (length w) 0) met).0).0
 
-    written_low : (d : TypeDef) → slice_get (complete w) t ≡ Some d → d ≡ Int v → t < length w → (1 ≤ v) × (v ≤ 64)
+    written_low : (d : TypeDef) → slice_get (complete w) t ≡ Some d → d ≡ Int v → t < length w → (1 ≤ v) × (v ≤ 128)
     written_low d e i m =
         let n : 0 + t ≡ t = omega arith in
         let one : TestsMet (wrong_arguments (complete w) places t) = subst (λ (k : ℕ). TestsMet (wrong_arguments (complete w) places k)) n (each_met (wrong_arguments (complete w) places) (length w) 0 t arguments_met m) in
         let int : TestsMet (argument_tests (complete w) places t (Some (Int v))) = subst (λ (o : Option TypeDef). TestsMet (argument_tests (complete w) places t o)) (e ∙ ap Some i) one in
         allowed_low v int.0
 
-    go : (o : Option TypeDef) → slice_get (complete w) t ≡ o → width_of o ≡ Some v → (1 ≤ v) × (v ≤ 64)
+    go : (o : Option TypeDef) → slice_get (complete w) t ≡ o → width_of o ≡ Some v → (1 ≤ v) × (v ≤ 128)
     go None e k = cc
     go (Some d) e k = elim (cases_lt t (length w)) [ inl m ↦ written_low d e (width_is d v k) m | inr m ↦ (modest_at w t d m e).widths v k ]
 

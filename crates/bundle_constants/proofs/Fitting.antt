@@ -1,9 +1,9 @@
 -- The value of a constant fits the leaves of its type.
-use Rattle.std.specs.Prelude.{slice_index}
-use Rattle.std.proofs.Common.{◌≡◌, ℕ, zero, suc, ◌+◌, ◌^◌, ◌<◌, Bool, true, false, List, [], ◌∷◌, ◌++◌, length, map, Option, Some, None, slice_get, if◌then◌else◌, refl, sym, subst, inl, inr, arith}
-use Rattle.std.specs.List.{All, list_any, flat_map}
-use Rattle.std.proofs.lemmas.Bool.{false≢true, cases_lt, eqb-true}
-use Rattle.std.proofs.lemmas.List.Elements.{All-nil, All-cons, All-head, All-tail, All-append, All-weaker}
+use Rattle.std.specs.Prelude.{pos, neg_ℤ, slice_index}
+use Rattle.std.proofs.Common.{◌≡◌, ℕ, zero, suc, ◌+◌, ◌<◌, Bool, true, false, List, [], ◌∷◌, ◌++◌, length, map, Option, Some, None, slice_get, if◌then◌else◌, refl, sym, subst, arith}
+use Rattle.std.specs.List.{All, flat_map}
+use Rattle.std.proofs.lemmas.Bool.{false≢true, eqb-true}
+use Rattle.std.proofs.lemmas.List.Elements.{All-head, All-tail}
 use Rattle.demands.specs.declared.fault.Fault.TheVariants.{At}
 use Rattle.demands.specs.Demands.{first_unmet}
 use Rattle.demands.proofs.Meeting.{both_met}
@@ -12,88 +12,25 @@ use Rattle.type_laws.specs.declared.definition.TypeDef.TheVariants.{Int, Struct,
 use Rattle.type_laws.specs.Definition.{constructor, number}
 use Rattle.type_laws.specs.Same.{same, IsGraph}
 use Rattle.type_laws.specs.Class.{class_of}
-use Rattle.type_laws.specs.Parts.{parts, parts_at}
-use Rattle.type_laws.specs.Leaves.{times, leaves_by, leaves_at, leaves_to, leaves}
+use Rattle.type_laws.specs.Leaves.{times, leaves_at, leaves}
 use Rattle.type_laws.proofs.Depth.{same_meets}
-use Rattle.type_laws.proofs.Ranks.{by_same}
 use Rattle.type_laws.proofs.Proved.{decided}
-use Rattle.type_laws.proofs.Respect.{respected, front_all}
+use Rattle.type_laws.proofs.Respect.{respected}
 use Rattle.mu_values.specs.declared.scalars.Scalar.{Scalar}
 use Rattle.mu_values.specs.declared.scalars.Scalar.TheVariants as scalars
 use Rattle.mu_values.specs.declared.literals.LiteralKind.{LiteralKind}
 use Rattle.mu_values.specs.declared.literals.LiteralKind.TheVariants as literals
 use Rattle.mu_values.specs.declared.literals.ConstKind.TheVariants.{WrongShape, NotNullable}
-use Rattle.mu_values.specs.Constants.{width_of, is_reference, member_count, member_type, is_count, member_demands, number_demands, kind_demands, number_bits, kind_value, HasMembers, FitsWidth}
-use Rattle.mu_values.proofs.Signed.{bits_pos, bits_neg, bits_neg_zero, pow_up}
+use Rattle.mu_values.specs.Constants.{width_of, is_reference, member_count, member_type, is_count, member_demands, number_demands, kind_demands, number_bits, kind_value, HasMembers}
+use Rattle.mu_values.proofs.Widths.{bits_below}
 use Rattle.bundle_constants.specs.declared.constants.Constant.{Constant}
 use Rattle.bundle_constants.specs.Fits.{IsOfWidth, FitsLeaf, FitsLeaves}
 use Rattle.bundle_constants.specs.Members.{types_of, members_of, value_of, Lawful}
-use Rattle.bundle_constants.proofs.Walks.{goes, goes_ends, parts_within}
+use Rattle.type_laws.proofs.Descents.{goes, parts_within}
+use Rattle.type_laws.proofs.Unfolds.{leaves_are, leaves_low}
 use Rattle.bundle_constants.proofs.Members.{met_is, members_met, member_all, type_low, type_at, constant_at, holds_at, members_end, settled_at, ends, kind_low}
-use Rattle.bundle_constants.proofs.Passes.{kind_fits}
-
--- ---- the leaves of a type are those of its parts
-
-any_none : (f : ℕ → Bool) (xs : List ℕ) → list_any f xs ≡ false → All (λ x. f x ≡ false) xs
-any_none f [] h = All-nil (λ x. f x ≡ false)
-any_none f (x ∷ xs) h = go (f x) refl (λ (e : list_any f xs ≡ false). any_none f xs e)
-  where
-    go : (b : Bool) → f x ≡ b → (list_any f xs ≡ false → All (λ y. f y ≡ false) xs) → All (λ y. f y ≡ false) (x ∷ xs)
-    go true e ih = absurd (false≢true (sym (rw e at h)))
-    go false e ih = All-cons (λ y. f y ≡ false) x xs e (ih (rw e at h))
-
-by_same_at : (of to : ℕ → List ℕ) (t : ℕ) (o : Option TypeDef) → All (λ p. of p ≡ to p) (parts_at o) → leaves_at of t o ≡ leaves_at to t o
-by_same_at of to t None a = refl
-by_same_at of to t (Some d) a = by_same of to t d a
-
-leaves_steady : (g : List TypeDef) (d t : ℕ) → goes g d t ≡ false → leaves_to g d t ≡ leaves_to g (suc d) t
-unfolding goes leaves_to
-leaves_steady g zero t h = absurd (false≢true (sym h))
-leaves_steady g (suc d) t h =
-    by_same_at (leaves_to g d) (leaves_to g (suc d)) t (slice_get g t)
-    (All-weaker (λ p. goes g d p ≡ false) (λ p. leaves_to g d p ≡ leaves_to g (suc d) p) (λ p e. leaves_steady g d p e) (parts_at (slice_get g t))
-    (any_none (λ p. goes g d p) (parts_at (slice_get g t)) h))
-
-leaves_are : (g : List TypeDef) (cs : List Constant) → Lawful g cs → (t : ℕ) → t < length g → leaves g t ≡ leaves_at (leaves g) t (slice_get g t)
-unfolding goes leaves_to
-leaves_are g cs law t l = leaves_steady g (length g) t (goes_ends g law.graph law.finite t l)
 
 -- ---- the leaves of the same types ask the same scalars
-
-all_flat : (P : ℕ → Type 0) (of : ℕ → List ℕ) (xs : List ℕ) → All (λ x. All P (of x)) xs → All P (flat_map of xs)
-all_flat P of [] a = All-nil P
-all_flat P of (x ∷ xs) a = All-append P (of x) (flat_map of xs) (All-head (λ y. All P (of y)) x xs a) (all_flat P of xs (All-tail (λ y. All P (of y)) x xs a))
-
-all_times : (P : ℕ → Type 0) (n : ℕ) (xs : List ℕ) → All P xs → All P (times n xs)
-all_times P zero xs a = All-nil P
-all_times P (suc n) xs a = All-append P xs (times n xs) a (all_times P n xs a)
-
-all_one : (P : ℕ → Type 0) (t : ℕ) → P t → All P (t ∷ [])
-all_one P t p = All-cons P t [] p (All-nil P)
-
-all_leaves : (P : ℕ → Type 0) (of : ℕ → List ℕ) (t : ℕ) (d : TypeDef) → P t → All (λ x. All P (of x)) (parts d) → All P (leaves_by of t d)
-all_leaves P of t (Int w) p a = all_one P t p
-all_leaves P of t (Struct fields) p a = all_flat P of fields a
-all_leaves P of t (Array element size) p a = all_times P size (of element) (All-head (λ x. All P (of x)) element [] a)
-all_leaves P of t (Hybrid fixed element) p a = all_flat P of fixed (front_all (λ x. All P (of x)) fixed element a)
-all_leaves P of t Void p a = All-nil P
-all_leaves P of t (Ref x) p a = all_one P t p
-all_leaves P of t (Iref x) p a = all_one P t p
-all_leaves P of t (FuncRef s) p a = all_one P t p
-all_leaves P of t StackRef p a = all_one P t p
-all_leaves P of t ThreadRef p a = all_one P t p
-all_leaves P of t (Sig takes gives) p a = All-nil P
-
-all_leaves_at : (P : ℕ → Type 0) (of : ℕ → List ℕ) (t : ℕ) (o : Option TypeDef) → P t → All (λ x. All P (of x)) (parts_at o) → All P (leaves_at of t o)
-all_leaves_at P of t None p a = All-nil P
-all_leaves_at P of t (Some d) p a = all_leaves P of t d p a
-
-leaves_low : (g : List TypeDef) → IsGraph g → (k t : ℕ) → t < length g → All (λ l. l < length g) (leaves_to g k t)
-unfolding leaves_to
-leaves_low g i zero t l = All-nil (λ l. l < length g)
-leaves_low g i (suc k) t l =
-    all_leaves_at (λ x. x < length g) (leaves_to g k) t (slice_get g t) l
-    (All-weaker (λ x. x < length g) (λ x. All (λ l. l < length g) (leaves_to g k x)) (λ x m. leaves_low g i k x m) (parts_at (slice_get g t)) (parts_within g i t))
 
 leaf_by : (d e : TypeDef) → constructor d ≡ constructor e → number d ≡ number e → (s : Scalar) → FitsLeaf (Some d) s → FitsLeaf (Some e) s
 leaf_by (Int w) (Int v) k n s f = subst (λ (x : ℕ). IsOfWidth x s) n f
@@ -169,30 +106,11 @@ fits_members g V t (Some (Sig takes gives)) ms c f = absurd (false≢true c)
 
 -- ---- numbers and NULL
 
-bits_low : (w : ℕ) (negative : Bool) (magnitude : ℕ) → magnitude < 2 ^ w → number_bits w negative magnitude < 2 ^ w
-bits_low w false magnitude l = rw (bits_pos w magnitude l) l
-bits_low w true magnitude l = elim (cases_lt 0 magnitude) [
-  | inl some ↦ rw (bits_neg w magnitude some l) (omega arith)
-  | inr none ↦ let zero_is : magnitude ≡ 0 = omega arith in let one = pow_up 0 w (omega arith) in rw zero_is (rw (bits_neg_zero w) (omega arith))
-]
-
-fits_number : (g : List TypeDef) (V : ℕ → List Scalar) (t : ℕ) (d : Option TypeDef) (negative : Bool) (magnitude w : ℕ) → slice_get g t ≡ d → width_of d ≡ Some w → magnitude < 2 ^ w →
-    FitsLeaves g (leaves_at (leaves g) t d) (kind_value V d (literals.Number negative magnitude))
-fits_number g V t (Some (Int v)) negative magnitude w e h l =
-    let is : w ≡ v = cc in
-    let less : magnitude < 2 ^ v = subst (λ (x : ℕ). magnitude < 2 ^ x) is l in
-    (subst (λ (o : Option TypeDef). FitsLeaf o (scalars.Int v (number_bits v negative magnitude))) (sym e) (refl, bits_low v negative magnitude less), tt)
-fits_number g V t None negative magnitude w e h l = cc
-fits_number g V t (Some (Struct fields)) negative magnitude w e h l = cc
-fits_number g V t (Some (Array element size)) negative magnitude w e h l = cc
-fits_number g V t (Some (Hybrid fixed element)) negative magnitude w e h l = cc
-fits_number g V t (Some Void) negative magnitude w e h l = cc
-fits_number g V t (Some (Ref x)) negative magnitude w e h l = cc
-fits_number g V t (Some (Iref x)) negative magnitude w e h l = cc
-fits_number g V t (Some (FuncRef s)) negative magnitude w e h l = cc
-fits_number g V t (Some StackRef) negative magnitude w e h l = cc
-fits_number g V t (Some ThreadRef) negative magnitude w e h l = cc
-fits_number g V t (Some (Sig takes gives)) negative magnitude w e h l = cc
+fits_number : (g : List TypeDef) (V : ℕ → List Scalar) (t place : ℕ) (d : Option TypeDef) (negative : Bool) (magnitude : ℕ) → slice_get g t ≡ d →
+    first_unmet (number_demands place (width_of d) negative magnitude) ≡ None → FitsLeaves g (leaves_at (leaves g) t d) (kind_value V d (literals.Number negative magnitude))
+fits_number g V t place (Some (Int v)) negative magnitude e h =
+    (subst (λ (o : Option TypeDef). FitsLeaf o (scalars.Int v (number_bits v negative magnitude))) (sym e) (refl, bits_below v (if negative then neg_ℤ (pos magnitude) else pos magnitude)), tt)
+fits_number g V t place d negative magnitude e h = cc
 
 null_at : (g : List TypeDef) (t : ℕ) (d : TypeDef) → slice_get g t ≡ Some d → FitsLeaf (Some d) scalars.Null → FitsLeaves g (t ∷ []) (scalars.Null ∷ [])
 null_at g t d e f = (subst (λ (o : Option TypeDef). FitsLeaf o scalars.Null) (sym e) f, tt)
@@ -213,17 +131,10 @@ fits_null g t (Some (Sig takes gives)) e h = absurd (false≢true h)
 
 -- ---- all values
 
-width_known : (o : Option ℕ) (place : ℕ) (negative : Bool) (magnitude : ℕ) → first_unmet (number_demands place o negative magnitude) ≡ None →
-    FitsWidth o (literals.Number negative magnitude) → (w : ℕ) × (o ≡ Some w) × (magnitude < 2 ^ w)
-width_known None place negative magnitude h f = cc
-width_known (Some w) place negative magnitude h f = (w, refl, f.2)
-
 fits_kind : (g : List TypeDef) (cs : List Constant) → Lawful g cs → (V : ℕ → List Scalar) (t place : ℕ) (kind : LiteralKind) → first_unmet (kind_demands g (types_of cs) (slice_get g t) place kind) ≡ None →
     ((k : ℕ) → k < length (members_of kind) → FitsLeaves g (leaves g (slice_index (types_of cs) (slice_index (members_of kind) k))) (V (slice_index (members_of kind) k))) →
     FitsLeaves g (leaves_at (leaves g) t (slice_get g t)) (kind_value V (slice_get g t) kind)
-fits_kind g cs law V t place (literals.Number negative magnitude) h f =
-    let w = width_known (width_of (slice_get g t)) place negative magnitude h (kind_fits g (types_of cs) (slice_get g t) place (literals.Number negative magnitude) (law.widths t) h) in
-    fits_number g V t (slice_get g t) negative magnitude w.0 refl w.1 w.2
+fits_kind g cs law V t place (literals.Number negative magnitude) h f = fits_number g V t place (slice_get g t) negative magnitude refl h
 fits_kind g cs law V t place literals.Null h f = fits_null g t (slice_get g t) refl (met_is (is_reference (slice_get g t)) (At NotNullable place) h)
 fits_kind g cs law V t place (literals.Members members places) h f =
     let many = length members in
@@ -244,7 +155,7 @@ unfolding goes
 fits_to g cs law zero n c e h = absurd (false≢true (sym h))
 fits_to g cs law (suc d) n c e h =
     let low : c.of_type < length g = holds_at (λ (x : Constant). x.of_type < length g) cs n c law.typed e in
-    rw (leaves_are g cs law c.of_type low, settled_at g cs law n c e)
+    rw (leaves_are g law.graph law.finite c.of_type low, settled_at g cs law n c e)
     (fits_kind g cs law (value_of g cs) c.of_type c.literal.place c.literal.kind (law.judged n c e) (λ k l.
     let m = slice_index (members_of c.literal.kind) k in
     let member = constant_at cs m (kind_low (length cs) c.literal.kind (holds_at (λ (x : Constant). HasMembers (length cs) x.literal.kind) cs n c law.members e) k l) in

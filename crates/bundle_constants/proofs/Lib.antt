@@ -1,4 +1,3 @@
-pub mod Walks
 pub mod Members
 pub mod Accepted
 pub mod Passes

@@ -23,7 +23,7 @@ use Rattle.mu_values.specs.Constants.{member_count, member_type, member_demands,
 use Rattle.bundle_constants.specs.declared.constants.Constant.{Constant}
 use Rattle.bundle_constants.specs.Values.{told, values_by, values_to}
 use Rattle.bundle_constants.specs.Members.{types_of, members_of, is_made, is_ready, Lawful}
-use Rattle.bundle_constants.proofs.Walks.{goes, goes_same, goes_ends, parts_within}
+use Rattle.type_laws.proofs.Descents.{goes, goes_same, goes_ends, parts_within}
 
 -- ---- a constant by its number
 

@@ -1,27 +1,18 @@
 -- Passes over the constants that are not made: each makes at least one.
-use Rattle.std.specs.Prelude.{option_map, slice_index, slice_index_or}
-use Rattle.std.proofs.Common.{◌≡◌, ◌≢◌, ℕ, zero, suc, ◌+◌, ◌-◌, ◌^◌, ◌<◌, ◌≤◌, Bool, true, false, List, [], ◌∷◌, ◌++◌, length, map, set, Option, Some, None, slice_get, refl, sym, ◌∙◌, ap, subst, inl, inr, ◌⊎◌, arith, get_or-set_same, get_or-set_other}
+use Rattle.std.specs.Prelude.{IfSome, slice_index, slice_index_or}
+use Rattle.std.proofs.Common.{◌≡◌, ◌≢◌, ℕ, zero, suc, ◌+◌, ◌<◌, ◌≤◌, Bool, true, false, List, [], ◌∷◌, ◌++◌, length, set, Option, Some, None, slice_get, refl, sym, ◌∙◌, ap, subst, inl, inr, ◌⊎◌, arith, get_or-set_same, get_or-set_other}
 use Rattle.std.specs.List.{All, Contains}
-use Rattle.std.proofs.lemmas.Bool.{false≢true, cases_lt, leb-true, ltb-true}
-use Rattle.std.proofs.lemmas.List.{length-append, length-map, length-set}
+use Rattle.std.proofs.lemmas.Bool.{false≢true, cases_lt}
+use Rattle.std.proofs.lemmas.List.{length-append, length-set}
 use Rattle.std.proofs.lemmas.List.Elements.{All-nil, All-cons, All-append, All-contains, All-weaker, Contains-append_cases, Contains-append_left, Contains-append_right}
 use Rattle.std.proofs.lemmas.List.Sums.{AllPass-from_list_all}
-use Rattle.std.proofs.lemmas.Option.{slice_get-map}
-use Rattle.std.proofs.Math.Pow.{pow-lt}
-use Rattle.demands.specs.declared.fault.Fault.TheVariants.{At}
-use Rattle.demands.specs.Demands.{first_unmet}
 use Rattle.type_laws.specs.declared.definition.TypeDef.{TypeDef}
-use Rattle.type_laws.specs.declared.definition.TypeDef.TheVariants.{Int, Struct, Array, Hybrid, Void, Ref, Iref, FuncRef, StackRef, ThreadRef, Sig}
 use Rattle.mu_values.specs.declared.scalars.Scalar.{Scalar}
-use Rattle.mu_values.specs.declared.literals.Literal.{Literal}
-use Rattle.mu_values.specs.declared.literals.LiteralKind.{LiteralKind}
-use Rattle.mu_values.specs.declared.literals.LiteralKind.TheVariants as literals
-use Rattle.mu_values.specs.declared.literals.ConstKind.TheVariants.{OutOfWidth}
-use Rattle.mu_values.specs.Constants.{width_of, fits, number_demands, kind_value, constant_value, kind_demands, value_at, HasMembers, FitsWidth}
+use Rattle.mu_values.specs.Constants.{width_of, constant_value, value_at, HasMembers}
 use Rattle.bundle_constants.specs.declared.constants.Constant.{Constant}
 use Rattle.bundle_constants.specs.declared.making.Making.{Making}
-use Rattle.bundle_constants.specs.Members.{types_of, members_of, is_made, is_ready, is_ready_at, value_by, value_of, Lawful, IsMaking, AreLeft}
-use Rattle.bundle_constants.proofs.Members.{none_stuck, constant_at, not_ready, kind_low, holds_at, value_same, settled_at, met_is}
+use Rattle.bundle_constants.specs.Members.{members_of, is_made, is_ready, is_ready_at, value_by, value_of, Lawful, IsMaking, AreLeft}
+use Rattle.bundle_constants.proofs.Members.{none_stuck, constant_at, not_ready, kind_low, holds_at, value_same, settled_at}
 
 -- ---- one pass, where so many were left: those that are still to be looked at, and those that are kept
 pub record IsPass (many total : ℕ) (cs : List Constant) (done : List Bool) (left kept : List ℕ) : Type 0 where
@@ -206,30 +197,14 @@ pub is_empty : (xs : List ℕ) → (0 < length xs → ⊥) → xs ≡ []
 is_empty [] h = refl
 is_empty (x ∷ xs) h = absurd (h (omega arith))
 
--- ---- numbers fit the widths of their types
+-- ---- what is made fits its type
 
-fits_low : (negative : Bool) (magnitude w : ℕ) → 1 ≤ w → fits negative magnitude w ≡ true → magnitude < 2 ^ w
-fits_low true magnitude w l h =
-    let low = leb-true magnitude (2 ^ (w - 1)) h in
-    let less : 2 ^ (w - 1) < 2 ^ w = pow-lt (omega arith) in
-    omega (arith, low, less)
-fits_low false magnitude w l h = ltb-true magnitude (2 ^ w) h
-
-number_fits : (place : ℕ) (o : Option ℕ) (negative : Bool) (magnitude : ℕ) → ((w : ℕ) → o ≡ Some w → (1 ≤ w) × (w ≤ 64)) → first_unmet (number_demands place o negative magnitude) ≡ None →
-    FitsWidth o (literals.Number negative magnitude)
-number_fits place None negative magnitude widths h = cc
-number_fits place (Some w) negative magnitude widths h =
-    let range = widths w refl in
-    (range.0, range.1, fits_low negative magnitude w range.0 (met_is (fits negative magnitude w) (At OutOfWidth place) h))
-
-pub kind_fits : (g : List TypeDef) (types : List ℕ) (d : Option TypeDef) (place : ℕ) (kind : LiteralKind) → ((w : ℕ) → width_of d ≡ Some w → (1 ≤ w) × (w ≤ 64)) →
-    first_unmet (kind_demands g types d place kind) ≡ None → FitsWidth (width_of d) kind
-kind_fits g types d place (literals.Number negative magnitude) widths h = number_fits place (width_of d) negative magnitude widths h
-kind_fits g types d place literals.Null widths h = tt
-kind_fits g types d place (literals.Members members places) widths h = tt
-
-pub literal_fits : (g : List TypeDef) (cs : List Constant) → Lawful g cs → (n : ℕ) (c : Constant) → slice_get cs n ≡ Some c → FitsWidth (width_of (slice_get g c.of_type)) c.literal.kind
-literal_fits g cs law n c e = kind_fits g (types_of cs) (slice_get g c.of_type) c.literal.place c.literal.kind (law.widths c.of_type) (law.judged n c e)
+pub width_fits : (g : List TypeDef) (cs : List Constant) → Lawful g cs → (t : ℕ) → IfSome (width_of (slice_get g t)) (λ w. (1 ≤ w) × (w ≤ 128))
+width_fits g cs law t = go (width_of (slice_get g t)) (law.widths t)
+  where
+    go : (o : Option ℕ) → ((w : ℕ) → o ≡ Some w → (1 ≤ w) × (w ≤ 128)) → IfSome o (λ w. (1 ≤ w) × (w ≤ 128))
+    go None f = tt
+    go (Some w) f = f w refl
 
 pub type_fits : (g : List TypeDef) (cs : List Constant) → Lawful g cs → (n : ℕ) (c : Constant) → slice_get cs n ≡ Some c → c.of_type < length g
 type_fits g cs law n c e = holds_at (λ (d : Constant). d.of_type < length g) cs n c law.typed e

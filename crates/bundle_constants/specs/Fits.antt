@@ -1,5 +1,5 @@
 -- To believe: what scalars the value of a constant has at the leaves of its type.
-use Rattle.std.specs.Prelude.{◌≡◌, ℕ, ◌<◌, ◌^◌, List, [], ◌∷◌, Option, Some, None, slice_get}
+use Rattle.std.specs.Prelude.{◌≡◌, ℕ, ◌<◌, ◌^◌, List, [], ◌∷◌, Option, Some, slice_get}
 use Rattle.type_laws.specs.declared.definition.TypeDef.{TypeDef}
 use Rattle.type_laws.specs.declared.definition.TypeDef.TheVariants.{Ref, Iref, FuncRef, StackRef, ThreadRef}
 use Rattle.type_laws.specs.declared.definition.TypeDef.TheVariants as types

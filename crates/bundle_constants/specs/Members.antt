@@ -4,7 +4,7 @@ use Rattle.std.specs.List.{All, Contains, list_all}
 use Rattle.demands.specs.Demands.{first_unmet}
 use Rattle.type_laws.specs.declared.definition.TypeDef.{TypeDef}
 use Rattle.type_laws.specs.Same.{IsGraph}
-use Rattle.type_laws.specs.Parts.{contains_itself}
+use Rattle.type_laws.specs.Laws.{IsFinite}
 use Rattle.mu_values.specs.declared.scalars.Scalar.{Scalar}
 use Rattle.mu_values.specs.declared.literals.LiteralKind.{LiteralKind}
 use Rattle.mu_values.specs.declared.literals.LiteralKind.TheVariants as literals
@@ -16,16 +16,12 @@ use Rattle.bundle_constants.specs.Values.{told, values_to}
 abbrev pub types_of : List Constant → List ℕ
 types_of cs = map (λ (c : Constant). c.of_type) cs
 
--- no type contains itself
-pub record NoneEndless (g : List TypeDef) : Type 0 where
-  pub each : (t : ℕ) → t < length g → contains_itself g t ≡ false
-
 -- what is known of the constants of a bundle whose items meet their demands
 pub record Lawful (g : List TypeDef) (cs : List Constant) : Type 0 where
   pub graph : IsGraph g
   pub some : 0 < length g
-  pub finite : NoneEndless g
-  pub widths : (t w : ℕ) → width_of (slice_get g t) ≡ Some w → (1 ≤ w) × (w ≤ 64)
+  pub finite : IsFinite g
+  pub widths : (t w : ℕ) → width_of (slice_get g t) ≡ Some w → (1 ≤ w) × (w ≤ 128)
   pub typed : All (λ (c : Constant). c.of_type < length g) cs
   pub members : All (λ (c : Constant). HasMembers (length cs) c.literal.kind) cs
   pub judged : (n : ℕ) (c : Constant) → slice_get cs n ≡ Some c → first_unmet (constant_demands g (types_of cs) c.of_type c.literal) ≡ None

@@ -85,10 +85,7 @@ blocks_demands es (b ∷ bs) = fresh es b.head.name ⨾ block_demands b ⨾ bloc
 abbrev pub may_be_function : Option Sort → Bool
 may_be_function None = true
 may_be_function (Some (sorts.Function n)) = true
-may_be_function (Some (sorts.Written n)) = false
-may_be_function (Some (sorts.Signature n)) = false
-may_be_function (Some (sorts.Constant n)) = false
-may_be_function (Some (sorts.GlobalCell n)) = false
+may_be_function _ = false
 
 abbrev pub function_demands : Globals → Name → Demands NameKind
 function_demands g n = demand n.place Duplicate (may_be_function (found g.names n.text))

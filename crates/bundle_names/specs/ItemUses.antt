@@ -15,16 +15,13 @@ use Rattle.bundle_names.specs.Uses.{type_use, type_uses, signature_use, constant
 use Rattle.bundle_names.specs.BodyUses.{names_of, block_uses}
 
 abbrev pub form_use : Names Sort → TypeForm → Demands NameKind
-form_use g (forms.Int n) = none
 form_use g (forms.Struct ts) = type_uses g ts
 form_use g (forms.Array t n) = type_use g t
 form_use g (forms.Hybrid ts t) = type_uses g ts ⨾ type_use g t
-form_use g forms.Void = none
 form_use g (forms.Ref t) = type_use g t
 form_use g (forms.Iref t) = type_use g t
 form_use g (forms.Funcref s) = signature_use g s
-form_use g forms.Stackref = none
-form_use g forms.Threadref = none
+form_use g _ = none
 
 abbrev pub literal_use : Names Sort → Literal → Demands NameKind
 literal_use g (literals.Number n) = none

@@ -20,36 +20,22 @@ use Rattle.bundle_names.specs.Definitions.{Plain}
 
 abbrev pub is_type : Option Sort → Bool
 is_type (Some (sorts.Written n)) = true
-is_type (Some (sorts.Signature n)) = false
-is_type (Some (sorts.Constant n)) = false
-is_type (Some (sorts.GlobalCell n)) = false
-is_type (Some (sorts.Function n)) = false
-is_type None = false
+is_type _ = false
 
 abbrev pub is_signature : Option Sort → Bool
-is_signature (Some (sorts.Written n)) = false
 is_signature (Some (sorts.Signature n)) = true
-is_signature (Some (sorts.Constant n)) = false
-is_signature (Some (sorts.GlobalCell n)) = false
-is_signature (Some (sorts.Function n)) = false
-is_signature None = false
+is_signature _ = false
 
 abbrev pub is_constant : Option Sort → Bool
-is_constant (Some (sorts.Written n)) = false
-is_constant (Some (sorts.Signature n)) = false
 is_constant (Some (sorts.Constant n)) = true
-is_constant (Some (sorts.GlobalCell n)) = false
-is_constant (Some (sorts.Function n)) = false
-is_constant None = false
+is_constant _ = false
 
 -- an operand may be a constant, a global or a function
 abbrev pub is_operand : Option Sort → Bool
-is_operand (Some (sorts.Written n)) = false
-is_operand (Some (sorts.Signature n)) = false
 is_operand (Some (sorts.Constant n)) = true
 is_operand (Some (sorts.GlobalCell n)) = true
 is_operand (Some (sorts.Function n)) = true
-is_operand None = false
+is_operand _ = false
 
 abbrev pub global_use : (Option Sort → Bool) → Names Sort → Name → Demands NameKind
 global_use asks g n = demand n.place Unknown (is_some (found g n.text)) ⨾ demand n.place WrongKind (asks (found g n.text))

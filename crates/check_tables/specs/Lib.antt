@@ -2,3 +2,4 @@ pub mod Types
 pub mod Held
 pub mod Lookups
 pub mod TypeTests
+pub mod Laws

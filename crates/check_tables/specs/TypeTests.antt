@@ -1,22 +1,13 @@
 -- To believe: what the forms of instructions ask of the types that they name, by the types' definitions.
 use Rattle.std.specs.Prelude.{ℕ, Bool, true, false, List, Option, Some, None, length, slice_get, is_some, nat_le, if◌then◌else◌, ◌&&◌}
 use Rattle.ir_lex.specs.declared.token.Number.{Number}
+pub use Rattle.type_laws.specs.Scalars.{is_scalar}
 use Rattle.type_laws.specs.declared.definition.TypeDef.{TypeDef}
 use Rattle.type_laws.specs.declared.definition.TypeDef.TheVariants.{Int, Struct, Array, Hybrid, Void, Ref, Iref, FuncRef, StackRef, ThreadRef}
 
 abbrev pub is_int : Option TypeDef → Bool
 is_int (Some (Int width)) = true
 is_int _ = false
-
--- an int or a reference
-abbrev pub is_scalar : Option TypeDef → Bool
-is_scalar (Some (Int width)) = true
-is_scalar (Some (Ref t)) = true
-is_scalar (Some (Iref t)) = true
-is_scalar (Some (FuncRef s)) = true
-is_scalar (Some StackRef) = true
-is_scalar (Some ThreadRef) = true
-is_scalar _ = false
 
 -- neither void nor a hybrid
 abbrev pub is_sized : Option TypeDef → Bool

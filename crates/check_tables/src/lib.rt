@@ -3,11 +3,13 @@
 
 mod fault;
 mod forms;
+mod laws;
 mod lookups;
 mod tables;
 mod types;
 
 pub use fault::{CheckFault, CheckKind, fault_at};
 pub use forms::Field;
+pub use laws::implied_types_are_defined;
 pub use tables::{Signature, Tables};
 pub use types::TypeTable;

@@ -1,7 +1,6 @@
 -- What is known of the tables of a bundle: what is given has a class, and no int type has the class of a reference.
 use Rattle.std.proofs.Common.{◌≡◌, ℕ, zero, suc, ◌<◌, Bool, true, false, List, [], ◌∷◌, Option, Some, None, IsSomeAnd, is_some, nat_eq, nat_lt, ◌&&◌, slice_get, length, if◌then◌else◌, refl, sym, ◌∙◌, subst, arith}
 use Rattle.std.proofs.lemmas.Option.{slice_get_within}
-use Rattle.mu_base.specs.Lists.{Roomy}
 use Rattle.type_laws.specs.declared.definition.TypeDef.{TypeDef}
 use Rattle.type_laws.specs.declared.definition.TypeDef.TheVariants.{Int, Struct, Array, Hybrid, Void, Ref, Iref, FuncRef, StackRef, ThreadRef, Sig}
 use Rattle.type_laws.specs.Definition.{constructor, number, arguments}
@@ -22,7 +21,7 @@ use Rattle.code_check.proofs.TypedVariables.{get_more, get_last}
 -- ---- what is given
 
 -- a type that passes a test which nothing and no signature passes is there
-pub is_there_by : (test : Option TypeDef → Bool) (d : Option TypeDef) → test None ≡ false → ((takes gives : Roomy ℕ) → test (Some (Sig takes gives)) ≡ false) → test d ≡ true → is_type_there d ≡ true
+pub is_there_by : (test : Option TypeDef → Bool) (d : Option TypeDef) → test None ≡ false → ((takes gives : List ℕ) → test (Some (Sig takes gives)) ≡ false) → test d ≡ true → is_type_there d ≡ true
 is_there_by test None absent signature h = let k : false ≡ true = sym absent ∙ h in cc
 is_there_by test (Some (Int width)) absent signature h = refl
 is_there_by test (Some (Struct fields)) absent signature h = refl
@@ -76,7 +75,7 @@ fixed_field_is_part n None k h = cc
 fixed_field_is_part n (Some (Int width)) k h = cc
 fixed_field_is_part n (Some (Struct fields)) k h = (n, h)
 fixed_field_is_part n (Some (Array element size)) k h = cc
-fixed_field_is_part n (Some (Hybrid fixed element)) k h = (n, get_more fixed.members (element ∷ []) n k h)
+fixed_field_is_part n (Some (Hybrid fixed element)) k h = (n, get_more fixed (element ∷ []) n k h)
 fixed_field_is_part n (Some Void) k h = cc
 fixed_field_is_part n (Some (Ref t)) k h = cc
 fixed_field_is_part n (Some (Iref t)) k h = cc
@@ -118,7 +117,7 @@ repeated_is_part None k h = cc
 repeated_is_part (Some (Int width)) k h = cc
 repeated_is_part (Some (Struct fields)) k h = cc
 repeated_is_part (Some (Array element size)) k h = cc
-repeated_is_part (Some (Hybrid fixed element)) k h = (length fixed.members, get_last fixed.members element ∙ h)
+repeated_is_part (Some (Hybrid fixed element)) k h = (length fixed, get_last fixed element ∙ h)
 repeated_is_part (Some Void) k h = cc
 repeated_is_part (Some (Ref t)) k h = cc
 repeated_is_part (Some (Iref t)) k h = cc

@@ -42,49 +42,37 @@ may_load orders.NotAtomic = true
 may_load orders.Relaxed = true
 may_load orders.Consume = true
 may_load orders.Acquire = true
-may_load orders.Release = false
-may_load orders.AcqRel = false
 may_load orders.SeqCst = true
+may_load _ = false
 
 -- of a STORE
 abbrev pub may_store : MemoryOrder → Bool
 may_store orders.NotAtomic = true
 may_store orders.Relaxed = true
-may_store orders.Consume = false
-may_store orders.Acquire = false
 may_store orders.Release = true
-may_store orders.AcqRel = false
 may_store orders.SeqCst = true
+may_store _ = false
 
--- of an update
+-- of an update, which is atomic
 abbrev pub may_update : MemoryOrder → Bool
 may_update orders.NotAtomic = false
-may_update orders.Relaxed = true
-may_update orders.Consume = true
-may_update orders.Acquire = true
-may_update orders.Release = true
-may_update orders.AcqRel = true
-may_update orders.SeqCst = true
+may_update _ = true
 
 -- of a CMPXCHG that fails
 abbrev pub may_fail : MemoryOrder → Bool
-may_fail orders.NotAtomic = false
 may_fail orders.Relaxed = true
 may_fail orders.Consume = true
 may_fail orders.Acquire = true
-may_fail orders.Release = false
-may_fail orders.AcqRel = false
 may_fail orders.SeqCst = true
+may_fail _ = false
 
 -- of a FENCE
 abbrev pub may_fence : MemoryOrder → Bool
-may_fence orders.NotAtomic = false
-may_fence orders.Relaxed = false
-may_fence orders.Consume = false
 may_fence orders.Acquire = true
 may_fence orders.Release = true
 may_fence orders.AcqRel = true
 may_fence orders.SeqCst = true
+may_fence _ = false
 
 abbrev pub order_demand : (MemoryOrder → Bool) → Order → Demands CheckKind
 order_demand allows o = demand o.place BadOrder (allows o.order)
@@ -92,16 +80,7 @@ order_demand allows o = demand o.place BadOrder (allows o.order)
 -- XCHG exchanges all scalars, every other update is of ints
 abbrev pub updates_type : UpdateOp → Option TypeDef → Bool
 updates_type updates.Xchg d = is_scalar d
-updates_type updates.Add d = is_int d
-updates_type updates.Sub d = is_int d
-updates_type updates.And d = is_int d
-updates_type updates.Nand d = is_int d
-updates_type updates.Or d = is_int d
-updates_type updates.Xor d = is_int d
-updates_type updates.Max d = is_int d
-updates_type updates.Min d = is_int d
-updates_type updates.Umax d = is_int d
-updates_type updates.Umin d = is_int d
+updates_type _ d = is_int d
 
 -- ---- the forms
 

@@ -67,14 +67,7 @@ convert_op convert_ops.Sext = conv_ops.Sext
 abbrev pub compares : CompareOp → Option TypeDef → Bool
 compares compare_ops.Eq d = is_scalar d
 compares compare_ops.Ne d = is_scalar d
-compares compare_ops.Slt d = is_int d
-compares compare_ops.Sle d = is_int d
-compares compare_ops.Sgt d = is_int d
-compares compare_ops.Sge d = is_int d
-compares compare_ops.Ult d = is_int d
-compares compare_ops.Ule d = is_int d
-compares compare_ops.Ugt d = is_int d
-compares compare_ops.Uge d = is_int d
+compares _ d = is_int d
 
 -- TRUNC leads to an int that is not wider, ZEXT and SEXT to one that is not narrower
 abbrev pub converts : ConvertOp → Option TypeDef → Option TypeDef → Bool

@@ -33,12 +33,8 @@ case_demands p f ls t (c ∷ cs) =
     ⨾ case_demands p f ls t cs
 
 abbrev pub constant_number : Option Sort → ℕ
-constant_number (Some (sorts.Written n)) = 0
-constant_number (Some (sorts.Signature n)) = 0
 constant_number (Some (sorts.Constant n)) = n
-constant_number (Some (sorts.GlobalCell n)) = 0
-constant_number (Some (sorts.Function n)) = 0
-constant_number None = 0
+constant_number _ = 0
 
 abbrev pub case_code : Tables → Body → Locals → Case → CaseForm
 case_code p f ls c = record { constant = constant_number (found p.globals.names c.constant.text); target = target_of p f ls c.destination }
@@ -50,9 +46,8 @@ cases_code p f ls cs = map (case_code p f ls) cs
 
 abbrev pub are_classes : List ℕ → List ℕ → Bool
 are_classes [] [] = true
-are_classes [] (u ∷ us) = false
-are_classes (t ∷ ts) [] = false
 are_classes (t ∷ ts) (u ∷ us) = nat_eq t u && are_classes ts us
+are_classes _ _ = false
 
 -- the results of a signature are these
 abbrev pub gives_these : Option (List ℕ) → List ℕ → Bool
@@ -84,13 +79,8 @@ control_demands p f ls (flows.Throw e) = operand_demands p ls OperandType e (Som
 
 -- the classes of the results
 abbrev pub control_gives : Tables → ControlFlow → List ℕ
-control_gives p (flows.Branch d) = []
-control_gives p (flows.Branch2 c d e) = []
-control_gives p (flows.Switch t a d cs) = []
 control_gives p (flows.Call s c a e k) = noted_classes (gives_of (signature_named p s))
-control_gives p (flows.Tailcall s c a) = []
-control_gives p (flows.Ret a) = []
-control_gives p (flows.Throw e) = []
+control_gives p _ = []
 
 abbrev pub control_code : Tables → Body → Locals → ControlFlow → ControlForm
 control_code p f ls (flows.Branch d) = forms.Branch (target_of p f ls d)

@@ -1,5 +1,5 @@
 -- To believe: destinations, what a stack is entered with, and what may stand behind an instruction: their demands and their code.
-use Rattle.std.specs.Prelude.{ℕ, Bool, false, List, [], Option, Some, None, not}
+use Rattle.std.specs.Prelude.{ℕ, Bool, false, List, [], Option, Some, None, option_map, unwrap_or, not}
 use Rattle.demands.specs.Demands.{Demands, none, demand, ◌⨾◌}
 use Rattle.demands.specs.Names.{found}
 use Rattle.ir_lex.specs.declared.name.Name.{Name}
@@ -24,8 +24,7 @@ abbrev pub block_named : Body → Name → Option BlockEntry
 block_named f n = found f.blocks n.text
 
 abbrev pub entry_takes : Option BlockEntry → Option (List ℕ)
-entry_takes None = None
-entry_takes (Some b) = Some b.takes
+entry_takes b = option_map (λ b. b.takes) b
 
 abbrev pub takes_no_exception : Option BlockEntry → Bool
 takes_no_exception None = false
@@ -40,8 +39,7 @@ abbrev pub normal_demands : Tables → Body → Locals → Destination → Deman
 normal_demands p f ls d = demand d.block.place BadDestination (takes_no_exception (block_named f d.block)) ⨾ exceptional_demands p f ls d
 
 abbrev pub block_number : Option BlockEntry → ℕ
-block_number None = 0
-block_number (Some b) = b.number
+block_number b = unwrap_or (option_map (λ b. b.number) b) 0
 
 abbrev pub target_of : Tables → Body → Locals → Destination → Target
 target_of p f ls d = record { block = block_number (block_named f d.block); arguments = sources_of p ls d.arguments.values }
@@ -56,8 +54,7 @@ optional_exceptional_demands p f ls None = none
 optional_exceptional_demands p f ls (Some d) = exceptional_demands p f ls d
 
 abbrev pub optional_target : Tables → Body → Locals → Option Destination → Option Target
-optional_target p f ls None = None
-optional_target p f ls (Some d) = Some (target_of p f ls d)
+optional_target p f ls d = option_map (target_of p f ls) d
 
 -- ---- KEEPALIVE ( L* ), which may be left out: variables of any type
 
@@ -66,8 +63,7 @@ keepalive_demands ls None = none
 keepalive_demands ls (Some ns) = variable_demands ls ns
 
 abbrev pub keepalive_numbers : Locals → Option (List Name) → List ℕ
-keepalive_numbers ls None = []
-keepalive_numbers ls (Some ns) = numbers_in ls ns
+keepalive_numbers ls ns = unwrap_or (option_map (numbers_in ls) ns) []
 
 -- ---- PASS_VALUES < T* > ( value* ): value types, and a value of each; THROW_EXC value: a ref<void>
 

@@ -1,5 +1,5 @@
 -- To believe: an instruction in its block: its demands in their order, what it gives, its code, and the variables behind it.
-use Rattle.std.specs.Prelude.{ℕ, Bool, true, false, List, [], ◌∷◌, ◌++◌, Option, Some, None, is_some, not, nat_eq, length}
+use Rattle.std.specs.Prelude.{ℕ, Bool, true, false, List, [], ◌∷◌, ◌++◌, Option, Some, None, option_map, is_some, not, nat_eq, length}
 use Rattle.demands.specs.Demands.{Demands, none, demand, ◌⨾◌}
 use Rattle.demands.specs.Names.{added}
 use Rattle.ir_lex.specs.declared.name.Name.{Name}
@@ -77,21 +77,11 @@ form_of p f ls (ops.Common c) = forms.Common (common_code p ls c)
 -- EXC ( dest dest )
 abbrev pub computation_exc : Computation → Option ExceptionClause
 computation_exc (computations.Binary op t a b e) = e
-computation_exc (computations.Compare op t a b) = None
-computation_exc (computations.Convert op s t a) = None
-computation_exc (computations.Refcast s t a) = None
-computation_exc (computations.Select s t c a b) = None
-computation_exc (computations.Extractvalue t n a) = None
-computation_exc (computations.Insertvalue t n a b) = None
+computation_exc _ = None
 
 abbrev pub control_exc : ControlFlow → Option ExceptionClause
-control_exc (flows.Branch d) = None
-control_exc (flows.Branch2 c d e) = None
-control_exc (flows.Switch t a d cs) = None
 control_exc (flows.Call s c a e k) = e
-control_exc (flows.Tailcall s c a) = None
-control_exc (flows.Ret a) = None
-control_exc (flows.Throw e) = None
+control_exc _ = None
 
 abbrev pub allocation_exc : Allocation → Option ExceptionClause
 allocation_exc (allocations.New t e) = e
@@ -111,12 +101,10 @@ switch_exc (switches.SwapKilling s n) = None
 switch_exc (switches.Newthread s tl n e) = e
 
 abbrev pub normal_of_exc : Option ExceptionClause → Option Destination
-normal_of_exc None = None
-normal_of_exc (Some e) = Some e.normal
+normal_of_exc e = option_map (λ e. e.normal) e
 
 abbrev pub exceptional_of_exc : Option ExceptionClause → Option Destination
-exceptional_of_exc None = None
-exceptional_of_exc (Some e) = Some e.exceptional
+exceptional_of_exc e = option_map (λ e. e.exceptional) e
 
 -- the destination that may use the instruction's own results: the first of EXC, the second of a WATCHPOINT
 abbrev pub trapping_normal : Trapping → Option Destination
@@ -152,13 +140,8 @@ exceptional_of (ops.Common c) = None
 
 -- KEEPALIVE ( L* )
 abbrev pub control_keepalive : ControlFlow → Option (List Name)
-control_keepalive (flows.Branch d) = None
-control_keepalive (flows.Branch2 c d e) = None
-control_keepalive (flows.Switch t a d cs) = None
 control_keepalive (flows.Call s c a e k) = k
-control_keepalive (flows.Tailcall s c a) = None
-control_keepalive (flows.Ret a) = None
-control_keepalive (flows.Throw e) = None
+control_keepalive _ = None
 
 abbrev pub trapping_keepalive : Trapping → Option (List Name)
 trapping_keepalive (trappings.Trap ts e k) = k
@@ -171,26 +154,17 @@ switch_keepalive (switches.SwapKilling s n) = None
 switch_keepalive (switches.Newthread s tl n e) = None
 
 abbrev pub keepalive_of : Op → Option (List Name)
-keepalive_of (ops.Computation c) = None
 keepalive_of (ops.ControlFlow c) = control_keepalive c
-keepalive_of (ops.Allocation a) = None
-keepalive_of (ops.Addressing a) = None
-keepalive_of (ops.Access a) = None
 keepalive_of (ops.Trapping t) = trapping_keepalive t
 keepalive_of (ops.StackSwitch s) = switch_keepalive s
-keepalive_of (ops.Common c) = None
+keepalive_of _ = None
 
 -- ---- endings
 
 -- BRANCH, BRANCH2, SWITCH, TAILCALL, RET and THROW end their block
 abbrev pub control_ends : ControlFlow → Bool
-control_ends (flows.Branch d) = true
-control_ends (flows.Branch2 c d e) = true
-control_ends (flows.Switch t a d cs) = true
 control_ends (flows.Call s c a e k) = is_some e
-control_ends (flows.Tailcall s c a) = true
-control_ends (flows.Ret a) = true
-control_ends (flows.Throw e) = true
+control_ends _ = true
 
 -- so do WATCHPOINT and WPBRANCH
 abbrev pub trapping_ends : Trapping → Bool
@@ -206,14 +180,8 @@ switch_ends (switches.Newthread s tl n e) = is_some e
 
 -- @uvm.thread_exit
 abbrev pub common_ends : CommonInst → Bool
-common_ends (commons.NewStack s f) = false
-common_ends (commons.KillStack s) = false
 common_ends commons.ThreadExit = true
-common_ends commons.CurrentStack = false
-common_ends (commons.SetThreadlocal r) = false
-common_ends commons.GetThreadlocal = false
-common_ends (commons.FutexWait t l v) = false
-common_ends (commons.FutexWake t l n) = false
+common_ends _ = false
 
 -- and every instruction with EXC
 abbrev pub is_ending : Op → Bool

@@ -1,5 +1,5 @@
 -- To believe: operands and lists of arguments: their demands, and where their values come from.
-use Rattle.std.specs.Prelude.{ℕ, Bool, true, false, List, [], ◌∷◌, Option, Some, None, is_some, map, nat_eq, length}
+use Rattle.std.specs.Prelude.{ℕ, Bool, true, false, List, [], ◌∷◌, Option, Some, None, is_some, option_map, unwrap_or, map, nat_eq, length}
 use Rattle.demands.specs.Demands.{Demands, none, demand, ◌⨾◌}
 use Rattle.demands.specs.Names.{found}
 use Rattle.ir_lex.specs.declared.name.Name.{Name}
@@ -30,8 +30,7 @@ is_there ls (operands.Local n) = is_some (found ls.names n.text)
 is_there ls (operands.Global n) = true
 
 abbrev pub variable_class : Option Variable → Option ℕ
-variable_class None = None
-variable_class (Some v) = Some v.class
+variable_class v = option_map (λ v. v.class) v
 
 -- the class of the operand's type
 abbrev pub operand_class : Tables → Locals → Operand → Option ℕ
@@ -40,9 +39,8 @@ operand_class p ls (operands.Global n) = class_of_global p n
 
 -- whether there are both, and they are the same
 abbrev pub is_class : Option ℕ → Option ℕ → Bool
-is_class None wanted = false
-is_class (Some c) None = false
 is_class (Some c) (Some d) = nat_eq c d
+is_class _ _ = false
 
 -- an operand of the type that is wanted; another type is a fault of this kind
 abbrev pub operand_demands : Tables → Locals → CheckKind → Operand → Option ℕ → Demands CheckKind
@@ -93,16 +91,13 @@ variable_demands ls (n ∷ ns) = demand n.place NotLocal (is_some (found ls.name
 -- ---- where values come from; where nothing is, number 0 is noted down
 
 abbrev pub variable_number : Option Variable → ℕ
-variable_number None = 0
-variable_number (Some v) = v.number
+variable_number v = unwrap_or (option_map (λ v. v.number) v) 0
 
 abbrev pub global_source : Option Sort → Source
-global_source (Some (sorts.Written n)) = sources.Constant 0
-global_source (Some (sorts.Signature n)) = sources.Constant 0
 global_source (Some (sorts.Constant n)) = sources.Constant n
 global_source (Some (sorts.GlobalCell n)) = sources.GlobalCell n
 global_source (Some (sorts.Function n)) = sources.Function n
-global_source None = sources.Constant 0
+global_source _ = sources.Constant 0
 
 abbrev pub source_of : Tables → Locals → Operand → Source
 source_of p ls (operands.Local n) = sources.Variable (variable_number (found ls.names n.text))

@@ -1,6 +1,6 @@
 -- To believe: instructions that ask the client, enter another stack or start a thread: for each form its demands from left to right,
 -- what it gives, and its code. What EXC, WPEXC and KEEPALIVE ask, and the second destination of a WATCHPOINT, stand with the instruction.
-use Rattle.std.specs.Prelude.{ℕ, ◌^◌, List, [], ◌∷◌, Option, Some, None, not, nat_lt, ◌&&◌}
+use Rattle.std.specs.Prelude.{ℕ, ◌^◌, List, [], ◌∷◌, Option, Some, None, option_map, not, nat_lt, ◌&&◌}
 use Rattle.demands.specs.Demands.{Demands, none, demand, ◌⨾◌}
 use Rattle.ir_lex.specs.declared.name.Numeral.{Numeral}
 use Rattle.ir_tree.specs.declared.operands.Operand.{Operand}
@@ -72,8 +72,7 @@ switch_gives p (switches.SwapKilling s n) = []
 switch_gives p (switches.Newthread s tl n e) = threadref p.types ∷ []
 
 abbrev pub optional_source : Tables → Locals → Option Operand → Option Source
-optional_source p ls None = None
-optional_source p ls (Some o) = Some (source_of p ls o)
+optional_source p ls o = option_map (source_of p ls) o
 
 abbrev pub switch_code : Tables → Locals → StackSwitch → SwitchForm
 switch_code p ls (switches.SwapReturning s ts n e k) = switching.SwapReturning (source_of p ls s) (noted_list p ts) (entered_code p ls n)

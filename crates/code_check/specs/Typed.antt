@@ -357,28 +357,15 @@ neither normal exceptional = not normal && not exceptional
 
 abbrev pub computation_exits : ComputationForm → Bool → Bool → Bool
 computation_exits (computing.Binary op c a b) = both_or_none
-computation_exits (computing.Compare op c a b) = neither
-computation_exits (computing.Convert op c d a) = neither
-computation_exits (computing.Refcast c d a) = neither
-computation_exits (computing.Select c s a b) = neither
-computation_exits (computing.Extractvalue c n a) = neither
-computation_exits (computing.Insertvalue c n a b) = neither
+computation_exits _ = neither
 
 abbrev pub control_exits : ControlForm → Bool → Bool → Bool
-control_exits (going.Branch t) = neither
-control_exits (going.Branch2 s t u) = neither
-control_exits (going.Switch c a t cases) = neither
 control_exits (going.Call s f vs) = both_or_none
-control_exits (going.Tailcall s f vs) = neither
-control_exits (going.Ret vs) = neither
-control_exits (going.Throw s) = neither
+control_exits _ = neither
 
 abbrev pub access_exits : AccessForm → Bool → Bool → Bool
-access_exits (accessing.Load o c l) = both_or_none
-access_exits (accessing.Store o c l v) = both_or_none
-access_exits (accessing.Cmpxchg w s f c l v u) = both_or_none
-access_exits (accessing.Atomicrmw o op c l v) = both_or_none
 access_exits (accessing.Fence o) = neither
+access_exits _ = both_or_none
 
 -- a WATCHPOINT is always told where it goes on with its results, and may be told the other
 abbrev pub trapping_exits : TrappingForm → Bool → Bool → Bool
@@ -436,13 +423,8 @@ pub record CodeAt (p : Tables) (blocks : Blocks) (returns : List ℕ) (ks : List
 -- BRANCH, BRANCH2, SWITCH, TAILCALL, RET and THROW end their block, so do WATCHPOINT and WPBRANCH, SWAPSTACK with KILL_OLD, and
 -- @uvm.thread_exit
 abbrev pub control_form_ends : ControlForm → Bool
-control_form_ends (going.Branch t) = true
-control_form_ends (going.Branch2 s t u) = true
-control_form_ends (going.Switch c a t cases) = true
 control_form_ends (going.Call s f vs) = false
-control_form_ends (going.Tailcall s f vs) = true
-control_form_ends (going.Ret vs) = true
-control_form_ends (going.Throw s) = true
+control_form_ends _ = true
 
 abbrev pub trapping_form_ends : TrappingForm → Bool
 trapping_form_ends (asking.Trap cs) = false
@@ -455,24 +437,15 @@ switch_form_ends (switching.SwapKilling s e) = true
 switch_form_ends (switching.Newthread s tl e) = false
 
 abbrev pub common_form_ends : CommonForm → Bool
-common_form_ends (named.NewStack s f) = false
-common_form_ends (named.KillStack s) = false
 common_form_ends named.ThreadExit = true
-common_form_ends named.CurrentStack = false
-common_form_ends (named.SetThreadlocal r) = false
-common_form_ends named.GetThreadlocal = false
-common_form_ends (named.FutexWait c l v) = false
-common_form_ends (named.FutexWake c l n) = false
+common_form_ends _ = false
 
 abbrev pub form_ends : Form → Bool
-form_ends (forms.Computation f) = false
 form_ends (forms.Control f) = control_form_ends f
-form_ends (forms.Allocation f) = false
-form_ends (forms.Addressing f) = false
-form_ends (forms.Access f) = false
 form_ends (forms.Trapping f) = trapping_form_ends f
 form_ends (forms.Switch f) = switch_form_ends f
 form_ends (forms.Common f) = common_form_ends f
+form_ends _ = false
 
 -- and every instruction that is told where it goes on
 abbrev pub code_ends : Code → Bool

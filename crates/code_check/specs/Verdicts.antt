@@ -1,6 +1,5 @@
 -- What is said of instructions among sample types, globals, blocks and variables.
 use Rattle.std.specs.Prelude.{◌≡◌, refl, ℕ, true, false, List, [], ◌∷◌, ◌++◌, map, ◌+◌, ◌*◌, Option, Some, None, Result, Ok, Err, codes}
-use Rattle.mu_base.specs.Lists.{Roomy}
 use Rattle.text_forms.specs.declared.fault.Fault as texts
 use Rattle.demands.specs.declared.fault.Fault.{Fault}
 use Rattle.demands.specs.declared.fault.Fault.TheVariants.{At}
@@ -26,9 +25,6 @@ use Rattle.code_check.specs.Instructions.{insts_demands}
 
 -- ---- types
 
-abbrev ids : List ℕ → Roomy ℕ
-ids members = record { members = members; spare = 0 }
-
 -- the types, then the signatures (@long) -> (@long) and () -> ()
 abbrev pub sample_types : List TypeDef
 sample_types =
@@ -36,9 +32,9 @@ sample_types =
     ∷ Int 64
     ∷ Void
     ∷ Ref 2
-    ∷ Struct (ids (1 ∷ 0 ∷ []))
+    ∷ Struct (1 ∷ 0 ∷ [])
     ∷ Array 1 4
-    ∷ Hybrid (ids (1 ∷ [])) 0
+    ∷ Hybrid (1 ∷ []) 0
     ∷ Int 32
     ∷ Iref 1
     ∷ Ref 1
@@ -46,8 +42,8 @@ sample_types =
     ∷ StackRef
     ∷ FuncRef 14
     ∷ FuncRef 15
-    ∷ Sig (ids (1 ∷ [])) (ids (1 ∷ []))
-    ∷ Sig (ids []) (ids [])
+    ∷ Sig (1 ∷ []) (1 ∷ [])
+    ∷ Sig [] []
     ∷ []
 
 -- no two of them are the same, so the class of each is its number; behind them stand void and the four implied types without

@@ -1,7 +1,7 @@
 // Making the values of constants.
 ghost use Rattle.std.specs.Prelude.{◌≡◌, ◌≢◌, ℕ, ◌<◌, ◌≤◌, ◌^◌, [], ◌∷◌, ◌++◌, Some, None, length, slice_get, IfOk, IfSome, OnOk, OnErr};
 ghost use Rattle.std.specs.List.{flat_map};
-ghost use Rattle.mu_values.specs.Constants.{width_of, number_bits, number_value, constant_value, value_at};
+ghost use Rattle.mu_values.specs.Constants.{width_of, number_bits, number_value, constant_value, scalars_of, value_at};
 
 use crate::constants::int_width;
 use crate::integers::{low_bits, negated};
@@ -48,6 +48,15 @@ impl Made {
             Some(value) => value.as_slice(),
             None => &[],
         }
+    }
+
+    /// Takes the value of constant `n` out, where it is made. It takes a logarithm of their number, and no memory.
+    pub fn take(&mut self, n: u32) -> Option<Value>
+        ensures value { scalars_of result ≡ value_at self.old n }
+        ensures gone { value_at self.new n ≡ [] }
+        ensures others { (k : ℕ) → k ≢ n → value_at self.new k ≡ value_at self.old k }
+    {
+        self.values.remove(&n)
     }
 }
 

@@ -483,5 +483,7 @@ fn judges_and_makes_constants(rt: HostRuntime) -> Result<(), Fail> {
     made.add(3, least)?;
     assert_eq!(rt; made.value(3), [expected].as_slice());
     assert_eq!(rt; made.value(0).len(), 0);
+    assert!(rt; made.take(3).is_some());
+    assert_eq!(rt; made.value(3).len(), 0);
     Ok(())
 }

@@ -1,4 +1,4 @@
-use Rattle.std.proofs.Common.{◌≡◌, ◌++◌, length, map}
+use Rattle.std.proofs.Common.{◌≡◌, ◌++◌, length}
 use Rattle.bundle_constants.specs.Bundle.{constants_of}
 use Rattle.bundle_constants.proofs.constants.constants.Given as goal
 

@@ -1,4 +1,4 @@
-use Rattle.std.proofs.Common.{length, map, vec_len}
+use Rattle.std.proofs.Common.{length, vec_len}
 use Rattle.bundle_constants.specs.Members.{IsMaking, AreLeft}
 use Rattle.bundle_constants.proofs.making.make_all.Given as goal
 

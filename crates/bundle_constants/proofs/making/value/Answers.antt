@@ -2,7 +2,7 @@ use Rattle.std.proofs.Common.{◌≡◌, List, length, refl, subst, IfOk}
 use Rattle.std.proofs.lemmas.Option.{slice_get_read}
 use Rattle.mu_values.specs.declared.scalars.Scalar.{Scalar}
 use Rattle.mu_values.specs.Constants.{value_at}
-use Rattle.bundle_constants.proofs.Passes.{type_fits, literal_fits, value_is}
+use Rattle.bundle_constants.proofs.Passes.{type_fits, width_fits, value_is}
 use Rattle.bundle_constants.proofs.making.value.Goals as goal
 
 pub make_const-requires-clause-t : goal.make_const-requires-clause-t
@@ -11,11 +11,8 @@ make_const-requires-clause-t c =
     type_fits c.args.classes.now.definitions constants c.requires.lawful c.args.n c.index-constants-n.result
     (slice_get_read constants (length constants) c.args.n c.index-constants-n.result refl c.requires.n c.index-constants-n.is)
 
-pub make_const-requires-clause-fits : goal.make_const-requires-clause-fits
-make_const-requires-clause-fits c =
-    let constants = c.args.constants.now in
-    literal_fits c.args.classes.now.definitions constants c.requires.lawful c.args.n c.index-constants-n.result
-    (slice_get_read constants (length constants) c.args.n c.index-constants-n.result refl c.requires.n c.index-constants-n.is)
+pub make_const-requires-clause-width : goal.make_const-requires-clause-width
+make_const-requires-clause-width c = width_fits c.args.classes.now.definitions c.args.constants.now c.requires.lawful c.index-constants-n.result.of_type
 
 pub returns : goal.returns
 returns c =
