@@ -3,4 +3,5 @@ pub mod Clocks
 pub mod NamedWakes
 pub mod ViewFloor
 pub mod Theorems
+pub mod Lemmas
 pub mod ClockExamples

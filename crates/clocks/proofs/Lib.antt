@@ -1,3 +1,2 @@
 pub mod SpansKept
 pub mod PlacesKept
-pub mod Zeros

@@ -4,3 +4,4 @@ pub mod Tables
 pub mod Spans
 pub mod EventSpans
 pub mod KeptClocks
+pub mod Zeros

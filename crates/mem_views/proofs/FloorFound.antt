@@ -18,7 +18,7 @@ use Rattle.mem_axioms.specs.Lemmas.Floors.{greatest-at, greatest-below}
 use Rattle.clock_laws.specs.Clocks.{views}
 use Rattle.clock_laws.specs.NamedWakes.{wakes_are_named}
 use Rattle.clock_laws.specs.ViewFloor.{known_access, view_limit, fences_knew, raises_view_floor, view_floor}
-use Rattle.clock_laws.proofs.FloorTests.{view_floor-is}
+use Rattle.clock_laws.specs.Lemmas.FloorTests.{view_floor-is}
 use Rattle.clocks.specs.Tables.{table_at}
 use Rattle.mem_views.specs.Families.{is_any, has_seq_cst_order}
 use Rattle.mem_views.specs.Indexed.{by_thread}

@@ -16,7 +16,7 @@ use Rattle.mem_views.specs.FloorLooks.{IsFound, FoundFloor}
 use Rattle.mem_views.specs.Holding.{CellHolds}
 use Rattle.mem_views.specs.declared.cell.CellViews.{CellViews}
 use Rattle.mem_views.proofs.Entries.{last_below, entries-floor}
-use Rattle.clocks.proofs.Zeros.{zeros-at}
+use Rattle.clocks.specs.Zeros.{zeros-at}
 
 none-below : (position : ℕ → Event → ℕ) (test : Event → Bool) (log : List Event) → last_below position test 0 log ≡ 0
 none-below position test [] = refl

@@ -13,7 +13,7 @@ use Rattle.mem_axioms.specs.declared.types.Rule.{Rule}
 use Rattle.mem_axioms.specs.Lemmas.Racings.{LeastOr, least-is}
 use Rattle.mem_axioms.specs.Lemmas.Kept.{on_one, one_cell}
 use Rattle.clock_laws.specs.Clocks.{views, knew}
-use Rattle.clock_laws.proofs.Tests.{next-test}
+use Rattle.clock_laws.specs.Lemmas.Tests.{next-test}
 use Rattle.write_history.specs.Indexes.{first_after}
 use Rattle.mem_views.specs.Families.{is_not_atomic}
 use Rattle.mem_views.specs.Indexed.{accesses_at, entries_of, by_thread}

@@ -193,7 +193,7 @@ static MESSAGE_PASSING_THROUGH_AN_UPDATE: [Line; 13] = [
     put!(2, Read, NotAtomic, 0, 0, 1, int!(40)),
 ];
 
-static COMPARISONS: [Line; 14] = [
+static WEAK_COMPARISON: [Line; 10] = [
     stack!(0, NewStack, 1),
     thread!(0, 1),
     stack!(1, Enter, 1),
@@ -201,12 +201,19 @@ static COMPARISONS: [Line; 14] = [
     compares!(1, true, 0, 0, chosen!(1, 1, false)),
     compares!(1, true, 0, 1, chosen!(0, 0, false)),
     compares!(1, true, 0, 2, None),
-    compares!(1, false, 0, 0, chosen!(1, 1, false)),
-    compares!(1, false, 0, 1, None),
     compares!(1, true, 1, 0, chosen!(1, 1, true)),
     compares!(1, true, 1, 1, chosen!(1, 1, false)),
-    compares!(1, false, 1, 1, chosen!(0, 0, false)),
     put!(1, Read, Relaxed, 0, 0, 0, int!(0)),
+];
+
+static STRONG_COMPARISON: [Line; 8] = [
+    stack!(0, NewStack, 1),
+    thread!(0, 1),
+    stack!(1, Enter, 1),
+    put!(0, Write, Relaxed, 0, 0, 1, int!(1)),
+    compares!(1, false, 0, 0, chosen!(1, 1, false)),
+    compares!(1, false, 0, 1, None),
+    compares!(1, false, 1, 1, chosen!(0, 0, false)),
     put!(1, Read, Relaxed, 0, 0, 1, int!(1)),
 ];
 
@@ -296,12 +303,13 @@ static OWN_STORE_ENDS: [Line; 8] = [
 #[test]
 fn lists_have_their_answers(rt: HostRuntime) -> Result<(), Fail> {
     let alloc = rt.alloc();
-    let lists: [&[Line]; 10] = [
+    let lists: [&[Line]; 11] = [
         &GENERATOR,
         &MESSAGE_PASSING,
         &MESSAGE_PASSING_BY_A_PLAIN_FLAG,
         &MESSAGE_PASSING_THROUGH_AN_UPDATE,
-        &COMPARISONS,
+        &WEAK_COMPARISON,
+        &STRONG_COMPARISON,
         &STACK_OF_A_NEW_THREAD,
         &MIGRATING_STACK,
         &WAKE,

@@ -1,4 +1,4 @@
-use Rattle.clock_laws.proofs.FloorTests.{view_floor-is}
+use Rattle.clock_laws.specs.Lemmas.FloorTests.{view_floor-is}
 use Rattle.clock_laws.proofs.laws.floor_by_clocks_is_the_floor.Goals as goal
 
 pub returns : goal.returns

@@ -1,4 +1,4 @@
-use Rattle.clock_laws.proofs.Tests.{before-test, next-test, known-test}
+use Rattle.clock_laws.specs.Lemmas.Tests.{before-test, next-test, known-test}
 use Rattle.clock_laws.proofs.laws.happens_before_is_a_clock_test.Goals as goal
 
 pub returns-clause-event : goal.returns-clause-event

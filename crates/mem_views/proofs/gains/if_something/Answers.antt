@@ -1,5 +1,5 @@
 use Rattle.std.proofs.Common.{◌∙◌, sym, ap, ℕ, List, slice_index}
-use Rattle.clocks.proofs.Zeros.{zeros-at}
+use Rattle.clocks.specs.Zeros.{zeros-at}
 use Rattle.mem_views.proofs.gains.if_something.Goals as goal
 
 pub returns-then-is_nothing : goal.returns-then-is_nothing

@@ -1,4 +1,4 @@
-use Rattle.clocks.proofs.Zeros.{zeros-at}
+use Rattle.clocks.specs.Zeros.{zeros-at}
 use Rattle.clocks.proofs.clock.Clock.new.Goals as goal
 
 pub returns-clause-nothing : goal.returns-clause-nothing

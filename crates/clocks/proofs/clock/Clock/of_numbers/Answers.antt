@@ -1,5 +1,5 @@
 use Rattle.std.proofs.Common.{refl, arith}
-use Rattle.clocks.proofs.Zeros.{zeros-at}
+use Rattle.clocks.specs.Zeros.{zeros-at}
 use Rattle.clocks.proofs.clock.Clock.of_numbers.Goals as goal
 
 pub loop-t-init : goal.loop-t-init

@@ -1,6 +1,6 @@
 use Rattle.std.proofs.Common.{◌∙◌, sym, ap, List, ℕ, [], slice_index, arith}
 use Rattle.std.proofs.lemmas.List.{get_or_past}
-use Rattle.clocks.proofs.Zeros.{zeros-at}
+use Rattle.clocks.specs.Zeros.{zeros-at}
 use Rattle.clocks.proofs.thread_clocks.ThreadClocks.of.Goals as goal
 
 pub returns-else-thread-len : goal.returns-else-thread-len

@@ -7,7 +7,7 @@ use Rattle.mem_views.proofs.CellKept.{cell-few}
 use Rattle.mem_views.proofs.ThreadsMade.{made-small, made-few, cell-made}
 use Rattle.mem_axioms.specs.Events.{is_seq_cst}
 use Rattle.clocks.specs.Tables.{table_at}
-use Rattle.clocks.proofs.Zeros.{zeros-at}
+use Rattle.clocks.specs.Zeros.{zeros-at}
 use Rattle.mem_views.proofs.NoneFound.{known-found, no-fence, one-of-three}
 use Rattle.mem_views.proofs.FloorFound.{untouched-floor, floor-found, before-known}
 use Rattle.mem_views.proofs.view_memory.ViewMemory.floor.Goals as goal

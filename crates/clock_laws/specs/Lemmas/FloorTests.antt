@@ -18,9 +18,9 @@ use Rattle.mem_axioms.specs.Lemmas.Floors.{last-is}
 use Rattle.clock_laws.specs.Clocks.{Clock, views}
 use Rattle.clock_laws.specs.NamedWakes.{wakes_are_named}
 use Rattle.clock_laws.specs.ViewFloor.{known_access, view_limit, fences_knew, raises_view_floor, view_floor}
-use Rattle.clock_laws.proofs.Stands.{Stands, stands-ext}
-use Rattle.clock_laws.proofs.Tests.{same-test, known-test}
-use Rattle.clock_laws.proofs.SeqCstFences.{Joined, CorrectFences, fences-correct}
+use Rattle.clock_laws.specs.Lemmas.Stands.{Stands, stands-ext}
+use Rattle.clock_laws.specs.Lemmas.Tests.{same-test, known-test}
+use Rattle.clock_laws.specs.Lemmas.SeqCstFences.{Joined, CorrectFences, fences-correct}
 
 -- tests that are equal at each event
 pub greatest-same : (test test' : ℕ → Event → Bool) (log : List Event) → ((i : ℕ) (e : Event) → event_at log i ≡ Some e → test i e ≡ test' i e) → greatest_position test log ≡ greatest_position test' log

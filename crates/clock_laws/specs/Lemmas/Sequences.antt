@@ -13,8 +13,8 @@ use Rattle.mem_axioms.specs.Lemmas.Numbers.{event-below, event-kept, event-older
 use Rattle.mem_axioms.specs.Lemmas.Steps.{step-newest}
 use Rattle.mem_axioms.specs.Lemmas.Positions.{heads-below}
 use Rattle.clock_laws.specs.Clocks.{Clock, Views, knows, gives}
-use Rattle.clock_laws.proofs.Stands.{Stands, Upto, upto-less, upto-older, stands-none, stands-same, stands-or, stands-if, stands-older}
-use Rattle.clock_laws.proofs.ClockTest.{Frees, Sent, SentBy, Fenced}
+use Rattle.clock_laws.specs.Lemmas.Stands.{Stands, Upto, upto-less, upto-older, stands-none, stands-same, stands-or, stands-if, stands-older}
+use Rattle.clock_laws.specs.Lemmas.ClockTest.{Frees, Sent, SentBy, Fenced}
 
 -- a write that goes on a sequence and is no update goes on those of its own thread alone
 goes-own : (rule : Rule) (e : Event) (t : ℕ) → is_update e ≡ false → continues rule e t ≡ true → e.thread ≡ t

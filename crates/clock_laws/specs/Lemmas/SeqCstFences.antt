@@ -11,10 +11,10 @@ use Rattle.mem_axioms.specs.declared.types.Rule.{Rule}
 use Rattle.mem_axioms.specs.Lemmas.Numbers.{event-below, event-kept, event-cases, event-newest}
 use Rattle.clock_laws.specs.NamedWakes.{names_wake, wakes_are_named}
 use Rattle.clock_laws.specs.Clocks.{Clock, Views, join, knows, after, views}
-use Rattle.clock_laws.proofs.Stands.{Stands, Upto, upto-less, upto-older, stands-none, stands-same, stands-or, stands-ext, stands-older}
-use Rattle.clock_laws.proofs.ClockTest.{Correct, NamesWake, names-wake}
-use Rattle.clock_laws.proofs.Sequences.{older-at}
-use Rattle.clock_laws.proofs.Machine.{own, views-correct}
+use Rattle.clock_laws.specs.Lemmas.Stands.{Stands, Upto, upto-less, upto-older, stands-none, stands-same, stands-or, stands-ext, stands-older}
+use Rattle.clock_laws.specs.Lemmas.ClockTest.{Correct, NamesWake, names-wake}
+use Rattle.clock_laws.specs.Lemmas.Sequences.{older-at}
+use Rattle.clock_laws.specs.Lemmas.Machine.{own, views-correct}
 
 module _ (rule : Rule) where
   -- event i is up to some SEQ_CST fence before event a

@@ -19,9 +19,9 @@ use Rattle.mem_axioms.specs.Lemmas.Steps.{before-less}
 use Rattle.mem_axioms.specs.Lemmas.Positions.{fits-next, form-position, newest-changed, newest-same, heads-below}
 use Rattle.clock_laws.specs.NamedWakes.{names_wake, wakes_are_named}
 use Rattle.clock_laws.specs.Clocks.{Views, start, join, knows, gives, pends, after, views}
-use Rattle.clock_laws.proofs.Stands.{Stands, Upto, upto-less, upto-older, stands-none, stands-same, stands-or, stands-ext, stands-older}
-use Rattle.clock_laws.proofs.ClockTest.{taken-below, Sent, SentBy, Left, Fenced, Pending, Correct, NamesWake, names-wake, released-sent, sent-released, give-below, known-new, known-own, knows-stands}
-use Rattle.clock_laws.proofs.Sequences.{Own, own-stands, sequenced, older-at, sent-same, sent_by-same, sequence-new, released-new, heads-same}
+use Rattle.clock_laws.specs.Lemmas.Stands.{Stands, Upto, upto-less, upto-older, stands-none, stands-same, stands-or, stands-ext, stands-older}
+use Rattle.clock_laws.specs.Lemmas.ClockTest.{taken-below, Sent, SentBy, Left, Fenced, Pending, Correct, NamesWake, names-wake, released-sent, sent-released, give-below, known-new, known-own, knows-stands}
+use Rattle.clock_laws.specs.Lemmas.Sequences.{Own, own-stands, sequenced, older-at, sent-same, sent_by-same, sequence-new, released-new, heads-same}
 
 module _ (rule : Rule) where
   known-less : (past : List Event) (t i : ℕ) → is_known rule past t i ≡ true → i < length past

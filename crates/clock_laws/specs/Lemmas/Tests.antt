@@ -13,9 +13,9 @@ use Rattle.mem_axioms.specs.declared.types.Rule.{Rule}
 use Rattle.mem_axioms.specs.Lemmas.Steps.{before-less}
 use Rattle.clock_laws.specs.Clocks.{Clock, knew, views}
 use Rattle.clock_laws.specs.NamedWakes.{names_wake, wakes_are_named}
-use Rattle.clock_laws.proofs.Stands.{Stands, Upto}
-use Rattle.clock_laws.proofs.ClockTest.{names-wake, knew-stands, give-below}
-use Rattle.clock_laws.proofs.Machine.{views-correct}
+use Rattle.clock_laws.specs.Lemmas.Stands.{Stands, Upto}
+use Rattle.clock_laws.specs.Lemmas.ClockTest.{names-wake, knew-stands, give-below}
+use Rattle.clock_laws.specs.Lemmas.Machine.{views-correct}
 
 -- tests that hold together are equal
 pub same-test : (a b : Bool) → (a ≡ true → b ≡ true) → (b ≡ true → a ≡ true) → a ≡ b

@@ -20,7 +20,7 @@ use Rattle.mem_axioms.specs.Lemmas.Numbers.{any-from, any-some, event-below, eve
 use Rattle.mem_axioms.specs.Lemmas.Steps.{Step, newest-step, step-newest, before-older}
 use Rattle.clock_laws.specs.NamedWakes.{names_wake}
 use Rattle.clock_laws.specs.Clocks.{Views, gains, knew, knows}
-use Rattle.clock_laws.proofs.Stands.{Stands, Upto, stands-none, stands-same, stands-or, stands-new, Gains, before-parts}
+use Rattle.clock_laws.specs.Lemmas.Stands.{Stands, Upto, stands-none, stands-same, stands-or, stands-new, Gains, before-parts}
 
 -- what a head gives: itself, or a release fence before it
 abbrev pub Frees : ℕ → Event → ℕ → Event → Type 0
