@@ -1,5 +1,5 @@
 -- To believe: what the forms of instructions ask of the types that they name, by the types' definitions.
-use Rattle.std.specs.Prelude.{ℕ, Bool, true, false, List, Option, Some, None, length, slice_get, is_some, nat_le, if◌then◌else◌, ◌&&◌}
+use Rattle.std.specs.Prelude.{ℕ, Bool, true, false, List, Option, Some, None, length, slice_get, is_some, nat_eq, nat_le, if◌then◌else◌, ◌&&◌}
 use Rattle.ir_lex.specs.declared.token.Number.{Number}
 use Rattle.type_laws.specs.declared.definition.TypeDef.{TypeDef}
 use Rattle.type_laws.specs.declared.definition.TypeDef.TheVariants.{Int, Struct, Array, Hybrid, Void, Ref, Iref, FuncRef, StackRef, ThreadRef, Sig}
@@ -188,6 +188,10 @@ width_of (Some StackRef) = 0
 width_of (Some ThreadRef) = 0
 width_of (Some (Sig takes gives)) = 0
 width_of None = 0
+
+-- an int of 64 bits
+abbrev pub is_int64 : Option TypeDef → Bool
+is_int64 d = is_int d && nat_eq (width_of d) 64
 
 abbrev pub is_not_wider : Option TypeDef → Option TypeDef → Bool
 is_not_wider from to = is_int to && nat_le (width_of to) (width_of from)
