@@ -214,6 +214,7 @@ common_ends (commons.SetThreadlocal r) = false
 common_ends commons.GetThreadlocal = false
 common_ends (commons.FutexWait t l v) = false
 common_ends (commons.FutexWake t l n) = false
+common_ends (commons.FutexWaitTimeout t l v n) = false
 
 -- and every instruction with EXC
 abbrev pub is_ending : Op → Bool
