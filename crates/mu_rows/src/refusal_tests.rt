@@ -1911,13 +1911,14 @@ fn stacks_and_threads(rt: HostRuntime) -> Result<(), Fail> {
 }
 
 // Common instructions.
-const GOOD_COMMON_INSTRUCTIONS: [&str; 3] = [
+const GOOD_COMMON_INSTRUCTIONS: [&str; 4] = [
     "%o = COMMINST @uvm.new_stack <[@none]> (%f) COMMINST @uvm.kill_stack (%o) COMMINST @uvm.thread_exit",
     "%o = COMMINST @uvm.current_stack %w = COMMINST @uvm.get_threadlocal COMMINST @uvm.set_threadlocal (%w) SWAPSTACK %o KILL_OLD THROW_EXC %w",
     "%o = COMMINST @uvm.futex.wait <@i64> (%p %x) %w = COMMINST @uvm.futex.wake <@i64> (@cell %o) RET (%x)",
+    "%o = COMMINST @uvm.futex.wait_timeout <@i64> (@cell %x %x) %w = COMMINST @uvm.futex.wake <@i64> (%p %o) RET (%x)",
 ];
 
-const BAD_COMMON_INSTRUCTIONS: [Row; 11] = [
+const BAD_COMMON_INSTRUCTIONS: [Row; 12] = [
     (
         "%o = COMMINST @uvm.new_stack <[@none]> (%s) RET (%x)",
         "refused bundle 190 OperandType\n",
@@ -1961,6 +1962,10 @@ const BAD_COMMON_INSTRUCTIONS: [Row; 11] = [
     (
         "%o = COMMINST @uvm.futex.wake <@i64> (%p %x) RET (%x)",
         "refused bundle 191 OperandType\n",
+    ),
+    (
+        "%o = COMMINST @uvm.futex.wait_timeout <@i64> (%p %x %n) RET (%x)",
+        "refused bundle 202 OperandType\n",
     ),
 ];
 
