@@ -1,5 +1,5 @@
 -- To believe: what the forms of instructions ask of the types that they name, by the types' definitions.
-use Rattle.std.specs.Prelude.{ℕ, Bool, true, false, List, Option, Some, None, length, slice_get, is_some, nat_le, if◌then◌else◌, ◌&&◌}
+use Rattle.std.specs.Prelude.{ℕ, Bool, true, false, List, Option, Some, None, length, slice_get, is_some, nat_eq, nat_le, if◌then◌else◌, ◌&&◌}
 use Rattle.ir_lex.specs.declared.token.Number.{Number}
 pub use Rattle.type_laws.specs.Scalars.{is_scalar}
 use Rattle.type_laws.specs.declared.definition.TypeDef.{TypeDef}
@@ -92,6 +92,10 @@ repeated_of _ = None
 abbrev pub width_of : Option TypeDef → ℕ
 width_of (Some (Int width)) = width
 width_of _ = 0
+
+-- an int of 64 bits
+abbrev pub is_int64 : Option TypeDef → Bool
+is_int64 d = is_int d && nat_eq (width_of d) 64
 
 abbrev pub is_not_wider : Option TypeDef → Option TypeDef → Bool
 is_not_wider from to = is_int to && nat_le (width_of to) (width_of from)

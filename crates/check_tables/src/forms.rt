@@ -1,7 +1,8 @@
 // What the forms of instructions ask of the types that they name.
 ghost use Rattle.std.specs.Prelude.{◌≡◌, Some, is_some, option_map, IfSome};
+ghost use Rattle.check_tables.specs.Types.{definition_in};
 ghost use Rattle.check_tables.specs.Lookups.{definition_named, leaves_named};
-ghost use Rattle.check_tables.specs.TypeTests.{is_int, is_scalar, is_sized, is_no_hybrid, is_value_type, is_castable, are_cast, is_hybrid, is_struct, fields_of, fixed_fields_of, field_at, element_of, repeated_of, width_of, is_not_wider, is_not_narrower, is_index_type};
+ghost use Rattle.check_tables.specs.TypeTests.{is_int, is_scalar, is_sized, is_no_hybrid, is_value_type, is_castable, are_cast, is_hybrid, is_struct, fields_of, fixed_fields_of, field_at, element_of, repeated_of, width_of, is_int64, is_not_wider, is_not_narrower, is_index_type};
 
 use crate::tables::Tables;
 use ir_lex::{Name, Number};
@@ -187,6 +188,19 @@ impl Tables {
         match self.definition_named(name) {
             Some(TypeDef::Int { width }) => *width,
             _ => 0,
+        }
+    }
+
+    /// Whether there is a class, and its types are ints of 64 bits.
+    pub fn is_class_of_int64(&self, class: Option<u32>) -> bool
+        ensures { result ≡ is_int64 (definition_in self.now.types class) }
+    {
+        match class {
+            Some(class) => match self.types.definition(class) {
+                Some(TypeDef::Int { width }) => *width == 64,
+                _ => false,
+            },
+            None => false,
         }
     }
 

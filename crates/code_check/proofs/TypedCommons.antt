@@ -13,7 +13,7 @@ use Rattle.code_check.specs.declared.scopes.Locals.{Locals}
 use Rattle.code_check.specs.Operands.{source_of}
 use Rattle.code_check.specs.Commons.{common_demands, common_gives, common_code}
 use Rattle.code_check.specs.Typed.{SourceFits, CommonFits, LocalsFit}
-use Rattle.code_check.proofs.TypedOperands.{operand_fits, of_type_fits, place_fits, TypeIn, type_of, SignatureIn, signature_of}
+use Rattle.code_check.proofs.TypedOperands.{operand_fits, int64_fits, of_type_fits, place_fits, TypeIn, type_of, SignatureIn, signature_of}
 
 pub common_fits : (p : Tables) (ls : Locals) (c : CommonInst) → LocalsFit ls → AllMet (common_demands p ls c) →
     CommonFits p ls.classes (common_code p ls c) (common_gives p c)
@@ -35,5 +35,13 @@ common_fits p ls (commons.FutexWake t l n) fits m =
       type.type,
       place_fits p ls l (type_named p t) type.type.number fits type.is m.1.0,
       operand_fits p ls OperandType n (Some (int32 p.types)) fits m.1.1,
+      refl,
+    )
+common_fits p ls (commons.FutexWaitTimeout t l v n) fits m =
+    let type : TypeIn p (type_named p t) is_int = type_of p t is_int refl m.0 in (
+      type.type,
+      place_fits p ls l (type_named p t) type.type.number fits type.is m.1.0,
+      of_type_fits p ls v t fits m.1.1.0,
+      int64_fits p ls n fits m.1.1.1,
       refl,
     )

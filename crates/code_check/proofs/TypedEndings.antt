@@ -52,6 +52,7 @@ ends_as p f before later (ops.Common (commons.SetThreadlocal r)) = refl
 ends_as p f before later (ops.Common commons.GetThreadlocal) = refl
 ends_as p f before later (ops.Common (commons.FutexWait t l v)) = refl
 ends_as p f before later (ops.Common (commons.FutexWake t l n)) = refl
+ends_as p f before later (ops.Common (commons.FutexWaitTimeout t l v n)) = refl
 
 -- code ends its block where its instruction does
 pub ends_same : (p : Tables) (f : Body) (ls : Locals) (i : Inst) → code_ends (inst_code p f ls i) ≡ is_ending i.op

@@ -15,17 +15,17 @@ use Rattle.check_tables.specs.declared.fault.CheckKind.{CheckKind}
 use Rattle.check_tables.specs.declared.fault.CheckKind.TheVariants.{OperandType, ArgumentType}
 use Rattle.check_tables.specs.declared.tables.Signature.{Signature}
 use Rattle.check_tables.specs.declared.tables.Tables.{Tables}
-use Rattle.check_tables.specs.Types.{definition_in, class_in, leaves_in, iref_in}
+use Rattle.check_tables.specs.Types.{definition_at, definition_in, class_in, leaves_in, iref_in}
 use Rattle.check_tables.specs.Lookups.{or_zero, type_named, class_named, noted_class, signature_number, signature_in, signature_named, noted_signature, funcref_of, global_class}
-use Rattle.check_tables.specs.TypeTests.{is_value_type, field_at}
+use Rattle.check_tables.specs.TypeTests.{is_int64, is_value_type, field_at}
 use Rattle.code_check.specs.declared.code.Source.{Source}
 use Rattle.code_check.specs.declared.scopes.BlockEntry.{BlockEntry}
 use Rattle.code_check.specs.declared.scopes.Variable.{Variable}
 use Rattle.code_check.specs.declared.scopes.Locals.{Locals}
 use Rattle.code_check.specs.declared.scopes.Body.{Body}
-use Rattle.code_check.specs.Operands.{is_class, of_type, variable_class, variable_number, operand_demands, member_demands, argument_demands, value_type_demands, variable_demands, global_source, source_of, sources_of, noted_list, numbers_in}
+use Rattle.code_check.specs.Operands.{is_class, of_type, variable_class, variable_number, operand_class, operand_demands, int64_demands, member_demands, argument_demands, value_type_demands, variable_demands, global_source, source_of, sources_of, noted_list, numbers_in}
 use Rattle.code_check.specs.Destinations.{block_named, entry_takes, takes_no_exception, block_number, target_of, exceptional_demands, normal_demands, optional_normal_demands, optional_exceptional_demands, optional_target, keepalive_demands, keepalive_numbers}
-use Rattle.code_check.specs.Typed.{SourceFits, SourcesFit, PlaceFits, nth_of, AreVariables, HasType, HasValueType, HaveValueTypes, HasSignature, Blocks, TargetFits, NormalFits, OptionalTargetFits, OptionalNormalFits, LocalsFit, BodyFits}
+use Rattle.code_check.specs.Typed.{SourceFits, SourcesFit, PlaceFits, Int64Fits, nth_of, AreVariables, HasType, HasValueType, HaveValueTypes, HasSignature, Blocks, TargetFits, NormalFits, OptionalTargetFits, OptionalNormalFits, LocalsFit, BodyFits}
 
 -- ---- tests
 
@@ -73,6 +73,19 @@ pub operand_fits : (p : Tables) (ls : Locals) (kind : CheckKind) (o : Operand) (
     AllMet (operand_demands p ls kind o wanted) → IsSomeAnd wanted (λ c. SourceFits p ls.classes (source_of p ls o) c)
 operand_fits p ls kind (Local n) wanted fits m = variable_fits p ls n.text (found ls.names n.text) wanted fits refl m.1
 operand_fits p ls kind (Global n) wanted fits m = global_fits p ls.classes (found p.globals.names n.text) wanted m.1
+
+-- of type int<64>, whose class is there
+int64_class : (p : Tables) (o : Option ℕ) → is_int64 (definition_in p.types o) ≡ true → (c : ℕ) × (o ≡ Some c) × (is_int64 (definition_at p.types c) ≡ true)
+int64_class p None h = cc
+int64_class p (Some c) h = (c, refl, h)
+
+is_its_class : (o : Option ℕ) (c : ℕ) → o ≡ Some c → is_class o (Some c) ≡ true
+is_its_class o c e = let h : nat_eq c c ≡ true = grind arith in subst (λ (x : Option ℕ). is_class x (Some c) ≡ true) (sym e) h
+
+pub int64_fits : (p : Tables) (ls : Locals) (o : Operand) → LocalsFit ls → AllMet (int64_demands p ls o) → Int64Fits p ls.classes (source_of p ls o)
+int64_fits p ls o fits m =
+    let (c, is, passes) = int64_class p (operand_class p ls o) m.1 in
+    (c, operand_fits p ls OperandType o (Some c) fits (m.0, is_its_class (operand_class p ls o) c is), passes)
 
 -- of the type with this name
 pub of_type_fits : (p : Tables) (ls : Locals) (o : Operand) (n : Name) → LocalsFit ls → AllMet (of_type p ls o n) → SourceFits p ls.classes (source_of p ls o) (noted_class p n)

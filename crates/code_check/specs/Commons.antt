@@ -12,7 +12,7 @@ use Rattle.check_tables.specs.TypeTests.{is_int}
 use Rattle.code_check.specs.declared.code.CommonForm.{CommonForm}
 use Rattle.code_check.specs.declared.code.CommonForm.TheVariants as forms
 use Rattle.code_check.specs.declared.scopes.Locals.{Locals}
-use Rattle.code_check.specs.Operands.{operand_demands, of_type, type_demand, source_of}
+use Rattle.code_check.specs.Operands.{operand_demands, int64_demands, of_type, type_demand, source_of}
 use Rattle.code_check.specs.Objects.{place_of_type}
 use Rattle.code_check.specs.Stacks.{stack_demands}
 
@@ -34,6 +34,9 @@ common_demands p ls (commons.FutexWait t l v) = type_demand t (is_int (definitio
 -- @uvm.futex.wake < T > ( p n ): T int; p: iref<T>; n: int<32>
 common_demands p ls (commons.FutexWake t l n) =
     type_demand t (is_int (definition_named p t)) ⨾ place_of_type p ls l t ⨾ operand_demands p ls OperandType n (Some (int32 p.types))
+-- @uvm.futex.wait_timeout < T > ( p v n ): T int; p: iref<T>; v: T; n: int<64>
+common_demands p ls (commons.FutexWaitTimeout t l v n) =
+    type_demand t (is_int (definition_named p t)) ⨾ place_of_type p ls l t ⨾ of_type p ls v t ⨾ int64_demands p ls n
 
 -- the classes of the results
 abbrev pub common_gives : Tables → CommonInst → List ℕ
@@ -45,6 +48,7 @@ common_gives p (commons.SetThreadlocal r) = []
 common_gives p commons.GetThreadlocal = ref_void p.types ∷ []
 common_gives p (commons.FutexWait t l v) = int32 p.types ∷ []
 common_gives p (commons.FutexWake t l n) = int32 p.types ∷ []
+common_gives p (commons.FutexWaitTimeout t l v n) = int32 p.types ∷ []
 
 abbrev pub common_code : Tables → Locals → CommonInst → CommonForm
 common_code p ls (commons.NewStack s f) = forms.NewStack (noted_signature (signature_named p s)) (source_of p ls f)
@@ -55,3 +59,4 @@ common_code p ls (commons.SetThreadlocal r) = forms.SetThreadlocal (source_of p 
 common_code p ls commons.GetThreadlocal = forms.GetThreadlocal
 common_code p ls (commons.FutexWait t l v) = forms.FutexWait (noted_class p t) (source_of p ls l) (source_of p ls v)
 common_code p ls (commons.FutexWake t l n) = forms.FutexWake (noted_class p t) (source_of p ls l) (source_of p ls n)
+common_code p ls (commons.FutexWaitTimeout t l v n) = forms.FutexWaitTimeout (noted_class p t) (source_of p ls l) (source_of p ls v) (source_of p ls n)

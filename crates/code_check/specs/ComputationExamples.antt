@@ -12,7 +12,7 @@ use Rattle.ir_tree.specs.Control.{branch, branch2, switch_case, switch, call, ta
 use Rattle.ir_tree.specs.Objects.{new_object, newhybrid, alloca, allocation, getiref, getfieldiref, getelemiref, shiftiref, getvarpartiref, addressing_form}
 use Rattle.ir_tree.specs.Accesses.{optional_order, load, store, weak, cmpxchg, atomicrmw, fence, access}
 use Rattle.ir_tree.specs.Stacks.{trap, wpexc, watchpoint, wpbranch, trapping_form, returning, killing, swapstack, threadlocal, newthread, stack_switch}
-use Rattle.ir_tree.specs.CommonForms.{one_value, two_values, new_stack, kill_stack, thread_exit, current_stack, set_threadlocal, get_threadlocal, futex_wait, futex_wake, common_inst}
+use Rattle.ir_tree.specs.CommonForms.{one_value, two_values, three_values, new_stack, kill_stack, thread_exit, current_stack, set_threadlocal, get_threadlocal, futex_wait, futex_wake, futex_wait_timeout, common_inst}
 use Rattle.ir_tree.specs.Instructions.{op}
 use Rattle.ir_tree.specs.Samples.{meaning}
 use Rattle.type_laws.specs.Same.{alike}
@@ -44,7 +44,7 @@ computations_are_judged :
     × (gives_c (meaning op (codes "REFCAST <@box @object> %box")) ≡ good)
     × (gives_c (meaning op (codes "REFCAST <@object @place> %e")) ≡ at OperandType 17)
     × (gives_c (meaning op (codes "REFCAST <@long @place> %a")) ≡ at OperandType 9)
-unfolding tokens_from tokens_within next_of gap_len words directives common_names elements mark name numeral order global local bracketed bracketed_pair local_list type_list value values dest exc keep pass_values throw_exc new_stack_clause binary compare convert refcast select bracketed_field extractvalue insertvalue computation branch branch2 switch_case switch call tailcall ret throw control new_object newhybrid alloca allocation getiref getfieldiref getelemiref shiftiref getvarpartiref addressing_form optional_order load store weak cmpxchg atomicrmw fence access trap wpexc watchpoint wpbranch trapping_form returning killing swapstack threadlocal newthread stack_switch one_value two_values new_stack kill_stack thread_exit current_stack set_threadlocal get_threadlocal futex_wait futex_wake common_inst op alike leaves_to argument_demands inst_demands
+unfolding tokens_from tokens_within next_of gap_len words directives common_names elements mark name numeral order global local bracketed bracketed_pair local_list type_list value values dest exc keep pass_values throw_exc new_stack_clause binary compare convert refcast select bracketed_field extractvalue insertvalue computation branch branch2 switch_case switch call tailcall ret throw control new_object newhybrid alloca allocation getiref getfieldiref getelemiref shiftiref getvarpartiref addressing_form optional_order load store weak cmpxchg atomicrmw fence access trap wpexc watchpoint wpbranch trapping_form returning killing swapstack threadlocal newthread stack_switch one_value two_values three_values new_stack kill_stack thread_exit current_stack set_threadlocal get_threadlocal futex_wait futex_wake futex_wait_timeout common_inst op alike leaves_to argument_demands inst_demands
 computations_are_judged = (refl, refl, refl, refl, refl, refl, refl, refl, refl, refl, refl, refl, refl, refl, refl, refl, refl, refl, refl, refl, refl)
 
 values_are_chosen_and_changed :
@@ -61,7 +61,7 @@ values_are_chosen_and_changed :
     × (gives_c (meaning op (codes "EXTRACTVALUE <@row 0> %pair")) ≡ at OperandType 14)
     × (gives_c (meaning op (codes "INSERTVALUE <@pair 1> %pair @yes")) ≡ good)
     × (gives_c (meaning op (codes "INSERTVALUE <@pair 1> %pair %a")) ≡ at OperandType 28)
-unfolding tokens_from tokens_within next_of gap_len words directives common_names elements mark name numeral order global local bracketed bracketed_pair local_list type_list value values dest exc keep pass_values throw_exc new_stack_clause binary compare convert refcast select bracketed_field extractvalue insertvalue computation branch branch2 switch_case switch call tailcall ret throw control new_object newhybrid alloca allocation getiref getfieldiref getelemiref shiftiref getvarpartiref addressing_form optional_order load store weak cmpxchg atomicrmw fence access trap wpexc watchpoint wpbranch trapping_form returning killing swapstack threadlocal newthread stack_switch one_value two_values new_stack kill_stack thread_exit current_stack set_threadlocal get_threadlocal futex_wait futex_wake common_inst op alike leaves_to argument_demands inst_demands
+unfolding tokens_from tokens_within next_of gap_len words directives common_names elements mark name numeral order global local bracketed bracketed_pair local_list type_list value values dest exc keep pass_values throw_exc new_stack_clause binary compare convert refcast select bracketed_field extractvalue insertvalue computation branch branch2 switch_case switch call tailcall ret throw control new_object newhybrid alloca allocation getiref getfieldiref getelemiref shiftiref getvarpartiref addressing_form optional_order load store weak cmpxchg atomicrmw fence access trap wpexc watchpoint wpbranch trapping_form returning killing swapstack threadlocal newthread stack_switch one_value two_values three_values new_stack kill_stack thread_exit current_stack set_threadlocal get_threadlocal futex_wait futex_wake futex_wait_timeout common_inst op alike leaves_to argument_demands inst_demands
 values_are_chosen_and_changed = (refl, refl, refl, refl, refl, refl, refl, refl, refl, refl, refl, refl, refl)
 
 branches_are_judged :
@@ -77,7 +77,7 @@ branches_are_judged :
     × (plain (meaning op (codes "SWITCH <@long> %a %n() { @one %m(%a) @yes %n() }")) ≡ at OperandType 37)
     × (plain (meaning op (codes "SWITCH <@object> %e %n() { }")) ≡ at OperandType 8)
     × (gives_c (meaning op (codes "BRANCH %n()")) ≡ at ResultCount 0)
-unfolding tokens_from tokens_within next_of gap_len words directives common_names elements mark name numeral order global local bracketed bracketed_pair local_list type_list value values dest exc keep pass_values throw_exc new_stack_clause binary compare convert refcast select bracketed_field extractvalue insertvalue computation branch branch2 switch_case switch call tailcall ret throw control new_object newhybrid alloca allocation getiref getfieldiref getelemiref shiftiref getvarpartiref addressing_form optional_order load store weak cmpxchg atomicrmw fence access trap wpexc watchpoint wpbranch trapping_form returning killing swapstack threadlocal newthread stack_switch one_value two_values new_stack kill_stack thread_exit current_stack set_threadlocal get_threadlocal futex_wait futex_wake common_inst op alike leaves_to argument_demands inst_demands
+unfolding tokens_from tokens_within next_of gap_len words directives common_names elements mark name numeral order global local bracketed bracketed_pair local_list type_list value values dest exc keep pass_values throw_exc new_stack_clause binary compare convert refcast select bracketed_field extractvalue insertvalue computation branch branch2 switch_case switch call tailcall ret throw control new_object newhybrid alloca allocation getiref getfieldiref getelemiref shiftiref getvarpartiref addressing_form optional_order load store weak cmpxchg atomicrmw fence access trap wpexc watchpoint wpbranch trapping_form returning killing swapstack threadlocal newthread stack_switch one_value two_values three_values new_stack kill_stack thread_exit current_stack set_threadlocal get_threadlocal futex_wait futex_wake futex_wait_timeout common_inst op alike leaves_to argument_demands inst_demands
 branches_are_judged = (refl, refl, refl, refl, refl, refl, refl, refl, refl, refl, refl, refl)
 
 calls_are_judged :
@@ -98,7 +98,7 @@ calls_are_judged :
     × (plain (meaning op (codes "RET %bit")) ≡ at ArgumentType 4)
     × (plain (meaning op (codes "THROW %e")) ≡ good)
     × (plain (meaning op (codes "THROW %box")) ≡ at OperandType 6)
-unfolding tokens_from tokens_within next_of gap_len words directives common_names elements mark name numeral order global local bracketed bracketed_pair local_list type_list value values dest exc keep pass_values throw_exc new_stack_clause binary compare convert refcast select bracketed_field extractvalue insertvalue computation branch branch2 switch_case switch call tailcall ret throw control new_object newhybrid alloca allocation getiref getfieldiref getelemiref shiftiref getvarpartiref addressing_form optional_order load store weak cmpxchg atomicrmw fence access trap wpexc watchpoint wpbranch trapping_form returning killing swapstack threadlocal newthread stack_switch one_value two_values new_stack kill_stack thread_exit current_stack set_threadlocal get_threadlocal futex_wait futex_wake common_inst op alike leaves_to argument_demands inst_demands
+unfolding tokens_from tokens_within next_of gap_len words directives common_names elements mark name numeral order global local bracketed bracketed_pair local_list type_list value values dest exc keep pass_values throw_exc new_stack_clause binary compare convert refcast select bracketed_field extractvalue insertvalue computation branch branch2 switch_case switch call tailcall ret throw control new_object newhybrid alloca allocation getiref getfieldiref getelemiref shiftiref getvarpartiref addressing_form optional_order load store weak cmpxchg atomicrmw fence access trap wpexc watchpoint wpbranch trapping_form returning killing swapstack threadlocal newthread stack_switch one_value two_values three_values new_stack kill_stack thread_exit current_stack set_threadlocal get_threadlocal futex_wait futex_wake futex_wait_timeout common_inst op alike leaves_to argument_demands inst_demands
 calls_are_judged = (refl, refl, refl, refl, refl, refl, refl, refl, refl, refl, refl, refl, refl, refl, refl, refl, refl)
 
 own_results_and_exceptions :
@@ -111,7 +111,7 @@ own_results_and_exceptions :
     × (gives_c (meaning op (codes "SDIV <@long> %a %a EXC(%m(%c) %h())")) ≡ at ArgumentCount 32)
     × (gives_c (meaning op (codes "CALL <@maps> @map (%a) KEEPALIVE(%a %c)")) ≡ at NotLocal 36)
     × (gives_c (meaning op (codes "CALL <@maps> @map (%a) EXC(%n() %m(%c)) KEEPALIVE(%c)")) ≡ at NotLocal 35)
-unfolding tokens_from tokens_within next_of gap_len words directives common_names elements mark name numeral order global local bracketed bracketed_pair local_list type_list value values dest exc keep pass_values throw_exc new_stack_clause binary compare convert refcast select bracketed_field extractvalue insertvalue computation branch branch2 switch_case switch call tailcall ret throw control new_object newhybrid alloca allocation getiref getfieldiref getelemiref shiftiref getvarpartiref addressing_form optional_order load store weak cmpxchg atomicrmw fence access trap wpexc watchpoint wpbranch trapping_form returning killing swapstack threadlocal newthread stack_switch one_value two_values new_stack kill_stack thread_exit current_stack set_threadlocal get_threadlocal futex_wait futex_wake common_inst op alike leaves_to argument_demands inst_demands
+unfolding tokens_from tokens_within next_of gap_len words directives common_names elements mark name numeral order global local bracketed bracketed_pair local_list type_list value values dest exc keep pass_values throw_exc new_stack_clause binary compare convert refcast select bracketed_field extractvalue insertvalue computation branch branch2 switch_case switch call tailcall ret throw control new_object newhybrid alloca allocation getiref getfieldiref getelemiref shiftiref getvarpartiref addressing_form optional_order load store weak cmpxchg atomicrmw fence access trap wpexc watchpoint wpbranch trapping_form returning killing swapstack threadlocal newthread stack_switch one_value two_values three_values new_stack kill_stack thread_exit current_stack set_threadlocal get_threadlocal futex_wait futex_wake futex_wait_timeout common_inst op alike leaves_to argument_demands inst_demands
 own_results_and_exceptions = (refl, refl, refl, refl, refl, refl, refl, refl, refl)
 
 instructions_in_turn :
@@ -121,5 +121,5 @@ instructions_in_turn :
     × (plain_then (meaning op (codes "CALL <@acts> @act () EXC(%n() %h(%a))")) (meaning op (codes " RET %a")) ≡ at AfterEnding 1)
     × (plain_then (meaning op (codes "THROW %e")) (meaning op (codes " BRANCH %z(%z)")) ≡ at AfterEnding 1)
     × (gives_c_then (meaning op (codes "SDIV <@long> %a %a EXC(%m(%c) %n())")) (meaning op (codes " RET %c")) ≡ at AfterEnding 1)
-unfolding tokens_from tokens_within next_of gap_len words directives common_names elements mark name numeral order global local bracketed bracketed_pair local_list type_list value values dest exc keep pass_values throw_exc new_stack_clause binary compare convert refcast select bracketed_field extractvalue insertvalue computation branch branch2 switch_case switch call tailcall ret throw control new_object newhybrid alloca allocation getiref getfieldiref getelemiref shiftiref getvarpartiref addressing_form optional_order load store weak cmpxchg atomicrmw fence access trap wpexc watchpoint wpbranch trapping_form returning killing swapstack threadlocal newthread stack_switch one_value two_values new_stack kill_stack thread_exit current_stack set_threadlocal get_threadlocal futex_wait futex_wake common_inst op alike leaves_to argument_demands inst_demands
+unfolding tokens_from tokens_within next_of gap_len words directives common_names elements mark name numeral order global local bracketed bracketed_pair local_list type_list value values dest exc keep pass_values throw_exc new_stack_clause binary compare convert refcast select bracketed_field extractvalue insertvalue computation branch branch2 switch_case switch call tailcall ret throw control new_object newhybrid alloca allocation getiref getfieldiref getelemiref shiftiref getvarpartiref addressing_form optional_order load store weak cmpxchg atomicrmw fence access trap wpexc watchpoint wpbranch trapping_form returning killing swapstack threadlocal newthread stack_switch one_value two_values three_values new_stack kill_stack thread_exit current_stack set_threadlocal get_threadlocal futex_wait futex_wake futex_wait_timeout common_inst op alike leaves_to argument_demands inst_demands
 instructions_in_turn = (refl, refl, refl, refl, refl, refl)

@@ -12,7 +12,7 @@ use Rattle.ir_tree.specs.Control.{branch, branch2, switch_case, switch, call, ta
 use Rattle.ir_tree.specs.Objects.{new_object, newhybrid, alloca, allocation, getiref, getfieldiref, getelemiref, shiftiref, getvarpartiref, addressing_form}
 use Rattle.ir_tree.specs.Accesses.{optional_order, load, store, weak, cmpxchg, atomicrmw, fence, access}
 use Rattle.ir_tree.specs.Stacks.{trap, wpexc, watchpoint, wpbranch, trapping_form, returning, killing, swapstack, threadlocal, newthread, stack_switch}
-use Rattle.ir_tree.specs.CommonForms.{one_value, two_values, new_stack, kill_stack, thread_exit, current_stack, set_threadlocal, get_threadlocal, futex_wait, futex_wake, common_inst}
+use Rattle.ir_tree.specs.CommonForms.{one_value, two_values, three_values, new_stack, kill_stack, thread_exit, current_stack, set_threadlocal, get_threadlocal, futex_wait, futex_wake, futex_wait_timeout, common_inst}
 use Rattle.ir_tree.specs.Instructions.{op}
 use Rattle.ir_tree.specs.Samples.{meaning}
 use Rattle.type_laws.specs.Same.{alike}
@@ -35,7 +35,7 @@ objects_are_judged :
     × (gives_c (meaning op (codes "NEWHYBRID <@tail @long> %bit")) ≡ at OperandType 24)
     × (gives_c (meaning op (codes "ALLOCA <@long>")) ≡ good)
     × (gives_c (meaning op (codes "ALLOCA <@tail>")) ≡ at OperandType 8)
-unfolding tokens_from tokens_within next_of gap_len words directives common_names elements mark name numeral order global local bracketed bracketed_pair local_list type_list value values dest exc keep pass_values throw_exc new_stack_clause binary compare convert refcast select bracketed_field extractvalue insertvalue computation branch branch2 switch_case switch call tailcall ret throw control new_object newhybrid alloca allocation getiref getfieldiref getelemiref shiftiref getvarpartiref addressing_form optional_order load store weak cmpxchg atomicrmw fence access trap wpexc watchpoint wpbranch trapping_form returning killing swapstack threadlocal newthread stack_switch one_value two_values new_stack kill_stack thread_exit current_stack set_threadlocal get_threadlocal futex_wait futex_wake common_inst op alike leaves_to argument_demands inst_demands
+unfolding tokens_from tokens_within next_of gap_len words directives common_names elements mark name numeral order global local bracketed bracketed_pair local_list type_list value values dest exc keep pass_values throw_exc new_stack_clause binary compare convert refcast select bracketed_field extractvalue insertvalue computation branch branch2 switch_case switch call tailcall ret throw control new_object newhybrid alloca allocation getiref getfieldiref getelemiref shiftiref getvarpartiref addressing_form optional_order load store weak cmpxchg atomicrmw fence access trap wpexc watchpoint wpbranch trapping_form returning killing swapstack threadlocal newthread stack_switch one_value two_values three_values new_stack kill_stack thread_exit current_stack set_threadlocal get_threadlocal futex_wait futex_wake futex_wait_timeout common_inst op alike leaves_to argument_demands inst_demands
 objects_are_judged = (refl, refl, refl, refl, refl, refl, refl, refl, refl, refl, refl, refl)
 
 places_are_found :
@@ -53,7 +53,7 @@ places_are_found :
     × (gives_c (meaning op (codes "SHIFTIREF <@tail @long> %tail_place %a")) ≡ at OperandType 11)
     × (gives_c (meaning op (codes "GETVARPARTIREF <@tail> %tail_place")) ≡ good)
     × (gives_c (meaning op (codes "GETVARPARTIREF <@tail> %row_place")) ≡ at OperandType 23)
-unfolding tokens_from tokens_within next_of gap_len words directives common_names elements mark name numeral order global local bracketed bracketed_pair local_list type_list value values dest exc keep pass_values throw_exc new_stack_clause binary compare convert refcast select bracketed_field extractvalue insertvalue computation branch branch2 switch_case switch call tailcall ret throw control new_object newhybrid alloca allocation getiref getfieldiref getelemiref shiftiref getvarpartiref addressing_form optional_order load store weak cmpxchg atomicrmw fence access trap wpexc watchpoint wpbranch trapping_form returning killing swapstack threadlocal newthread stack_switch one_value two_values new_stack kill_stack thread_exit current_stack set_threadlocal get_threadlocal futex_wait futex_wake common_inst op alike leaves_to argument_demands inst_demands
+unfolding tokens_from tokens_within next_of gap_len words directives common_names elements mark name numeral order global local bracketed bracketed_pair local_list type_list value values dest exc keep pass_values throw_exc new_stack_clause binary compare convert refcast select bracketed_field extractvalue insertvalue computation branch branch2 switch_case switch call tailcall ret throw control new_object newhybrid alloca allocation getiref getfieldiref getelemiref shiftiref getvarpartiref addressing_form optional_order load store weak cmpxchg atomicrmw fence access trap wpexc watchpoint wpbranch trapping_form returning killing swapstack threadlocal newthread stack_switch one_value two_values three_values new_stack kill_stack thread_exit current_stack set_threadlocal get_threadlocal futex_wait futex_wake futex_wait_timeout common_inst op alike leaves_to argument_demands inst_demands
 places_are_found = (refl, refl, refl, refl, refl, refl, refl, refl, refl, refl, refl, refl, refl, refl)
 
 accesses_are_judged :
@@ -74,7 +74,7 @@ accesses_are_judged :
     × (gives_c (meaning op (codes "ATOMICRMW NOT_ATOMIC ADD <@long> @cell %a")) ≡ at BadOrder 10)
     × (plain (meaning op (codes "FENCE RELEASE")) ≡ good)
     × (plain (meaning op (codes "FENCE RELAXED")) ≡ at BadOrder 6)
-unfolding tokens_from tokens_within next_of gap_len words directives common_names elements mark name numeral order global local bracketed bracketed_pair local_list type_list value values dest exc keep pass_values throw_exc new_stack_clause binary compare convert refcast select bracketed_field extractvalue insertvalue computation branch branch2 switch_case switch call tailcall ret throw control new_object newhybrid alloca allocation getiref getfieldiref getelemiref shiftiref getvarpartiref addressing_form optional_order load store weak cmpxchg atomicrmw fence access trap wpexc watchpoint wpbranch trapping_form returning killing swapstack threadlocal newthread stack_switch one_value two_values new_stack kill_stack thread_exit current_stack set_threadlocal get_threadlocal futex_wait futex_wake common_inst op alike leaves_to argument_demands inst_demands
+unfolding tokens_from tokens_within next_of gap_len words directives common_names elements mark name numeral order global local bracketed bracketed_pair local_list type_list value values dest exc keep pass_values throw_exc new_stack_clause binary compare convert refcast select bracketed_field extractvalue insertvalue computation branch branch2 switch_case switch call tailcall ret throw control new_object newhybrid alloca allocation getiref getfieldiref getelemiref shiftiref getvarpartiref addressing_form optional_order load store weak cmpxchg atomicrmw fence access trap wpexc watchpoint wpbranch trapping_form returning killing swapstack threadlocal newthread stack_switch one_value two_values three_values new_stack kill_stack thread_exit current_stack set_threadlocal get_threadlocal futex_wait futex_wake futex_wait_timeout common_inst op alike leaves_to argument_demands inst_demands
 accesses_are_judged = (refl, refl, refl, refl, refl, refl, refl, refl, refl, refl, refl, refl, refl, refl, refl, refl, refl)
 
 stacks_are_judged :
@@ -97,7 +97,7 @@ stacks_are_judged :
     × (plain (meaning op (codes "SWAPSTACK %stack KILL_OLD THROW_EXC %box")) ≡ at OperandType 36)
     × (gives_c (meaning op (codes "NEWTHREAD %stack THREADLOCAL(%e) PASS_VALUES<>()")) ≡ good)
     × (gives_c (meaning op (codes "NEWTHREAD %stack THREADLOCAL(%a) PASS_VALUES<>()")) ≡ at OperandType 29)
-unfolding tokens_from tokens_within next_of gap_len words directives common_names elements mark name numeral order global local bracketed bracketed_pair local_list type_list value values dest exc keep pass_values throw_exc new_stack_clause binary compare convert refcast select bracketed_field extractvalue insertvalue computation branch branch2 switch_case switch call tailcall ret throw control new_object newhybrid alloca allocation getiref getfieldiref getelemiref shiftiref getvarpartiref addressing_form optional_order load store weak cmpxchg atomicrmw fence access trap wpexc watchpoint wpbranch trapping_form returning killing swapstack threadlocal newthread stack_switch one_value two_values new_stack kill_stack thread_exit current_stack set_threadlocal get_threadlocal futex_wait futex_wake common_inst op alike leaves_to argument_demands inst_demands
+unfolding tokens_from tokens_within next_of gap_len words directives common_names elements mark name numeral order global local bracketed bracketed_pair local_list type_list value values dest exc keep pass_values throw_exc new_stack_clause binary compare convert refcast select bracketed_field extractvalue insertvalue computation branch branch2 switch_case switch call tailcall ret throw control new_object newhybrid alloca allocation getiref getfieldiref getelemiref shiftiref getvarpartiref addressing_form optional_order load store weak cmpxchg atomicrmw fence access trap wpexc watchpoint wpbranch trapping_form returning killing swapstack threadlocal newthread stack_switch one_value two_values three_values new_stack kill_stack thread_exit current_stack set_threadlocal get_threadlocal futex_wait futex_wake futex_wait_timeout common_inst op alike leaves_to argument_demands inst_demands
 stacks_are_judged = (refl, refl, refl, refl, refl, refl, refl, refl, refl, refl, refl, refl, refl, refl, refl, refl, refl, refl, refl)
 
 common_instructions_are_judged :
@@ -113,5 +113,7 @@ common_instructions_are_judged :
     × (gives_c (meaning op (codes "COMMINST @uvm.futex.wait <@object> (@cell %a)")) ≡ at OperandType 26)
     × (gives_c (meaning op (codes "COMMINST @uvm.futex.wake <@long> (@cell %word)")) ≡ good)
     × (gives_c (meaning op (codes "COMMINST @uvm.futex.wake <@long> (@cell %a)")) ≡ at OperandType 40)
-unfolding tokens_from tokens_within next_of gap_len words directives common_names elements mark name numeral order global local bracketed bracketed_pair local_list type_list value values dest exc keep pass_values throw_exc new_stack_clause binary compare convert refcast select bracketed_field extractvalue insertvalue computation branch branch2 switch_case switch call tailcall ret throw control new_object newhybrid alloca allocation getiref getfieldiref getelemiref shiftiref getvarpartiref addressing_form optional_order load store weak cmpxchg atomicrmw fence access trap wpexc watchpoint wpbranch trapping_form returning killing swapstack threadlocal newthread stack_switch one_value two_values new_stack kill_stack thread_exit current_stack set_threadlocal get_threadlocal futex_wait futex_wake common_inst op alike leaves_to argument_demands inst_demands
-common_instructions_are_judged = (refl, refl, refl, refl, refl, refl, refl, refl, refl, refl, refl, refl)
+    × (gives_c (meaning op (codes "COMMINST @uvm.futex.wait_timeout <@long> (@cell %a %a)")) ≡ good)
+    × (gives_c (meaning op (codes "COMMINST @uvm.futex.wait_timeout <@long> (@cell %a %word)")) ≡ at OperandType 51)
+unfolding tokens_from tokens_within next_of gap_len words directives common_names elements mark name numeral order global local bracketed bracketed_pair local_list type_list value values dest exc keep pass_values throw_exc new_stack_clause binary compare convert refcast select bracketed_field extractvalue insertvalue computation branch branch2 switch_case switch call tailcall ret throw control new_object newhybrid alloca allocation getiref getfieldiref getelemiref shiftiref getvarpartiref addressing_form optional_order load store weak cmpxchg atomicrmw fence access trap wpexc watchpoint wpbranch trapping_form returning killing swapstack threadlocal newthread stack_switch one_value two_values three_values new_stack kill_stack thread_exit current_stack set_threadlocal get_threadlocal futex_wait futex_wake futex_wait_timeout common_inst op alike leaves_to argument_demands inst_demands
+common_instructions_are_judged = (refl, refl, refl, refl, refl, refl, refl, refl, refl, refl, refl, refl, refl, refl)

@@ -11,8 +11,9 @@ use Rattle.bundle_names.specs.declared.globals.Sort.TheVariants as sorts
 use Rattle.check_tables.specs.declared.fault.CheckKind.{CheckKind}
 use Rattle.check_tables.specs.declared.fault.CheckKind.TheVariants.{NotLocal, OperandType, ArgumentCount, ArgumentType}
 use Rattle.check_tables.specs.declared.tables.Tables.{Tables}
+use Rattle.check_tables.specs.Types.{definition_in}
 use Rattle.check_tables.specs.Lookups.{class_of_global, class_named, noted_class, noted_classes, definition_named, leaves_named}
-use Rattle.check_tables.specs.TypeTests.{is_value_type}
+use Rattle.check_tables.specs.TypeTests.{is_int64, is_value_type}
 use Rattle.code_check.specs.declared.code.Source.{Source}
 use Rattle.code_check.specs.declared.code.Source.TheVariants as sources
 use Rattle.code_check.specs.declared.scopes.Variable.{Variable}
@@ -49,6 +50,11 @@ operand_demands p ls kind o wanted = demand (place_of o) NotLocal (is_there ls o
 -- an operand of the type with this name
 abbrev pub of_type : Tables → Locals → Operand → Name → Demands CheckKind
 of_type p ls o t = operand_demands p ls OperandType o (class_named p t)
+
+-- an operand of type int<64>. No bundle has that type unless it writes it, so the type is asked by what its class is defined as
+abbrev pub int64_demands : Tables → Locals → Operand → Demands CheckKind
+int64_demands p ls o =
+    demand (place_of o) NotLocal (is_there ls o) ⨾ demand (place_of o) OperandType (is_int64 (definition_in p.types (operand_class p ls o)))
 
 -- ---- lists of arguments
 

@@ -23,7 +23,7 @@ use Rattle.check_tables.specs.declared.tables.Signature.{Signature}
 use Rattle.check_tables.specs.declared.tables.Tables.{Tables}
 use Rattle.check_tables.specs.Types.{definition_at, class_at, leaves_at, is_type_there, ref_at, iref_at, funcref_at, int1, int32, stackref, threadref, ref_void}
 use Rattle.check_tables.specs.Lookups.{signature_in, funcref_of}
-use Rattle.check_tables.specs.TypeTests.{is_int, is_index_type, is_scalar, is_sized, is_no_hybrid, is_value_type, is_castable, are_cast, is_hybrid, fields_of, fixed_fields_of, element_of, repeated_of}
+use Rattle.check_tables.specs.TypeTests.{is_int, is_int64, is_index_type, is_scalar, is_sized, is_no_hybrid, is_value_type, is_castable, are_cast, is_hybrid, fields_of, fixed_fields_of, element_of, repeated_of}
 use Rattle.code_check.specs.declared.code.Source.{Source}
 use Rattle.code_check.specs.declared.code.Source.TheVariants as sources
 use Rattle.code_check.specs.declared.code.Target.{Target}
@@ -115,6 +115,10 @@ ObjectFits p ks s t = IsSomeAnd (ref_at p.types t) (λ c. SourceFits p ks s c)
 -- a value of the type with a number
 abbrev pub TypeFits : Tables → List ℕ → Source → ℕ → Type 0
 TypeFits p ks s t = IsSomeAnd (class_at p.types t) (λ c. SourceFits p ks s c)
+
+-- a value of type int<64>: its class is defined as that
+abbrev pub Int64Fits : Tables → List ℕ → Source → Type 0
+Int64Fits p ks s = (c : ℕ) × SourceFits p ks s c × (is_int64 (definition_at p.types c) ≡ true)
 
 -- all that is given is a value, a reference to a place or one to an object of the type with a number
 abbrev pub GivesType : Tables → ℕ → List ℕ → Type 0
@@ -333,6 +337,9 @@ CommonFits p ks (named.FutexWait c l v) gs =
 -- an int type; a reference to a place of it; the count and the result are of type int<32>
 CommonFits p ks (named.FutexWake c l n) gs =
     (t : HasType p is_int c) × PlaceFits p ks l t.number × SourceFits p ks n (int32 p.types) × (gs ≡ int32 p.types ∷ [])
+-- an int type; a reference to a place of it, a value of it, and a limit of type int<64>; the result is of type int<32>
+CommonFits p ks (named.FutexWaitTimeout c l v n) gs =
+    (t : HasType p is_int c) × PlaceFits p ks l t.number × SourceFits p ks v c × Int64Fits p ks n × (gs ≡ int32 p.types ∷ [])
 
 abbrev pub FormFits : Tables → Blocks → List ℕ → List ℕ → Form → List ℕ → Type 0
 FormFits p blocks returns ks (forms.Computation f) gs = ComputationFits p ks f gs

@@ -308,6 +308,13 @@ pub enum CommonForm {
         location: Source,
         count: Source,
     },
+    /// `@uvm.futex.wait_timeout`
+    FutexWaitTimeout {
+        class: u32,
+        location: Source,
+        value: Source,
+        limit: Source,
+    },
 }
 
 /// What an instruction does, by its kind.

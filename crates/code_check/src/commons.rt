@@ -8,7 +8,7 @@ ghost use Rattle.code_check.specs.Commons.{common_demands, common_gives, common_
 use crate::code::CommonForm;
 use crate::gifts::Gift;
 use crate::objects::place_of_type;
-use crate::operands::{int_type, of_type, operand};
+use crate::operands::{int_type, int64_operand, of_type, operand};
 use crate::scopes::Locals;
 use crate::stacks::stack;
 use check_tables::{CheckFault, CheckKind, Tables};
@@ -85,6 +85,29 @@ fn futex_wake(
     })
 }
 
+/// `@uvm.futex.wait_timeout`
+fn futex_wait_timeout(
+    tables: &Tables,
+    locals: &Locals,
+    name: &Name,
+    location: &Operand,
+    value: &Operand,
+    limit: &Operand,
+) -> Result<CommonForm, CheckFault>
+    ensures { Judges (common_demands tables.now locals.now (commons.FutexWaitTimeout name.now location.now value.now limit.now)) (common_code tables.now locals.now (commons.FutexWaitTimeout name.now location.now value.now limit.now)) result }
+{
+    let class = int_type(tables, name)?;
+    let location = place_of_type(tables, locals, location, name)?;
+    let value = of_type(tables, locals, value, name)?;
+    let limit = int64_operand(tables, locals, limit)?;
+    Ok(CommonForm::FutexWaitTimeout {
+        class,
+        location,
+        value,
+        limit,
+    })
+}
+
 /// An instruction under a name.
 pub fn common(
     tables: &Tables,
@@ -115,6 +138,12 @@ pub fn common(
             location,
             count,
         } => futex_wake(tables, locals, of_type, location, count),
+        CommonInst::FutexWaitTimeout {
+            of_type,
+            location,
+            value,
+            limit,
+        } => futex_wait_timeout(tables, locals, of_type, location, value, limit),
     }
 }
 
@@ -127,9 +156,9 @@ pub fn common_gift<'a>(tables: &'a Tables, common: &CommonInst) -> Gift<'a>
             Gift::One(tables.types.stackref())
         }
         CommonInst::GetThreadlocal => Gift::One(tables.types.ref_void()),
-        CommonInst::FutexWait { .. } | CommonInst::FutexWake { .. } => {
-            Gift::One(tables.types.int32())
-        }
+        CommonInst::FutexWait { .. }
+        | CommonInst::FutexWake { .. }
+        | CommonInst::FutexWaitTimeout { .. } => Gift::One(tables.types.int32()),
         CommonInst::KillStack { .. } | CommonInst::ThreadExit | CommonInst::SetThreadlocal { .. } =>
             Gift::Nothing,
     }

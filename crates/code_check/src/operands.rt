@@ -6,7 +6,7 @@ ghost use Rattle.check_tables.specs.declared.fault.CheckKind.TheVariants.{NotLoc
 ghost use Rattle.check_tables.specs.Types.{ref_void};
 ghost use Rattle.check_tables.specs.Lookups.{noted_class, definition_named};
 ghost use Rattle.check_tables.specs.TypeTests.{is_int, is_index_type};
-ghost use Rattle.code_check.specs.Operands.{is_class, operand_demands, of_type, member_demands, argument_demands, type_demand, value_type_demand, value_type_demands, noted_list, variable_demands, global_source, source_of, sources_of, numbers_in};
+ghost use Rattle.code_check.specs.Operands.{is_class, operand_demands, int64_demands, of_type, member_demands, argument_demands, type_demand, value_type_demand, value_type_demands, noted_list, variable_demands, global_source, source_of, sources_of, numbers_in};
 
 use crate::code::Source;
 use crate::scopes::{Locals, Variable};
@@ -83,6 +83,29 @@ pub fn operand(
                 kind,
                 name.place,
             )?;
+            Ok(global_source(tables, name))
+        }
+    }
+}
+
+/// An operand that is an int of 64 bits.
+pub fn int64_operand(
+    tables: &Tables,
+    locals: &Locals,
+    operand: &Operand,
+) -> Result<Source, CheckFault>
+    ensures { Judges (int64_demands tables.now locals.now operand.now) (source_of tables.now locals.now operand.now) result }
+{
+    match operand {
+        Operand::Local(name) => {
+            let variable = variable(locals, name)?;
+            let met = tables.is_class_of_int64(Some(variable.class));
+            demand(met, CheckKind::OperandType, name.place)?;
+            Ok(Source::Variable(variable.number))
+        }
+        Operand::Global(name) => {
+            let met = tables.is_class_of_int64(tables.class_of_global(name));
+            demand(met, CheckKind::OperandType, name.place)?;
             Ok(global_source(tables, name))
         }
     }
