@@ -68,8 +68,7 @@ fn make(all: &mut Directory, frames: Frames, waits: Types) -> Result<(), AllocEr
     }
 }
 
-#[tactic(auto, using(crate::proofs::Writes::get_written))]
-fn swap_and_kill(rt: &impl Abort, all: &mut Directory) -> Result<(), NotReady>
+fn take_once(rt: &impl Abort, all: &mut Directory) -> Result<(), NotReady>
     requires { length all.old ≡ 2 }
 {
     let first = all.take(0, 5)?;
@@ -77,9 +76,22 @@ fn swap_and_kill(rt: &impl Abort, all: &mut Directory) -> Result<(), NotReady>
     assert!(rt; all.take(0, 6).is_err());
     all.put_back(first);
     assert_eq!(rt; all.state_of(0), StackState::Ready);
-    let second = all.take(1, 5)?.back(5);
-    assert_eq!(rt; second.kill(all).count(), 1);
+    Ok(())
+}
+
+#[tactic(auto, using(crate::proofs::Writes::get_written))]
+fn kill_active(rt: &impl Abort, all: &mut Directory) -> Result<(), NotReady>
+    requires { length all.old ≡ 2 }
+{
+    let stack = all.take(1, 5)?.back(5);
+    assert_eq!(rt; stack.kill(all).count(), 1);
     assert_eq!(rt; all.state_of(1), StackState::Dead);
+    Ok(())
+}
+
+fn kill_ready(rt: &impl Abort, all: &mut Directory) -> Result<(), NotReady>
+    requires { length all.old ≡ 2 }
+{
     assert_eq!(rt; all.kill(0)?.count(), 1);
     assert!(rt; all.kill(0).is_err());
     Ok(())
@@ -123,9 +135,18 @@ fn throws(rt: &impl Abort, stack: ReadyStack) -> bool {
 }
 
 #[test]
-fn swaps_and_kills(rt: HostRuntime) -> Result<(), Fail> {
+fn takes_once(rt: HostRuntime) -> Result<(), Fail> {
     let mut all = two_stacks(rt.alloc())?;
-    swap_and_kill(&rt, &mut all)?;
+    take_once(&rt, &mut all)?;
+    Ok(())
+}
+
+#[test]
+fn kills(rt: HostRuntime) -> Result<(), Fail> {
+    let mut one = two_stacks(rt.alloc())?;
+    kill_active(&rt, &mut one)?;
+    let mut other = two_stacks(rt.alloc())?;
+    kill_ready(&rt, &mut other)?;
     Ok(())
 }
 
