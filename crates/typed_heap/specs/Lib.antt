@@ -1,0 +1,5 @@
+pub mod Objects
+pub mod Fits
+pub mod Places
+pub mod Heap
+pub mod Rows

@@ -1,0 +1,8 @@
+//! The objects of a run: which there are, what their cells begin with, and which places of them are found from others.
+#![tactic(auto)]
+
+mod faults;
+mod objects;
+
+pub use faults::{HeapFault, PlaceFault};
+pub use heap_cells::CellId;
