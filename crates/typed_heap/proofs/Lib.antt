@@ -1,3 +1,5 @@
 pub mod Rows
 pub mod Firsts
 pub mod Rowed
+pub mod Runs
+pub mod LeafClasses

@@ -3,3 +3,4 @@ pub mod Fits
 pub mod Places
 pub mod Heap
 pub mod Rows
+pub mod Offsets

@@ -1,5 +1,5 @@
 -- To believe: casts of references, places that are found from others, and cells that may be accessed.
-use Rattle.std.specs.Prelude.{ℕ, ◌+◌, Bool, true, false, ◌&&◌, not, nat_le, List, [], ◌∷◌, Option, Some, None, Result, Ok, Err, length, take, slice_get, ℤ, pos, ◌+ℤ◌, ◌*ℤ◌, nat_abs, int_lt, if◌then◌else◌}
+use Rattle.std.specs.Prelude.{ℕ, Bool, true, false, ◌&&◌, not, nat_le, List, Option, Some, None, Result, Ok, Err, length, take, slice_get, sum_by, ℤ, pos, ◌+ℤ◌, ◌*ℤ◌, nat_abs, int_lt, if◌then◌else◌}
 use Rattle.type_laws.specs.declared.definition.TypeDef.{TypeDef}
 use Rattle.type_laws.specs.declared.definition.TypeDef.TheVariants.{Ref, Iref}
 use Rattle.mu_values.specs.declared.scalars.Scalar.{Scalar}
@@ -47,8 +47,7 @@ pub record Move : Type 0 where
 
 -- how many leaves some types have together
 abbrev pub leaves_together : List TypeDef → List ℕ → ℕ
-leaves_together graph [] = 0
-leaves_together graph (t ∷ ts) = length (leaf_classes graph t) + leaves_together graph ts
+leaves_together graph ts = sum_by (λ t. length (leaf_classes graph t)) ts
 
 abbrev pub within : ℕ → ℤ → Bool
 within size i = not (int_lt i (pos 0)) && int_lt i (pos size)

@@ -2,6 +2,8 @@
 #![tactic(auto)]
 
 mod faults;
+mod fitting;
+mod moving;
 mod objects;
 
 pub use faults::{HeapFault, PlaceFault};
