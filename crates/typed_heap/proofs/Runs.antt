@@ -65,3 +65,12 @@ no_false false f = refl
 
 pub no_runs : (run found : List ℕ) → 0 < length run → (AreRuns run found → ⊥) → false ≡ are_runs run found
 no_runs run found some f = no_false (are_runs run found) (λ e. f ((runs_decide run found some).0 e))
+
+pub le_times : (n m : ℕ) → 0 < m → n ≤ n * m
+le_times zero m l = omega arith
+le_times (suc n) m l = let rest = le_times n m l in let step = suc_times n m in omega arith
+
+pub times_none : (n : ℕ) (xs : List ℕ) → length xs ≡ 0 → times n xs ≡ []
+times_none zero xs h = refl
+times_none (suc n) [] h = times_none n [] h
+times_none (suc n) (x ∷ xs) h = absurd (omega (arith, h))

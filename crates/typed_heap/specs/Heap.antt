@@ -1,5 +1,5 @@
 -- To believe: what contracts see of a heap, and what its calls ask of types.
-use Rattle.std.specs.Prelude.{◌≡◌, ℕ, ◌+◌, ◌-◌, ◌^◌, ◌<◌, min, List, ◌++◌, length, slice_get, Some}
+use Rattle.std.specs.Prelude.{◌≡◌, ℕ, ◌-◌, ◌^◌, ◌<◌, min, List, ◌++◌, length, Option, None, Some, slice_get}
 use Rattle.type_laws.specs.declared.definition.TypeDef.{TypeDef}
 use Rattle.type_laws.specs.Leaves.{times}
 use Rattle.mu_values.specs.Constants.{width_of}
@@ -22,3 +22,12 @@ told_cells asked = min asked (2 ^ 128 - 1)
 -- the widths of ints are numbers of 32 bits
 abbrev pub AreNarrow : List TypeDef → Type 0
 AreNarrow graph = (t width : ℕ) → width_of (slice_get graph t) ≡ Some width → width < 2 ^ 32
+
+-- how many cells an object has
+abbrev pub cells_of : Option HeapObject → ℕ
+cells_of None = 0
+cells_of (Some o) = length o.leaves
+
+-- how many the newest object has
+abbrev pub newest_cells : List HeapObject → ℕ
+newest_cells os = cells_of (slice_get os (length os - 1))

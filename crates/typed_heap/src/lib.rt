@@ -3,8 +3,10 @@
 
 mod faults;
 mod fitting;
+mod heap;
 mod moving;
 mod objects;
 
 pub use faults::{HeapFault, PlaceFault};
+pub use heap::Heap;
 pub use heap_cells::CellId;
