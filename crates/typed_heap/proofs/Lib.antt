@@ -3,3 +3,4 @@ pub mod Firsts
 pub mod Rowed
 pub mod Runs
 pub mod LeafClasses
+pub mod Found

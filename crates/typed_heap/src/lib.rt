@@ -6,6 +6,7 @@ mod fitting;
 mod heap;
 mod moving;
 mod objects;
+mod places;
 
 pub use faults::{HeapFault, PlaceFault};
 pub use heap::Heap;
