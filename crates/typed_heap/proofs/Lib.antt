@@ -4,3 +4,5 @@ pub mod Rowed
 pub mod Runs
 pub mod LeafClasses
 pub mod Found
+pub mod Fitted
+pub mod Landing

@@ -4,3 +4,4 @@ pub mod Places
 pub mod Heap
 pub mod Rows
 pub mod Offsets
+pub mod Laws
