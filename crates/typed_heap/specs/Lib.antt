@@ -5,3 +5,5 @@ pub mod Heap
 pub mod Rows
 pub mod Offsets
 pub mod Laws
+pub mod FitsExamples
+pub mod PlacesExamples
