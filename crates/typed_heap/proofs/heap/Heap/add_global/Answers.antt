@@ -1,0 +1,8 @@
+use Rattle.std.proofs.Common.{◌≡◌, ◌<◌, ◌++◌, [], List, ℕ, length, sym, ap, ◌∙◌, subst}
+use Rattle.std.specs.List.{All}
+use Rattle.typed_heap.specs.Objects.{leaf_classes}
+use Rattle.typed_heap.proofs.LeafClasses.{all_within}
+use Rattle.typed_heap.proofs.heap.Heap.add_global.Goals as goal
+
+pub push-requires-clause-leaves : goal.push-requires-clause-leaves
+push-requires-clause-leaves c = rw c.leaves.ensures (all_within c.args.classes.now.definitions c.requires.graph c.args.t 0 0)

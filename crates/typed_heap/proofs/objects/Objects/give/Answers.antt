@@ -1,0 +1,38 @@
+use Rattle.std.proofs.Common.{◌≡◌, ◌<◌, ◌+◌, ◌-◌, ◌++◌, [], ◌∷◌, Some, length, map, ap, sym, ◌∙◌, refl, slice_get, IsSomeAnd, subst, arith, rules}
+use Rattle.std.specs.Vec.{vec_len}
+use Rattle.typed_heap.specs.Rows.{initial_of, begin, end, IsKnown}
+use Rattle.typed_heap.proofs.Rows.{seen, object_at, some_at, cell_there, cell_within}
+use Rattle.typed_heap.proofs.Rowed.{shown_given}
+use Rattle.typed_heap.proofs.objects.Objects.give.Goals as goal
+
+pub bounds-begin-requires-clause-n : goal.bounds-begin-requires-clause-n
+bounds-begin-requires-clause-n c =
+    let o = c.self.inside in
+    let cell = cell_there o.extents.items o.leaves.items (map (initial_of o.given.items) o.initials.items) c.args.n c.args.at c.self.invariant.cut (rw (seen o.extents.items o.leaves.items o.initials.items o.given.items _ _ c.self.view_is) at c.requires.there) in
+    rw c.deref-2.ensures.value cell.0
+
+pub index_mut-requires : goal.index_mut-requires
+index_mut-requires c =
+    let o = c.self.inside in
+    let es = o.extents.items in
+    let near = cell_within es o.leaves.items (map (initial_of o.given.items) o.initials.items) c.args.n c.args.at c.self.invariant.cut (rw (seen es o.leaves.items o.initials.items o.given.items _ _ c.self.view_is) at c.requires.there) in
+    let first : c.bounds-begin.result.0 ≡ begin 0 es c.args.n = c.bounds-begin.ensures.begin ∙ rw c.deref-2.ensures.value refl in
+    let count : vec_len o.initials ≡ length o.initials.items = search rules in
+    omega (arith, first, count, near, c.self.invariant.even)
+
+pub returns-clause-objects : goal.returns-clause-objects
+returns-clause-objects c =
+    let o = c.self.inside in
+    let es = o.extents.items in
+    let ss = map (initial_of o.given.items) o.initials.items in
+    let cell = cell_there es o.leaves.items ss c.args.n c.args.at c.self.invariant.cut (rw (seen es o.leaves.items o.initials.items o.given.items _ _ c.self.view_is) at c.requires.there) in
+    let first : c.bounds-begin.result.0 ≡ begin 0 es c.args.n = c.bounds-begin.ensures.begin ∙ rw c.deref-2.ensures.value refl in
+    let count : vec_len o.given ≡ length o.given.items = search rules in
+    let items : c.push.new.self.items ≡ o.given.items ++ c.args.scalar ∷ [] = c.push.ensures.items ∙ rw c.unwrap.ensures refl in
+    let number : c.len-number.result ≡ length o.given.items = c.len-number.ensures ∙ count in
+    let x = some_at es c.args.n cell.0 in
+    let far : end es c.args.n ≡ x.0.end = rw x.1 refl in
+    let near : c.args.at < x.0.end - begin 0 es c.args.n = omega (arith, cell.1, far) in
+    let rowed = rw count at c.self.invariant in
+    let moved = shown_given o.leaves.items o.initials.items es o.given.items c.args.n c.args.at x.0 c.args.scalar rowed x.1 near in
+    rw (seen es o.leaves.items o.initials.items o.given.items _ _ c.self.view_is, object_at 0 es o.leaves.items ss c.args.n x.0 x.1, items, number, first) moved

@@ -1,0 +1,19 @@
+use Rattle.std.proofs.Common.{◌≡◌, ◌<◌, length, map, sym, ap, ◌∙◌, subst, IsSomeAnd, slice_get}
+use Rattle.std.specs.Prelude.{slice_range}
+use Rattle.typed_heap.specs.Rows.{RoomyObjects, initial_of, begin, end}
+use Rattle.typed_heap.proofs.Rows.{objects_length, leaves_at}
+use Rattle.typed_heap.proofs.objects.Objects.leaves.Goals as goal
+
+pub bounds-begin-requires-clause-n : goal.bounds-begin-requires-clause-n
+bounds-begin-requires-clause-n c =
+    let o = c.self.inside in
+    let many : length c.args.self.now.objects ≡ length o.extents.items = ap (λ (v : RoomyObjects). length v.objects) (sym c.self.view_is) ∙ objects_length 0 o.extents.items o.leaves.items (map (initial_of o.given.items) o.initials.items) in
+    rw c.deref-2.ensures.value (rw many at c.requires)
+
+pub returns-clause-leaves : goal.returns-clause-leaves
+returns-clause-leaves c =
+    let o = c.self.inside in
+    let many : length c.args.self.now.objects ≡ length o.extents.items = ap (λ (v : RoomyObjects). length v.objects) (sym c.self.view_is) ∙ objects_length 0 o.extents.items o.leaves.items (map (initial_of o.given.items) o.initials.items) in
+    let there = leaves_at o.extents.items o.leaves.items (map (initial_of o.given.items) o.initials.items) c.args.n (rw many at c.requires) in
+    let P = λ (v : RoomyObjects). IsSomeAnd (slice_get v.objects c.args.n) (λ p. p.leaves ≡ slice_range o.leaves.items (begin 0 o.extents.items c.args.n) (end o.extents.items c.args.n)) in
+    rw (c.bounds-begin.ensures.begin, c.bounds-begin.ensures.end, c.deref-2.ensures.value, c.deref-3.ensures.value) (subst P c.self.view_is there)

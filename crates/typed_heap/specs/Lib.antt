@@ -1,0 +1,9 @@
+pub mod Objects
+pub mod Fits
+pub mod Places
+pub mod Heap
+pub mod Rows
+pub mod Offsets
+pub mod Laws
+pub mod FitsExamples
+pub mod PlacesExamples
