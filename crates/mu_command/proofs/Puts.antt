@@ -5,7 +5,7 @@ use Rattle.std.specs.Io.KnownBytes.{Appends, Keeps}
 use Rattle.mu_base.specs.declared.status.Status.{Status}
 use Rattle.mu_base.specs.Files.{IsPrefix}
 use Rattle.mu_base.specs.Sink.{AppendsPrefix, MarksEnd, PutsPart}
-use Rattle.mu_texts.specs.Answer.{Answer}
+use Rattle.mu_texts.specs.Answer.{Answer, in_one_piece}
 use Rattle.mu_command.specs.Written.{joined, cuts_from, AppendsEnds, Wrote, IsWhole, Writes, stopped}
 use Rattle.mu_base.specs.declared.sink.PutFault.{PutFault}
 use Rattle.mu_base.specs.declared.sink.PutFault.TheVariants.{Fault, Memory as NoMemory}
@@ -74,10 +74,12 @@ pub put_stops : (done : List (List ℕ)) (p : List ℕ) (left : List (List ℕ))
     answer.pieces ≡ done ++ p ∷ left → (IsWhole status → ⊥) → Wrote done w0 w1 e0 e1 → AppendsPrefix w1 w2 p → Keeps e1 e2 → Writes answer w0 w2 e0 e2 status
 put_stops done p left answer w0 w1 w2 e0 e1 e2 status is fails w a k = record {
   part = record {
-    text = (joined done ++ a.0, rw (is, joined-append done (p ∷ left)) (prefix_more (joined done) a.0 p (joined left) a.1), appends_twice (joined done) a.0 w0 w1 w2 w.bytes a.2);
     done = done;
     left = p ∷ left;
     is = is;
+    part = a.0;
+    begins = prefix_more [] a.0 p (joined left) a.1;
+    bytes = appends_twice (joined done) a.0 w0 w1 w2 w.bytes a.2;
     ends = keep_ends w0 e0 e1 e2 done w.ends k;
   };
   whole = λ h. absurd (fails h);
@@ -101,7 +103,7 @@ not_put p w e = record { bytes = kept_is_part w w p (keeps w); mark = keeps e }
 -- all pieces were put
 pub all_put : (answer : Answer) (w0 w1 e0 e1 : Option (List ℕ)) (status : Status) → status ≡ answer.status → Wrote answer.pieces w0 w1 e0 e1 → Writes answer w0 w1 e0 e1 status
 all_put answer w0 w1 e0 e1 status is w = record {
-  part = record { text = (joined answer.pieces, take_all (length (joined answer.pieces)) (joined answer.pieces) (omega arith), w.bytes); done = answer.pieces; left = []; is = sym (append-nil answer.pieces); ends = w.ends };
+  part = record { done = answer.pieces; left = []; is = sym (append-nil answer.pieces); part = []; begins = refl; bytes = rw (append-nil (joined answer.pieces)) w.bytes; ends = w.ends };
   whole = λ h. w;
   status_of = λ h. is;
 }
@@ -127,5 +129,14 @@ pub second_put_stops : (answer : Answer) (p q : List ℕ) (left : List (List ℕ
     Appends w0 w1 p → MarksEnd e0 e1 w1 → AppendsPrefix w1 w2 q → Keeps e1 e2 → Writes answer w0 w2 e0 e2 (stopped fault)
 second_put_stops answer p q left w0 w1 w2 e0 e1 e2 fault is a m b k =
     put_stops (p ∷ []) q left answer w0 w1 w2 e0 e1 e2 (stopped fault) is (stopped_is fault) (put_whole [] p w0 w0 w1 e0 e0 e1 (nothing_put w0 e0) a m) b k
+
+-- a text that is not empty is one piece
+pub one_piece : (text : List ℕ) → (length text ≡ 0 → ⊥) → in_one_piece text ≡ text ∷ []
+one_piece [] some = absurd (some refl)
+one_piece (b ∷ text) some = refl
+
+-- an empty text is put by no piece
+pub no_piece : (answer : Answer) (w e : Option (List ℕ)) (status : Status) → answer.pieces ≡ [] → status ≡ answer.status → Writes answer w w e e status
+no_piece answer w e status is same = all_put answer w w e e status same (rw is (nothing_put w e))
 
 pub ruleset puts = (only_put, both_put, first_put_stops, second_put_stops)

@@ -5,7 +5,7 @@ use Rattle.mu_base.specs.declared.status.Status.{Status}
 use Rattle.mu_base.specs.declared.status.Status.TheVariants.{SinkFault, Memory}
 use Rattle.mu_base.specs.declared.sink.PutFault.{PutFault}
 use Rattle.mu_base.specs.declared.sink.PutFault.TheVariants.{Fault, Memory as NoMemory}
-use Rattle.mu_base.specs.Sink.{AppendsPrefix}
+use Rattle.mu_base.specs.Files.{IsPrefix}
 use Rattle.mu_texts.specs.Answer.{Answer}
 
 -- the pieces, one after another
@@ -30,12 +30,14 @@ pub record Wrote (pieces : List (List ℕ)) (written new_written marks new_marks
   pub bytes : Appends written new_written (joined pieces)
   pub ends : AppendsEnds written marks new_marks pieces
 
--- the first pieces were written whole, and then at most a part of what follows
+-- the first pieces were written whole, and then at most a part of what follows them
 pub record WrotePart (pieces : List (List ℕ)) (written new_written marks new_marks : Option (List ℕ)) : Type 0 where
-  pub text : AppendsPrefix written new_written (joined pieces)
   pub done : List (List ℕ)
   pub left : List (List ℕ)
   pub is : pieces ≡ done ++ left
+  pub part : List ℕ
+  pub begins : IsPrefix part (joined left)
+  pub bytes : Appends written new_written (joined done ++ part)
   pub ends : AppendsEnds written marks new_marks done
 
 -- neither the sink nor memory failed

@@ -1,5 +1,5 @@
 // The top call.
-ghost use Rattle.std.specs.Prelude.{◌≡◌, ℕ, None, Some};
+ghost use Rattle.std.specs.Prelude.{◌≡◌, ◌≤◌, ℕ, None, Some};
 ghost use Rattle.mu_base.specs.Faults.{Rose};
 ghost use Rattle.mu_base.specs.Files.{Files};
 ghost use Rattle.mu_command.specs.Answer.{answer_of};
@@ -20,6 +20,9 @@ fn answer<I: Inputs, S: Sink>(alloc: Global, words: &Words, inputs: &mut I, out:
     ensures answered { Answered (record { told = I.holds inputs.old; before = I.faults inputs.old; now = I.faults inputs.new }) words.now
         (S.written out.old) (S.written out.new) (S.ends out.old) (S.ends out.new) result }
     ensures sink_fault { result ≡ Status.SinkFault → Rose (S.faults out.old) (S.faults out.new) }
+    ensures inputs_stay { I.holds inputs.new ≡ I.holds inputs.old }
+    ensures input_faults { (s : ℕ) → I.faults inputs.old s ≤ I.faults inputs.new s }
+    ensures sink_faults { S.faults out.old ≤ S.faults out.new }
 {
     match find(alloc, words, inputs) {
         Ok(ready) => write(alloc, &ready, out),
@@ -55,6 +58,11 @@ pub fn mu<I: Inputs, S: Sink>(alloc: Global, words: &Words, inputs: &mut I, out:
     ensures done { result ≡ Status.Done → OfJob
         (IsAccepted (record { told = I.holds inputs.old; before = I.faults inputs.old; now = I.faults inputs.new }) words.now) (job_of words.now) }
     ensures sink_fault { result ≡ Status.SinkFault → Rose (S.faults out.old) (S.faults out.new) }
+
+    // What the inputs tell stays, and no count of faults falls.
+    ensures inputs_stay { I.holds inputs.new ≡ I.holds inputs.old }
+    ensures input_faults { (s : ℕ) → I.faults inputs.old s ≤ I.faults inputs.new s }
+    ensures sink_faults { S.faults out.old ≤ S.faults out.new }
 
     // Where the inputs tell their files and no count rises, the answer is that to the files.
     ensures complete { (files : Files) → I.holds inputs.old ≡ Some files

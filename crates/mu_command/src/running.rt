@@ -9,7 +9,7 @@ ghost use Rattle.mu_texts.specs.Lines.{line_text, ending_text, ending_status};
 ghost use Rattle.mu_base.specs.Sink.{PutsWhole, PutsPart};
 ghost use Rattle.mu_command.specs.Written.{Writes, IsWhole};
 
-use crate::writing::{put_line, put_text};
+use crate::writing::{put_line, put_whole_text};
 use bundle_check::Checked;
 use ir_print::print_bundle;
 use ir_tree::Bundle;
@@ -82,7 +82,7 @@ fn write_run<S: Sink>(alloc: Global, code: &Checked, entry: u32, out: &mut S) ->
     }
 }
 
-// Writes a bundle's canonical text, in one piece.
+// Writes a bundle's canonical text, in one piece; the text of an empty bundle is empty and is not put.
 fn write_canonical<S: Sink>(alloc: Global, bundle: &Bundle, out: &mut S) -> Status
     ensures writes { Writes (ready_answer (ready.Canonical bundle.now)) (S.written out.old) (S.written out.new) (S.ends out.old) (S.ends out.new) result }
     ensures never_falls { S.faults out.old ≤ S.faults out.new }
@@ -90,7 +90,7 @@ fn write_canonical<S: Sink>(alloc: Global, bundle: &Bundle, out: &mut S) -> Stat
 {
     let mut text = Vec::new(alloc);
     match print_bundle(bundle, &mut text) {
-        Ok(()) => put_text(out, text, Status::Done),
+        Ok(()) => put_whole_text(out, text, Status::Done),
         Err(_) => Status::Memory,
     }
 }

@@ -213,6 +213,16 @@ fn prints(rt: HostRuntime) -> Result<(), Fail> {
     Ok(())
 }
 
+#[test]
+fn puts_nothing_of_an_empty_text(rt: HostRuntime) -> Result<(), Fail> {
+    let words = words_of(rt.alloc(), &["print", "b"])?;
+    let mut inputs = file(rt.alloc(), Vec::new(rt.alloc()), &[])?;
+    let mut out = MemorySink::new(rt.alloc(), Vec::from_slice(rt.alloc(), &[0])?);
+    assert!(rt; mu(rt.alloc(), &words, &mut inputs, &mut out) == Status::Done);
+    assert_eq!(rt; out.ends().len(), 0);
+    Ok(())
+}
+
 // A call of the program over the bundle that adds 40 and 2, and what it must come to.
 #[derive(Clone, Copy)]
 struct Call {

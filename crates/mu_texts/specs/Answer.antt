@@ -104,10 +104,15 @@ abbrev pub run_answer : Option RunOfMachine → Answer
 run_answer (Some r) = record { pieces = map line_text r.lines ++ ending_text r.ending ∷ []; status = ending_status r.ending }
 run_answer None = no_answer
 
+-- a text in one piece; an empty one has none
+abbrev pub in_one_piece : List ℕ → List (List ℕ)
+in_one_piece [] = []
+in_one_piece (b ∷ text) = (b ∷ text) ∷ []
+
 -- what is written then: `ok`, the canonical text in one piece, or the run
 abbrev pub ready_answer : Ready → Answer
 ready_answer ready.Accepted = line (codes "ok") Finished
-ready_answer (ready.Canonical bundle) = record { pieces = bundle_text bundle ∷ []; status = Finished }
+ready_answer (ready.Canonical bundle) = record { pieces = in_one_piece (bundle_text bundle); status = Finished }
 ready_answer (ready.Entered code n) = run_answer (run code n)
 
 abbrev pub ready_part : Part Ready → Answer
