@@ -1,5 +1,5 @@
 -- Lemmas of the memory model, with their proofs, for the proofs of the crates above and of this one. Their statements are
--- checked, so nothing here need be believed, and no clause of a public call names anything here. The laws stand in
+-- checked, so nothing here need be believed, and no clause names anything here. The laws stand in
 -- `Theorems`, `OptionTheorems` and `RunTheorems`.
 --
 -- Events by their numbers, happens-before by its last step.

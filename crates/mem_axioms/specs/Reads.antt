@@ -1,6 +1,6 @@
 -- The positions that a load, or a comparison that fails, may read: the options of a load, save those whose value is
 -- excluded. A strong comparison excludes the expected value.
-use Rattle.std.specs.Prelude.{ℕ, Bool, true, not, if◌then◌else◌, filter, List, Option, Some, None}
+use Rattle.std.specs.Prelude.{ℕ, zero, suc, Bool, true, not, if◌then◌else◌, filter, List, [], ◌∷◌, Option, Some, None}
 use Rattle.mu_base.specs.declared.order.Order.{Order}
 use Rattle.mu_values.specs.declared.scalars.Scalar.{Scalar}
 use Rattle.heap_cells.specs.declared.cells.CellId.{CellId}
@@ -18,3 +18,8 @@ reads rule initial log thread cell order excluded = filter (is_kept initial log 
 -- what a comparison excludes
 abbrev pub excluded_by : Bool → Scalar → Option Scalar
 excluded_by weak expected = if weak then None else Some expected
+
+-- the positions below a number that pass, from the greatest down
+abbrev pub below : (ℕ → Bool) → ℕ → List ℕ
+below test zero = []
+below test (suc n) = if test n then n ∷ below test n else below test n

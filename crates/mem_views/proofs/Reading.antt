@@ -9,13 +9,13 @@ use Rattle.mem_axioms.specs.Logs.{newest}
 use Rattle.mem_axioms.specs.Form.{value_at, has_form, fits_form, is_value_at}
 use Rattle.mem_axioms.specs.Axioms.{meets_axioms}
 use Rattle.mem_axioms.specs.Choices.{is_option, options, holds}
-use Rattle.mem_axioms.specs.Reads.{reads}
+use Rattle.mem_axioms.specs.Reads.{reads, below}
 use Rattle.mem_axioms.specs.Floor.{floor}
 use Rattle.mem_axioms.specs.declared.types.Event.{Event}
 use Rattle.mem_axioms.specs.declared.types.Rule.{Rule}
 use Rattle.mem_axioms.specs.Lemmas.Positions.{form-parts, fits-next}
 use Rattle.mem_axioms.specs.Lemmas.Values.{value-kept}
-use Rattle.mem_axioms.specs.Lemmas.Downward.{below, below-same}
+use Rattle.mem_axioms.specs.Lemmas.Downward.{below-same}
 use Rattle.mem_axioms.specs.Lemmas.Offers.{may_take, reads-below}
 use Rattle.mem_axioms.specs.Lemmas.Options.{floor-option, floor-below, options-number, options-nth}
 use Rattle.mem_views.specs.Differing.{differs_from}

@@ -5,7 +5,7 @@ ghost use Rattle.mem_axioms.specs.Logs.{newest};
 ghost use Rattle.mem_axioms.specs.Form.{value_at};
 ghost use Rattle.mem_axioms.specs.Floor.{floor};
 ghost use Rattle.mem_axioms.specs.Choices.{chosen_at, holds, choices};
-ghost use Rattle.mem_axioms.specs.Reads.{reads, excluded_by};
+ghost use Rattle.mem_axioms.specs.Reads.{reads, excluded_by, below};
 ghost use Rattle.mem_axioms.specs.Objects.{initial_of, HasCell};
 ghost use Rattle.mem_axioms.specs.EventFits.{EventFits, is_thread};
 ghost use Rattle.mem_axioms.specs.Races.{race};
@@ -22,7 +22,6 @@ ghost use Rattle.mem_views.specs.Roominess.{CellFits};
 ghost use Rattle.mem_views.specs.Answers.{IsKnown};
 ghost use Rattle.mem_views.specs.Bounds.{search_bound, values_bound};
 ghost use Rattle.mem_views.specs.Differing.{differs_from, floor_bound, looks_bound};
-ghost use Rattle.mem_axioms.specs.Lemmas.Downward.{below};
 
 use crate::cell::CellViews;
 use crate::floors::{fences_before, found_floor, greatest_of_kinds, last_fence};

@@ -1,11 +1,7 @@
 -- Positions that pass a test, from the newest down.
-use Rattle.std.proofs.Common.{◌≡◌, ℕ, zero, suc, ◌-◌, ◌<◌, Bool, true, false, ◌&&◌, if◌then◌else◌, Some, List, [], ◌∷◌, length, filter, slice_get, refl, ap, arith}
+use Rattle.std.proofs.Common.{◌≡◌, ℕ, zero, suc, ◌-◌, ◌<◌, Bool, true, false, ◌&&◌, if◌then◌else◌, Some, ◌∷◌, length, filter, slice_get, refl, ap, arith}
 use Rattle.mem_axioms.specs.Choices.{down_from}
-
--- the positions below a number that pass, from the greatest down
-abbrev pub below : (ℕ → Bool) → ℕ → List ℕ
-below test zero = []
-below test (suc n) = if test n then n ∷ below test n else below test n
+use Rattle.mem_axioms.specs.Reads.{below}
 
 pub down_from-below : (test : ℕ → Bool) (n : ℕ) → down_from test n ≡ below test (suc n)
 down_from-below test zero = refl

@@ -8,14 +8,14 @@ use Rattle.mem_axioms.specs.Logs.{newest}
 use Rattle.mem_axioms.specs.Axioms.{meets_axioms}
 use Rattle.mem_axioms.specs.PassedOver.{may_read}
 use Rattle.mem_axioms.specs.Choices.{read_at, is_option, options, chosen_at, holds, choices}
-use Rattle.mem_axioms.specs.Reads.{is_kept, reads, excluded_by}
+use Rattle.mem_axioms.specs.Reads.{is_kept, reads, excluded_by, below}
 use Rattle.mem_axioms.specs.declared.types.Rule.{Rule}
 use Rattle.mem_axioms.specs.declared.types.Event.{Event}
 use Rattle.mem_axioms.specs.declared.types.Chosen.{Chosen}
 use Rattle.mem_axioms.specs.declared.types.Wanted.TheVariants.{Load, Swap, Compare}
 use Rattle.mem_axioms.specs.Lemmas.Kept.{newest-allowed, read-fits}
 use Rattle.mem_axioms.specs.Lemmas.Passing.{may_read-is}
-use Rattle.mem_axioms.specs.Lemmas.Downward.{below, down_from-below, filter-below}
+use Rattle.mem_axioms.specs.Lemmas.Downward.{down_from-below, filter-below}
 
 filter-all : {X : Type 0} (xs : List X) → filter (λ x. true) xs ≡ xs
 filter-all [] = refl

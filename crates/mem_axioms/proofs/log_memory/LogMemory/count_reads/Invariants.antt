@@ -1,7 +1,7 @@
 use Rattle.std.proofs.Common.{◌≡◌, ◌≤◌, length, reverse}
 use Rattle.mem_axioms.specs.Objects.{initial_of}
 use Rattle.mem_axioms.specs.Scalars.{scalars_of}
-use Rattle.mem_axioms.specs.Lemmas.Downward.{below}
+use Rattle.mem_axioms.specs.Reads.{below}
 use Rattle.mem_axioms.specs.Lemmas.Offers.{may_take}
 use Rattle.mem_axioms.proofs.log_memory.LogMemory.count_reads.Given as goal
 

@@ -1,8 +1,7 @@
 use Rattle.std.proofs.Common.{◌≡◌, ◌<◌, length, reverse, slice_get}
 use Rattle.mem_axioms.specs.Objects.{initial_of}
 use Rattle.mem_axioms.specs.Scalars.{scalars_of}
-use Rattle.mem_axioms.specs.Reads.{reads}
-use Rattle.mem_axioms.specs.Lemmas.Downward.{below}
+use Rattle.mem_axioms.specs.Reads.{reads, below}
 use Rattle.mem_axioms.specs.Lemmas.Offers.{may_take}
 use Rattle.mem_axioms.proofs.log_memory.LogMemory.nth_read.Given as goal
 

@@ -1,7 +1,7 @@
 use Rattle.std.proofs.Common.{◌≡◌, ◌+◌, ◌≤◌, length}
 use Rattle.mem_axioms.specs.Objects.{initial_of}
 use Rattle.mem_axioms.specs.Scalars.{scalars_of}
-use Rattle.mem_axioms.specs.Lemmas.Downward.{below}
+use Rattle.mem_axioms.specs.Reads.{below}
 use Rattle.mem_views.specs.Differing.{differs_from}
 use Rattle.mem_views.proofs.view_memory.ViewMemory.count_differing.Given as goal
 
