@@ -1,5 +1,5 @@
 -- To believe: what a checked bundle answers by names and by numbers.
-use Rattle.std.specs.Prelude.{ℕ, Bool, true, false, is_some, if◌then◌else◌, List, [], ◌∷◌, ◌++◌, Option, Some, None, Result, Ok, Err, codes, drop, slice_get}
+use Rattle.std.specs.Prelude.{ℕ, Bool, true, false, is_some, if◌then◌else◌, List, [], ◌∷◌, ◌++◌, Option, Some, None, Result, Ok, Err, codes, drop, slice_get, option_map, option_and_then, unwrap_or}
 use Rattle.demands.specs.Names.{found}
 use Rattle.ir_lex.specs.declared.name.Name.{Name}
 use Rattle.ir_tree.specs.declared.code.Block.{Block}
@@ -26,12 +26,8 @@ abbrev pub find : List Item → List ℕ → Option Sort
 find bundle name = found (globals_of bundle).names name
 
 abbrev pub function_number : Option Sort → Option ℕ
-function_number (Some (sorts.Written n)) = None
-function_number (Some (sorts.Signature n)) = None
-function_number (Some (sorts.Constant n)) = None
-function_number (Some (sorts.GlobalCell n)) = None
 function_number (Some (sorts.Function n)) = Some n
-function_number None = None
+function_number _ = None
 
 abbrev pub takes_nothing : Option (List ℕ) → Bool
 takes_nothing None = false
@@ -39,8 +35,7 @@ takes_nothing (Some []) = true
 takes_nothing (Some (c ∷ cs)) = false
 
 abbrev pub first_in : Option Function → Option ℕ
-first_in None = None
-first_in (Some f) = f.first
+first_in f = option_and_then (λ (f : Function). f.first) f
 
 -- a function that takes nothing and has a body may be entered
 abbrev pub entry_of : List Item → Option ℕ → Result ℕ EntryFault
@@ -56,35 +51,22 @@ entry bundle name = entry_of bundle (function_number (find bundle name))
 
 -- ---- by number
 
-abbrev pub class_in_block : Option BlockCode → ℕ → Option ℕ
-class_in_block None variable = None
-class_in_block (Some b) variable = slice_get b.classes variable
-
 -- the class of a variable of a block: the parameters, the handler and the results are counted from 0 in text order
 abbrev pub local_class : List Item → ℕ → ℕ → Option ℕ
-local_class bundle block variable = class_in_block (slice_get (bundle_blocks bundle) block) variable
-
-abbrev pub code_in_block : Option BlockCode → ℕ → Option Code
-code_in_block None at = None
-code_in_block (Some b) at = slice_get b.code at
+local_class bundle block variable = option_and_then (λ (b : BlockCode). slice_get b.classes variable) (slice_get (bundle_blocks bundle) block)
 
 -- the instruction of a block with so many before it
 abbrev pub code_at : List Item → ℕ → ℕ → Option Code
-code_at bundle block at = code_in_block (slice_get (bundle_blocks bundle) block) at
+code_at bundle block at = option_and_then (λ (b : BlockCode). slice_get b.code at) (slice_get (bundle_blocks bundle) block)
 
 abbrev pub handler_of : Option BlockCode → Option ℕ
-handler_of None = None
-handler_of (Some b) = b.handler
+handler_of b = option_and_then (λ (b : BlockCode). b.handler) b
 
 -- the types of the globals
 abbrev pub global_classes : Tables → List Item → List ℕ
 global_classes p [] = []
-global_classes p (items.Typedef d ∷ is) = global_classes p is
-global_classes p (items.Funcsig d ∷ is) = global_classes p is
-global_classes p (items.Const d ∷ is) = global_classes p is
 global_classes p (items.GlobalCell d ∷ is) = noted_class p d.of_type ∷ global_classes p is
-global_classes p (items.Funcdecl d ∷ is) = global_classes p is
-global_classes p (items.Funcdef d ∷ is) = global_classes p is
+global_classes p (_ ∷ is) = global_classes p is
 
 -- ---- names by number
 
@@ -97,37 +79,27 @@ abbrev pub full_name : Funcdef → Block → List ℕ
 full_name d b = d.name.text ++ part d.version ++ part b.head.name
 
 abbrev pub full_name_at : Funcdef → Option Block → List ℕ
-full_name_at d None = []
-full_name_at d (Some b) = full_name d b
+full_name_at d b = unwrap_or (option_map (full_name d) b) []
 
 abbrev pub name_in : Option Item → ℕ → List ℕ
-name_in None at = []
-name_in (Some (items.Typedef d)) at = []
-name_in (Some (items.Funcsig d)) at = []
-name_in (Some (items.Const d)) at = []
-name_in (Some (items.GlobalCell d)) at = []
-name_in (Some (items.Funcdecl d)) at = []
 name_in (Some (items.Funcdef d)) at = full_name_at d (slice_get d.blocks at)
+name_in _ at = []
 
 abbrev pub name_of_block : List Item → Option BlockCode → List ℕ
-name_of_block bundle None = []
-name_of_block bundle (Some b) = name_in (slice_get bundle b.item) b.at
+name_of_block bundle b = unwrap_or (option_map (λ (b : BlockCode). name_in (slice_get bundle b.item) b.at) b) []
 
 -- the full name of a block by its number
 abbrev pub block_name : List Item → ℕ → List ℕ
 block_name bundle n = name_of_block bundle (slice_get (bundle_blocks bundle) n)
 
 abbrev pub text_of : Option Name → List ℕ
-text_of None = []
-text_of (Some n) = n.text
+text_of n = unwrap_or (option_map (λ (n : Name). n.text) n) []
 
 abbrev pub item_name : Option Item → List ℕ
-item_name None = []
-item_name (Some i) = text_of (name_of_function i)
+item_name i = text_of (option_and_then name_of_function i)
 
 abbrev pub name_of_function_at : List Item → Option Function → List ℕ
-name_of_function_at bundle None = []
-name_of_function_at bundle (Some f) = item_name (slice_get bundle f.item)
+name_of_function_at bundle f = unwrap_or (option_map (λ (f : Function). item_name (slice_get bundle f.item)) f) []
 
 -- the name of a function by its number
 abbrev pub function_name : List Item → ℕ → List ℕ

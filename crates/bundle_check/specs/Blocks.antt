@@ -1,5 +1,5 @@
 -- To believe: a block: its demands, and what it is when names are numbers.
-use Rattle.std.specs.Prelude.{ℕ, suc, false, List, [], ◌∷◌, Option, Some, None, length}
+use Rattle.std.specs.Prelude.{ℕ, suc, false, List, [], ◌∷◌, Option, Some, None, option_map, map, length}
 use Rattle.demands.specs.Demands.{Demands, none, demand, ◌⨾◌}
 use Rattle.ir_lex.specs.declared.name.Name.{Name}
 use Rattle.ir_tree.specs.declared.code.Parameter.{Parameter}
@@ -31,8 +31,7 @@ head_locals p h = bound_handler p (bound_parameters p no_locals h.parameters) h.
 
 -- the classes of the parameters alone
 abbrev pub parameter_classes : Tables → List Parameter → List ℕ
-parameter_classes p [] = []
-parameter_classes p (q ∷ qs) = noted_class p q.of_type ∷ parameter_classes p qs
+parameter_classes p qs = map (λ (q : Parameter). noted_class p q.of_type) qs
 
 -- ---- demands: the types of its parameters, each instruction, and its end
 
@@ -54,8 +53,7 @@ blocks_demands p f (b ∷ bs) = block_demands p f b ⨾ blocks_demands p f bs
 
 -- the variable that is the handler stands behind the parameters
 abbrev pub handler_number : BlockHead → Option Name → Option ℕ
-handler_number h None = None
-handler_number h (Some n) = Some (length h.parameters)
+handler_number h n = option_map (λ _. length h.parameters) n
 
 -- block number `at` of the function that is item number `item`
 abbrev pub block_code : Tables → Body → ℕ → ℕ → Block → BlockCode

@@ -1,6 +1,6 @@
 -- To believe: the functions of a bundle: their demands, in text order, and what they are when names are numbers. Blocks are counted from
 -- 0 over the whole bundle, in text order.
-use Rattle.std.specs.Prelude.{ℕ, suc, ◌+◌, Bool, true, List, [], ◌∷◌, ◌++◌, Option, Some, None, is_some, not, ◌&&◌, length, slice_get, if◌then◌else◌}
+use Rattle.std.specs.Prelude.{ℕ, suc, ◌+◌, Bool, true, List, [], ◌∷◌, ◌++◌, Option, Some, None, is_some, not, ◌&&◌, length, slice_get, option_map, option_and_then, if◌then◌else◌}
 use Rattle.demands.specs.Demands.{Demands, none, demand, ◌⨾◌}
 use Rattle.demands.specs.Names.{Names, found, added}
 use Rattle.ir_lex.specs.declared.name.Name.{Name}
@@ -12,7 +12,7 @@ use Rattle.check_tables.specs.declared.fault.CheckKind.{CheckKind}
 use Rattle.check_tables.specs.declared.fault.CheckKind.TheVariants.{BadSignature, EntryParameters}
 use Rattle.check_tables.specs.declared.tables.Signature.{Signature}
 use Rattle.check_tables.specs.declared.tables.Tables.{Tables}
-use Rattle.check_tables.specs.Lookups.{signature_in, signature_named, takes_of, gives_of, noted_classes}
+use Rattle.check_tables.specs.Lookups.{signature_in, signature_named, takes_of, gives_of, noted_classes, noted_signature}
 use Rattle.code_check.specs.declared.scopes.BlockEntry.{BlockEntry}
 use Rattle.code_check.specs.declared.scopes.Body.{Body}
 use Rattle.code_check.specs.Operands.{is_class}
@@ -38,8 +38,7 @@ body_of p first d = record { blocks = entries_from p [] first d.blocks; gives = 
 -- ---- demands
 
 abbrev pub class_of_signature : Option Signature → Option ℕ
-class_of_signature None = None
-class_of_signature (Some s) = Some s.class
+class_of_signature s = option_map (λ (s : Signature). s.class) s
 
 -- a declaration of the function, where there is one, has the same signature
 abbrev pub is_as_declared : Tables → Option ℕ → Name → Bool
@@ -61,56 +60,36 @@ function_demands p first d =
 -- of the functions behind so many blocks
 abbrev pub functions_demands : Tables → ℕ → List Item → Demands CheckKind
 functions_demands p first [] = none
-functions_demands p first (items.Typedef d ∷ is) = functions_demands p first is
-functions_demands p first (items.Funcsig d ∷ is) = functions_demands p first is
-functions_demands p first (items.Const d ∷ is) = functions_demands p first is
-functions_demands p first (items.GlobalCell d ∷ is) = functions_demands p first is
-functions_demands p first (items.Funcdecl d ∷ is) = functions_demands p first is
 functions_demands p first (items.Funcdef d ∷ is) = function_demands p first d ⨾ functions_demands p (first + length d.blocks) is
+functions_demands p first (_ ∷ is) = functions_demands p first is
 
 -- ---- code
 
 -- the blocks of the functions among these items, which stand behind so many items with so many blocks
 abbrev pub all_blocks : Tables → ℕ → ℕ → List Item → List BlockCode
 all_blocks p item first [] = []
-all_blocks p item first (items.Typedef d ∷ is) = all_blocks p (suc item) first is
-all_blocks p item first (items.Funcsig d ∷ is) = all_blocks p (suc item) first is
-all_blocks p item first (items.Const d ∷ is) = all_blocks p (suc item) first is
-all_blocks p item first (items.GlobalCell d ∷ is) = all_blocks p (suc item) first is
-all_blocks p item first (items.Funcdecl d ∷ is) = all_blocks p (suc item) first is
 all_blocks p item first (items.Funcdef d ∷ is) = blocks_code p (body_of p first d) item 0 d.blocks ++ all_blocks p (suc item) (first + length d.blocks) is
+all_blocks p item first (_ ∷ is) = all_blocks p (suc item) first is
 
 -- the first block of each definition
 abbrev pub first_blocks : ℕ → List Item → List ℕ
 first_blocks first [] = []
-first_blocks first (items.Typedef d ∷ is) = first_blocks first is
-first_blocks first (items.Funcsig d ∷ is) = first_blocks first is
-first_blocks first (items.Const d ∷ is) = first_blocks first is
-first_blocks first (items.GlobalCell d ∷ is) = first_blocks first is
-first_blocks first (items.Funcdecl d ∷ is) = first_blocks first is
 first_blocks first (items.Funcdef d ∷ is) = first ∷ first_blocks (first + length d.blocks) is
+first_blocks first (_ ∷ is) = first_blocks first is
 
 abbrev pub first_of : List ℕ → Option ℕ → Option ℕ
-first_of firsts None = None
-first_of firsts (Some n) = slice_get firsts n
-
-abbrev pub signature_class : Option Signature → ℕ
-signature_class None = 0
-signature_class (Some s) = s.class
+first_of firsts n = option_and_then (slice_get firsts) n
 
 -- function k: its signature, and its first block, where it is defined; its name stands first in that item
 abbrev pub function_named : Tables → List ℕ → ℕ → ℕ → Name → Function
 function_named p firsts k item n =
-    record { signature = signature_class (signature_in p (slice_get p.functions k)); first = first_of firsts (found p.globals.defined n.text); item = item }
+    record { signature = noted_signature (signature_in p (slice_get p.functions k)); first = first_of firsts (found p.globals.defined n.text); item = item }
 
 -- the name of a function that is declared or defined
 abbrev pub name_of_function : Item → Option Name
-name_of_function (items.Typedef d) = None
-name_of_function (items.Funcsig d) = None
-name_of_function (items.Const d) = None
-name_of_function (items.GlobalCell d) = None
 name_of_function (items.Funcdecl d) = Some d.name
 name_of_function (items.Funcdef d) = Some d.name
+name_of_function _ = None
 
 -- function k, where the name is its own
 abbrev pub function_in : Tables → List ℕ → ℕ → ℕ → Option Name → Option Function

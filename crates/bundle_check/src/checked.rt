@@ -1,7 +1,6 @@
 // Bundles that are checked.
 ghost use Rattle.std.specs.Prelude.{◌≡◌, ◌<◌, ◌++◌, None, Some, codes, drop, length, map, slice_get, is_some, IsSome, OnOk};
 ghost use Rattle.type_laws.specs.Same.{IsGraph};
-ghost use Rattle.check_tables.specs.Bare.{bare_table};
 ghost use Rattle.bundle_check.specs.Checking.{bundle_tables, bundle_functions, bundle_blocks};
 ghost use Rattle.check_tables.specs.Lookups.{signature_in, takes_of};
 ghost use Rattle.bundle_constants.specs.Bundle.{constant_values};
@@ -189,7 +188,7 @@ impl Checked {
 
     /// The types of the bundle.
     pub fn classes(&self) -> &Classes
-        ensures same { bare_table result.now ≡ (bundle_tables self.now).types }
+        ensures same { result.now ≡ (bundle_tables self.now).types }
         ensures graph { IsGraph result.now.definitions }
     {
         self.tables.types.classes()

@@ -2,10 +2,10 @@
 ghost use Rattle.std.specs.Prelude.{◌≡◌, ◌+◌, length, slice_get, option_copied, IfOk};
 ghost use Rattle.demands.specs.Demands.{IsMemory};
 ghost use Rattle.demands.specs.Names.{found};
-ghost use Rattle.check_tables.specs.Lookups.{signature_in};
+ghost use Rattle.check_tables.specs.Lookups.{signature_in, noted_signature};
 ghost use Rattle.bundle_tables.specs.Entries.{is_function};
 ghost use Rattle.bundle_check.specs.Answers.{global_classes};
-ghost use Rattle.bundle_check.specs.Functions.{first_blocks, first_of, signature_class, function_named, functions_from, name_of_function, function_in};
+ghost use Rattle.bundle_check.specs.Functions.{first_blocks, first_of, function_named, functions_from, name_of_function, function_in};
 
 use crate::code::Function;
 use bundle_names::Sort;
@@ -70,7 +70,7 @@ fn is_numbered(tables: &Tables, name: &Name, number: u32) -> bool
 
 /// The class of the signature of a function.
 fn class_of(tables: &Tables, number: u32) -> u32
-    ensures { result ≡ signature_class (signature_in tables.now (slice_get tables.now.functions number)) }
+    ensures { result ≡ noted_signature (signature_in tables.now (slice_get tables.now.functions number)) }
 {
     match tables.functions.as_slice().get(number as usize) {
         Some(s) => match tables.signatures.as_slice().get(*s as usize) {
