@@ -23,7 +23,6 @@ use Rattle.bundle_names.specs.declared.globals.Globals.{Globals}
 use Rattle.bundle_names.specs.Globals.{with_item, with_items, no_globals, globals_of}
 use Rattle.bundle_names.specs.Uses.{is_signature}
 use Rattle.bundle_names.specs.ItemUses.{form_use, item_uses}
-use Rattle.check_tables.specs.Bare.{ids}
 use Rattle.check_tables.specs.Types.{definition_at, is_type_there, is_sig}
 use Rattle.check_tables.specs.Lookups.{written_number, signature_number}
 use Rattle.bundle_tables.specs.Graph.{within, type_id, type_ids, signature_id, type_definition, types_of, signatures_of, graph_of, table_of}
@@ -183,7 +182,7 @@ signatures_below : (g : Globals) (is : List Item) → length (signatures_of g is
 signatures_below g [] l = All-nil (IsBelow (g.counts.written + g.counts.signatures))
 signatures_below g (items.Typedef d ∷ is) l = signatures_below g is l
 signatures_below g (items.Funcsig d ∷ is) l =
-    All-cons (IsBelow (g.counts.written + g.counts.signatures)) (Sig (ids (type_ids g d.takes)) (ids (type_ids g d.gives))) (signatures_of g is)
+    All-cons (IsBelow (g.counts.written + g.counts.signatures)) (Sig (type_ids g d.takes) (type_ids g d.gives)) (signatures_of g is)
     (All-append (λ y. y < g.counts.written + g.counts.signatures) (type_ids g d.takes) (type_ids g d.gives)
     (ids_below g d.takes (g.counts.written + g.counts.signatures) (omega arith) (omega (arith, l)))
     (ids_below g d.gives (g.counts.written + g.counts.signatures) (omega arith) (omega (arith, l))))
