@@ -121,8 +121,9 @@ fn joined(alloc: Global, made: &Made, constants: &[u32]) -> Result<Value, AllocE
 }
 
 /// The value of a literal as a constant of its type: of a number the integer of that width, of NULL itself, of a list the scalars
-/// of its members, which have to be made before (one that is not made has no scalars). A number has to fit the int's width, which
-/// is at most 128. It takes memory and time for the scalars that it has.
+/// of its members, which have to be made before (one that is not made has no scalars). Whether it is one, `judge_const` says: of a
+/// number that does not fit only the low bits are kept. An int has 1 to 128 bits, as in every graph that is accepted. It takes
+/// memory and time for the scalars that it has.
 pub fn make_const(
     alloc: Global,
     classes: &Classes,

@@ -10,6 +10,7 @@ use crate::{
 use mu_base::Types;
 use mu_types::{Classes, TypeDef, TypeFault, TypeGraph, classes};
 use std::alloc::{AllocError, Global};
+use std::process::Abort;
 use std::test::Fail;
 use text_forms::Listing;
 
@@ -19,255 +20,264 @@ fn is_integer(width: u32, n: u128) -> bool
     1 <= width && width <= 128 && (width == 128 || n < 1 << width)
 }
 
-#[test]
-fn computes_with_integers(rt: HostRuntime) -> Result<(), Fail> {
-    let rows: [(BinOp, u32, u128, u128, Option<u128>); 82] = [
-        (BinOp::Add, 8, 255, 1, Some(0)),
-        (BinOp::Add, 8, 127, 1, Some(128)),
-        (BinOp::Add, 8, 128, 128, Some(0)),
-        (BinOp::Add, 64, 18446744073709551615, 1, Some(0)),
-        (
-            BinOp::Add,
-            64,
-            9223372036854775807,
-            1,
-            Some(9223372036854775808),
-        ),
-        (
-            BinOp::Add,
-            64,
-            9223372036854775808,
-            9223372036854775808,
-            Some(0),
-        ),
-        (BinOp::Sub, 8, 0, 1, Some(255)),
-        (BinOp::Sub, 8, 128, 1, Some(127)),
-        (BinOp::Sub, 8, 0, 128, Some(128)),
-        (BinOp::Sub, 64, 0, 1, Some(18446744073709551615)),
-        (
-            BinOp::Sub,
-            64,
-            9223372036854775808,
-            1,
-            Some(9223372036854775807),
-        ),
-        (
-            BinOp::Sub,
-            64,
-            0,
-            9223372036854775808,
-            Some(9223372036854775808),
-        ),
-        (BinOp::Mul, 8, 255, 255, Some(1)),
-        (BinOp::Mul, 8, 128, 2, Some(0)),
-        (BinOp::Mul, 8, 127, 127, Some(1)),
-        (
-            BinOp::Mul,
-            64,
-            18446744073709551615,
-            18446744073709551615,
-            Some(1),
-        ),
-        (BinOp::Mul, 64, 9223372036854775808, 2, Some(0)),
-        (
-            BinOp::Mul,
-            64,
-            9223372036854775807,
-            9223372036854775807,
-            Some(1),
-        ),
-        (BinOp::Sdiv, 8, 128, 255, Some(128)),
-        (BinOp::Sdiv, 8, 128, 1, Some(128)),
-        (BinOp::Sdiv, 8, 249, 2, Some(253)),
-        (
-            BinOp::Sdiv,
-            64,
-            9223372036854775808,
-            18446744073709551615,
-            Some(9223372036854775808),
-        ),
-        (
-            BinOp::Sdiv,
-            64,
-            9223372036854775808,
-            1,
-            Some(9223372036854775808),
-        ),
-        (
-            BinOp::Sdiv,
-            64,
-            18446744073709551609,
-            2,
-            Some(18446744073709551613),
-        ),
-        (BinOp::Srem, 8, 128, 255, Some(0)),
-        (BinOp::Srem, 8, 249, 2, Some(255)),
-        (BinOp::Srem, 8, 7, 254, Some(1)),
-        (
-            BinOp::Srem,
-            64,
-            9223372036854775808,
-            18446744073709551615,
-            Some(0),
-        ),
-        (
-            BinOp::Srem,
-            64,
-            18446744073709551609,
-            2,
-            Some(18446744073709551615),
-        ),
-        (BinOp::Srem, 64, 7, 18446744073709551614, Some(1)),
-        (BinOp::Udiv, 8, 255, 2, Some(127)),
-        (BinOp::Udiv, 8, 128, 255, Some(0)),
-        (BinOp::Udiv, 8, 255, 128, Some(1)),
-        (
-            BinOp::Udiv,
-            64,
-            18446744073709551615,
-            2,
-            Some(9223372036854775807),
-        ),
-        (
-            BinOp::Udiv,
-            64,
-            9223372036854775808,
-            18446744073709551615,
-            Some(0),
-        ),
-        (
-            BinOp::Udiv,
-            64,
-            18446744073709551615,
-            9223372036854775808,
-            Some(1),
-        ),
-        (BinOp::Urem, 8, 255, 2, Some(1)),
-        (BinOp::Urem, 8, 128, 255, Some(128)),
-        (BinOp::Urem, 8, 255, 128, Some(127)),
-        (BinOp::Urem, 64, 18446744073709551615, 2, Some(1)),
-        (
-            BinOp::Urem,
-            64,
-            9223372036854775808,
-            18446744073709551615,
-            Some(9223372036854775808),
-        ),
-        (
-            BinOp::Urem,
-            64,
-            18446744073709551615,
-            9223372036854775808,
-            Some(9223372036854775807),
-        ),
-        (BinOp::Shl, 8, 255, 8, Some(255)),
-        (BinOp::Shl, 8, 1, 7, Some(128)),
-        (BinOp::Shl, 8, 255, 9, Some(254)),
-        (
-            BinOp::Shl,
-            64,
-            18446744073709551615,
-            64,
-            Some(18446744073709551615),
-        ),
-        (BinOp::Shl, 64, 1, 63, Some(9223372036854775808)),
-        (
-            BinOp::Shl,
-            64,
-            18446744073709551615,
-            65,
-            Some(18446744073709551614),
-        ),
-        (BinOp::Lshr, 8, 255, 8, Some(255)),
-        (BinOp::Lshr, 8, 255, 7, Some(1)),
-        (BinOp::Lshr, 8, 128, 9, Some(64)),
-        (
-            BinOp::Lshr,
-            64,
-            18446744073709551615,
-            64,
-            Some(18446744073709551615),
-        ),
-        (BinOp::Lshr, 64, 18446744073709551615, 63, Some(1)),
-        (
-            BinOp::Lshr,
-            64,
-            9223372036854775808,
-            65,
-            Some(4611686018427387904),
-        ),
-        (BinOp::Ashr, 8, 128, 8, Some(128)),
-        (BinOp::Ashr, 8, 128, 7, Some(255)),
-        (BinOp::Ashr, 8, 127, 1, Some(63)),
-        (
-            BinOp::Ashr,
-            64,
-            9223372036854775808,
-            64,
-            Some(9223372036854775808),
-        ),
-        (
-            BinOp::Ashr,
-            64,
-            9223372036854775808,
-            63,
-            Some(18446744073709551615),
-        ),
-        (
-            BinOp::Ashr,
-            64,
-            9223372036854775807,
-            1,
-            Some(4611686018427387903),
-        ),
-        (BinOp::And, 8, 255, 128, Some(128)),
-        (BinOp::And, 8, 90, 60, Some(24)),
-        (
-            BinOp::And,
-            64,
-            18446744073709551615,
-            9223372036854775808,
-            Some(9223372036854775808),
-        ),
-        (BinOp::And, 64, 90, 60, Some(24)),
-        (BinOp::Or, 8, 127, 128, Some(255)),
-        (BinOp::Or, 8, 90, 60, Some(126)),
-        (
-            BinOp::Or,
-            64,
-            9223372036854775807,
-            9223372036854775808,
-            Some(18446744073709551615),
-        ),
-        (BinOp::Or, 64, 90, 60, Some(126)),
-        (BinOp::Xor, 8, 255, 128, Some(127)),
-        (BinOp::Xor, 8, 90, 60, Some(102)),
-        (
-            BinOp::Xor,
-            64,
-            18446744073709551615,
-            9223372036854775808,
-            Some(9223372036854775807),
-        ),
-        (BinOp::Xor, 64, 90, 60, Some(102)),
-        (BinOp::Sdiv, 1, 1, 1, Some(1)),
-        (BinOp::Sdiv, 1, 1, 0, None),
-        (BinOp::Srem, 1, 1, 1, Some(0)),
-        (BinOp::Srem, 1, 1, 0, None),
-        (BinOp::Srem, 1, 0, 0, None),
-        (BinOp::Ashr, 1, 1, 1, Some(1)),
-        (BinOp::Ashr, 1, 1, 0, Some(1)),
-        (BinOp::Ashr, 1, 0, 1, Some(0)),
-        (BinOp::Shl, 1, 1, 1, Some(1)),
-        (BinOp::Shl, 1, 1, 0, Some(1)),
-    ];
-    for (op, width, a, b, expected) in rows {
+/// An operation on two integers of a width, and what it makes of them.
+type Row = (BinOp, u32, u128, u128, Option<u128>);
+
+const ROWS: [Row; 82] = [
+    (BinOp::Add, 8, 255, 1, Some(0)),
+    (BinOp::Add, 8, 127, 1, Some(128)),
+    (BinOp::Add, 8, 128, 128, Some(0)),
+    (BinOp::Add, 64, 18446744073709551615, 1, Some(0)),
+    (
+        BinOp::Add,
+        64,
+        9223372036854775807,
+        1,
+        Some(9223372036854775808),
+    ),
+    (
+        BinOp::Add,
+        64,
+        9223372036854775808,
+        9223372036854775808,
+        Some(0),
+    ),
+    (BinOp::Sub, 8, 0, 1, Some(255)),
+    (BinOp::Sub, 8, 128, 1, Some(127)),
+    (BinOp::Sub, 8, 0, 128, Some(128)),
+    (BinOp::Sub, 64, 0, 1, Some(18446744073709551615)),
+    (
+        BinOp::Sub,
+        64,
+        9223372036854775808,
+        1,
+        Some(9223372036854775807),
+    ),
+    (
+        BinOp::Sub,
+        64,
+        0,
+        9223372036854775808,
+        Some(9223372036854775808),
+    ),
+    (BinOp::Mul, 8, 255, 255, Some(1)),
+    (BinOp::Mul, 8, 128, 2, Some(0)),
+    (BinOp::Mul, 8, 127, 127, Some(1)),
+    (
+        BinOp::Mul,
+        64,
+        18446744073709551615,
+        18446744073709551615,
+        Some(1),
+    ),
+    (BinOp::Mul, 64, 9223372036854775808, 2, Some(0)),
+    (
+        BinOp::Mul,
+        64,
+        9223372036854775807,
+        9223372036854775807,
+        Some(1),
+    ),
+    (BinOp::Sdiv, 8, 128, 255, Some(128)),
+    (BinOp::Sdiv, 8, 128, 1, Some(128)),
+    (BinOp::Sdiv, 8, 249, 2, Some(253)),
+    (
+        BinOp::Sdiv,
+        64,
+        9223372036854775808,
+        18446744073709551615,
+        Some(9223372036854775808),
+    ),
+    (
+        BinOp::Sdiv,
+        64,
+        9223372036854775808,
+        1,
+        Some(9223372036854775808),
+    ),
+    (
+        BinOp::Sdiv,
+        64,
+        18446744073709551609,
+        2,
+        Some(18446744073709551613),
+    ),
+    (BinOp::Srem, 8, 128, 255, Some(0)),
+    (BinOp::Srem, 8, 249, 2, Some(255)),
+    (BinOp::Srem, 8, 7, 254, Some(1)),
+    (
+        BinOp::Srem,
+        64,
+        9223372036854775808,
+        18446744073709551615,
+        Some(0),
+    ),
+    (
+        BinOp::Srem,
+        64,
+        18446744073709551609,
+        2,
+        Some(18446744073709551615),
+    ),
+    (BinOp::Srem, 64, 7, 18446744073709551614, Some(1)),
+    (BinOp::Udiv, 8, 255, 2, Some(127)),
+    (BinOp::Udiv, 8, 128, 255, Some(0)),
+    (BinOp::Udiv, 8, 255, 128, Some(1)),
+    (
+        BinOp::Udiv,
+        64,
+        18446744073709551615,
+        2,
+        Some(9223372036854775807),
+    ),
+    (
+        BinOp::Udiv,
+        64,
+        9223372036854775808,
+        18446744073709551615,
+        Some(0),
+    ),
+    (
+        BinOp::Udiv,
+        64,
+        18446744073709551615,
+        9223372036854775808,
+        Some(1),
+    ),
+    (BinOp::Urem, 8, 255, 2, Some(1)),
+    (BinOp::Urem, 8, 128, 255, Some(128)),
+    (BinOp::Urem, 8, 255, 128, Some(127)),
+    (BinOp::Urem, 64, 18446744073709551615, 2, Some(1)),
+    (
+        BinOp::Urem,
+        64,
+        9223372036854775808,
+        18446744073709551615,
+        Some(9223372036854775808),
+    ),
+    (
+        BinOp::Urem,
+        64,
+        18446744073709551615,
+        9223372036854775808,
+        Some(9223372036854775807),
+    ),
+    (BinOp::Shl, 8, 255, 8, Some(255)),
+    (BinOp::Shl, 8, 1, 7, Some(128)),
+    (BinOp::Shl, 8, 255, 9, Some(254)),
+    (
+        BinOp::Shl,
+        64,
+        18446744073709551615,
+        64,
+        Some(18446744073709551615),
+    ),
+    (BinOp::Shl, 64, 1, 63, Some(9223372036854775808)),
+    (
+        BinOp::Shl,
+        64,
+        18446744073709551615,
+        65,
+        Some(18446744073709551614),
+    ),
+    (BinOp::Lshr, 8, 255, 8, Some(255)),
+    (BinOp::Lshr, 8, 255, 7, Some(1)),
+    (BinOp::Lshr, 8, 128, 9, Some(64)),
+    (
+        BinOp::Lshr,
+        64,
+        18446744073709551615,
+        64,
+        Some(18446744073709551615),
+    ),
+    (BinOp::Lshr, 64, 18446744073709551615, 63, Some(1)),
+    (
+        BinOp::Lshr,
+        64,
+        9223372036854775808,
+        65,
+        Some(4611686018427387904),
+    ),
+    (BinOp::Ashr, 8, 128, 8, Some(128)),
+    (BinOp::Ashr, 8, 128, 7, Some(255)),
+    (BinOp::Ashr, 8, 127, 1, Some(63)),
+    (
+        BinOp::Ashr,
+        64,
+        9223372036854775808,
+        64,
+        Some(9223372036854775808),
+    ),
+    (
+        BinOp::Ashr,
+        64,
+        9223372036854775808,
+        63,
+        Some(18446744073709551615),
+    ),
+    (
+        BinOp::Ashr,
+        64,
+        9223372036854775807,
+        1,
+        Some(4611686018427387903),
+    ),
+    (BinOp::And, 8, 255, 128, Some(128)),
+    (BinOp::And, 8, 90, 60, Some(24)),
+    (
+        BinOp::And,
+        64,
+        18446744073709551615,
+        9223372036854775808,
+        Some(9223372036854775808),
+    ),
+    (BinOp::And, 64, 90, 60, Some(24)),
+    (BinOp::Or, 8, 127, 128, Some(255)),
+    (BinOp::Or, 8, 90, 60, Some(126)),
+    (
+        BinOp::Or,
+        64,
+        9223372036854775807,
+        9223372036854775808,
+        Some(18446744073709551615),
+    ),
+    (BinOp::Or, 64, 90, 60, Some(126)),
+    (BinOp::Xor, 8, 255, 128, Some(127)),
+    (BinOp::Xor, 8, 90, 60, Some(102)),
+    (
+        BinOp::Xor,
+        64,
+        18446744073709551615,
+        9223372036854775808,
+        Some(9223372036854775807),
+    ),
+    (BinOp::Xor, 64, 90, 60, Some(102)),
+    (BinOp::Sdiv, 1, 1, 1, Some(1)),
+    (BinOp::Sdiv, 1, 1, 0, None),
+    (BinOp::Srem, 1, 1, 1, Some(0)),
+    (BinOp::Srem, 1, 1, 0, None),
+    (BinOp::Srem, 1, 0, 0, None),
+    (BinOp::Ashr, 1, 1, 1, Some(1)),
+    (BinOp::Ashr, 1, 1, 0, Some(1)),
+    (BinOp::Ashr, 1, 0, 1, Some(0)),
+    (BinOp::Shl, 1, 1, 1, Some(1)),
+    (BinOp::Shl, 1, 1, 0, Some(1)),
+];
+
+fn computes(rt: &impl Abort, rows: &[Row]) {
+    for row in rows {
+        let (op, width, a, b, expected) = *row;
         if is_integer(width, a) && is_integer(width, b) {
             assert_eq!(rt; binary(op, width, a, b), expected);
         } else {
             assert!(rt; false, "no integers of {width} bits");
         }
     }
+}
+
+#[test]
+fn computes_with_integers(rt: HostRuntime) -> Result<(), Fail> {
+    computes(&rt, &ROWS);
     Ok(())
 }
 
@@ -277,49 +287,58 @@ const ONES: u128 = u128::MAX;
 /// The least signed integer of 128 bits.
 const LEAST: u128 = 170141183460469231731687303715884105728;
 
-#[test]
-fn computes_with_the_widest_integers(rt: HostRuntime) -> Result<(), Fail> {
-    let rows: [(BinOp, u128, u128, u128); 26] = [
-        (BinOp::Add, ONES, 1, 0),
-        (BinOp::Add, LEAST, LEAST, 0),
-        (BinOp::Add, LEAST - 1, 1, LEAST),
-        (BinOp::Sub, 0, 1, ONES),
-        (BinOp::Sub, LEAST, 1, LEAST - 1),
-        (BinOp::Mul, ONES, ONES, 1),
-        (BinOp::Mul, LEAST, 2, 0),
-        (
-            BinOp::Mul,
-            1512366075204170947332355369683137040,
-            338770000845734292516042252062085074415,
-            250830954792862432417646302229912718576,
-        ),
-        (BinOp::Mul, LEAST - 1, LEAST - 1, 1),
-        (BinOp::Sdiv, LEAST, ONES, LEAST),
-        (BinOp::Sdiv, LEAST, 1, LEAST),
-        (BinOp::Sdiv, ONES - 6, 2, ONES - 2),
-        (BinOp::Srem, LEAST, ONES, 0),
-        (BinOp::Srem, ONES - 6, 2, ONES),
-        (BinOp::Srem, 7, ONES - 1, 1),
-        (BinOp::Udiv, ONES, 2, LEAST - 1),
-        (BinOp::Udiv, ONES, LEAST, 1),
-        (BinOp::Urem, ONES, LEAST, LEAST - 1),
-        (BinOp::Shl, 1, 127, LEAST),
-        (BinOp::Shl, ONES, 128, ONES),
-        (BinOp::Shl, 1512366075204170947332355369683137040, 127, 0),
-        (BinOp::Lshr, ONES, 127, 1),
-        (BinOp::Lshr, ONES, 128, ONES),
-        (BinOp::Ashr, LEAST, 127, ONES),
-        (BinOp::Ashr, LEAST, 128, LEAST),
-        (
-            BinOp::Ashr,
-            LEAST - 1,
-            1,
-            85070591730234615865843651857942052863,
-        ),
-    ];
-    for (op, a, b, expected) in rows {
+/// An operation on two integers of 128 bits, and the integer that it makes of them.
+type Widest = (BinOp, u128, u128, u128);
+
+const WIDEST: [Widest; 26] = [
+    (BinOp::Add, ONES, 1, 0),
+    (BinOp::Add, LEAST, LEAST, 0),
+    (BinOp::Add, LEAST - 1, 1, LEAST),
+    (BinOp::Sub, 0, 1, ONES),
+    (BinOp::Sub, LEAST, 1, LEAST - 1),
+    (BinOp::Mul, ONES, ONES, 1),
+    (BinOp::Mul, LEAST, 2, 0),
+    (
+        BinOp::Mul,
+        1512366075204170947332355369683137040,
+        338770000845734292516042252062085074415,
+        250830954792862432417646302229912718576,
+    ),
+    (BinOp::Mul, LEAST - 1, LEAST - 1, 1),
+    (BinOp::Sdiv, LEAST, ONES, LEAST),
+    (BinOp::Sdiv, LEAST, 1, LEAST),
+    (BinOp::Sdiv, ONES - 6, 2, ONES - 2),
+    (BinOp::Srem, LEAST, ONES, 0),
+    (BinOp::Srem, ONES - 6, 2, ONES),
+    (BinOp::Srem, 7, ONES - 1, 1),
+    (BinOp::Udiv, ONES, 2, LEAST - 1),
+    (BinOp::Udiv, ONES, LEAST, 1),
+    (BinOp::Urem, ONES, LEAST, LEAST - 1),
+    (BinOp::Shl, 1, 127, LEAST),
+    (BinOp::Shl, ONES, 128, ONES),
+    (BinOp::Shl, 1512366075204170947332355369683137040, 127, 0),
+    (BinOp::Lshr, ONES, 127, 1),
+    (BinOp::Lshr, ONES, 128, ONES),
+    (BinOp::Ashr, LEAST, 127, ONES),
+    (BinOp::Ashr, LEAST, 128, LEAST),
+    (
+        BinOp::Ashr,
+        LEAST - 1,
+        1,
+        85070591730234615865843651857942052863,
+    ),
+];
+
+fn computes_widest(rt: &impl Abort, rows: &[Widest]) {
+    for row in rows {
+        let (op, a, b, expected) = *row;
         assert_eq!(rt; binary(op, 128, a, b), Some(expected));
     }
+}
+
+#[test]
+fn computes_with_the_widest_integers(rt: HostRuntime) -> Result<(), Fail> {
+    computes_widest(&rt, &WIDEST);
     Ok(())
 }
 
