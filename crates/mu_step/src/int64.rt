@@ -2,7 +2,6 @@
 ghost use Rattle.std.specs.Prelude.{◌≡◌, ◌<◌, Some, length, slice_get};
 ghost use Rattle.type_laws.specs.declared.definition.TypeDef.TheVariants.{Int};
 ghost use Rattle.mu_types.specs.Implied.{references};
-ghost use Rattle.check_tables.specs.Bare.{bare};
 ghost use Rattle.check_tables.specs.Types.{class_like};
 ghost use Rattle.mu_step.specs.Whole.{own, IsWhole, is_int64, first_int64};
 
@@ -10,14 +9,14 @@ use check_tables::TypeTable;
 use mu_types::TypeDef;
 
 fn is_int64(definition: &TypeDef) -> bool
-    ensures { result ≡ is_int64 (bare definition.now) }
+    ensures { result ≡ is_int64 definition.now }
 {
     matches!(definition, TypeDef::Int { width: 64 })
 }
 
 /// How many definitions refer to this one that is written.
 fn references(definition: &TypeDef) -> usize
-    ensures { result ≡ length (references 0 (bare definition.now)) }
+    ensures { result ≡ length (references 0 definition.now) }
 {
     if matches!(definition, TypeDef::Sig { .. }) {
         1
@@ -30,7 +29,7 @@ fn references(definition: &TypeDef) -> usize
 fn definition(types: &TypeTable, n: u32) -> &TypeDef
     requires whole { IsWhole types.now }
     requires n { n < types.now.written }
-    ensures { slice_get (own types.now) n ≡ Some (bare result.now) }
+    ensures { slice_get (own types.now) n ≡ Some result.now }
 {
     match types.definition(n) {
         Some(definition) => definition,
