@@ -18,7 +18,7 @@ fn is_refused(rt: &impl Abort, alloc: Global, text: &[u8], kind: TextKind, place
 
 #[test]
 fn refuses_at_the_first_fault(rt: HostRuntime) -> Result<(), Fail> {
-    let refusals: [Refusal; 14] = [
+    let refusals: [Refusal; 15] = [
         (
             b".funcdef @f VERSION %v <@s> { %e(): RET",
             TextKind::Unexpected,
@@ -55,6 +55,11 @@ fn refuses_at_the_first_fault(rt: HostRuntime) -> Result<(), Fail> {
             b".funcdef @f VERSION %v <@s> { %e: COMMINST @uvm.kill_stack () }",
             TextKind::Unexpected,
             60,
+        ),
+        (
+            b".funcdef @f VERSION %v <@s> { %e: COMMINST @uvm.futex.wait_timeout <@t> (@q @c0) }",
+            TextKind::Unexpected,
+            79,
         ),
         (
             b".funcdef @f VERSION %v <@s> { %e: COMMINST @uvm.meta.id () }",
@@ -103,7 +108,7 @@ fn shape(bundle: &Bundle) -> Option<(usize, usize, usize)> {
 // Behind a common instruction `( )` is its list, unless `=` follows; a name begins a block, unless `=` follows.
 #[test]
 fn reads_what_takes_a_second_look(rt: HostRuntime) -> Result<(), Fail> {
-    let rows: [(&[u8], (usize, usize, usize)); 6] = [
+    let rows: [(&[u8], (usize, usize, usize)); 7] = [
         (
             b".funcdef @f VERSION %v <@s> { %e: COMMINST @uvm.thread_exit ( ) ( ) = RET () }",
             (1, 2, 0),
@@ -119,6 +124,10 @@ fn reads_what_takes_a_second_look(rt: HostRuntime) -> Result<(), Fail> {
         (
             b".funcdef @f VERSION %v <@s> { %e: COMMINST @uvm.get_threadlocal %a: RET () }",
             (2, 1, 0),
+        ),
+        (
+            b".funcdef @f VERSION %v <@s> { %e: %w = COMMINST @uvm.futex.wait_timeout <@t> (%p @v @n) %b(): }",
+            (2, 1, 1),
         ),
         (
             b".funcdef @f VERSION %v <@s> { %e: COMMINST @uvm.thread_exit [%l] RET () }",
