@@ -1,2 +1,3 @@
 pub mod Globals
 pub mod Judged
+pub mod Prefixes

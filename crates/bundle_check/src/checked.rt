@@ -1,5 +1,6 @@
 // Bundles that are checked.
-ghost use Rattle.std.specs.Prelude.{◌≡◌, ◌<◌, ◌++◌, None, Some, codes, drop, length, map, slice_get, is_some, IsSome, OnOk};
+ghost use Rattle.std.specs.Prelude.{◌≡◌, ◌<◌, ◌++◌, None, Some, codes, drop, length, map, slice_get, is_some, IsSome, OnOk, OnErr};
+ghost use Rattle.mu_base.specs.Files.{IsPrefix};
 ghost use Rattle.type_laws.specs.Same.{IsGraph};
 ghost use Rattle.check_tables.specs.Bare.{bare_table};
 ghost use Rattle.bundle_check.specs.Checking.{bundle_tables, bundle_functions, bundle_blocks};
@@ -21,7 +22,8 @@ use std::marker::Model;
 use text_forms::Listing;
 
 fn write_dot(out: &mut Vec<u8>) -> Result<(), AllocError>
-    ensures { OnOk result (out.new.items ≡ out.old.items ++ codes ".") }
+    ensures written { OnOk result (out.new.items ≡ out.old.items ++ codes ".") }
+    ensures stays { OnErr result (out.new.items ≡ out.old.items) }
 {
     out.push(b'.')?;
     Ok(())
@@ -29,7 +31,8 @@ fn write_dot(out: &mut Vec<u8>) -> Result<(), AllocError>
 
 /// Writes a name without its sigil.
 fn write_bare(name: &Name, out: &mut Vec<u8>) -> Result<(), AllocError>
-    ensures { OnOk result (out.new.items ≡ out.old.items ++ drop 1 name.now.text) }
+    ensures written { OnOk result (out.new.items ≡ out.old.items ++ drop 1 name.now.text) }
+    ensures stays { OnErr result (out.new.items ≡ out.old.items) }
 {
     match name.text.as_slice() {
         [_, rest @ ..] => out.extend_from_slice(rest),
@@ -37,24 +40,43 @@ fn write_bare(name: &Name, out: &mut Vec<u8>) -> Result<(), AllocError>
     }
 }
 
-/// Writes a dot and a name without its sigil.
+/// Writes a dot and a name without its sigil. Where no memory is found the dot may have been written.
+#[tactic(auto, using(crate::proofs::Prefixes::prefix_self, crate::proofs::Prefixes::prefix_longer))]
 fn write_part(name: &Name, out: &mut Vec<u8>) -> Result<(), AllocError>
-    ensures { OnOk result (out.new.items ≡ out.old.items ++ part name.now) }
+    ensures written { OnOk result (out.new.items ≡ out.old.items ++ part name.now) }
+    ensures begins { OnErr result (IsPrefix out.old.items out.new.items) }
 {
     write_dot(out)?;
     write_bare(name, out)
 }
 
-fn write_full_name(function: &Funcdef, block: &Block, out: &mut Vec<u8>) -> Result<(), AllocError>
-    ensures { OnOk result (out.new.items ≡ out.old.items ++ full_name function.now block.now) }
+/// Writes the three parts of a block's full name. Where no memory is found some of them may have been written.
+#[tactic(auto, using(crate::proofs::Prefixes::prefix_self, crate::proofs::Prefixes::prefix_longer, crate::proofs::Prefixes::prefix_again))]
+fn write_parts(function: &Funcdef, block: &Block, out: &mut Vec<u8>) -> Result<(), AllocError>
+    ensures written { OnOk result (out.new.items ≡ out.old.items ++ full_name function.now block.now) }
+    ensures begins { OnErr result (IsPrefix out.old.items out.new.items) }
 {
     out.extend_from_slice(function.name.text.as_slice())?;
     write_part(&function.version, out)?;
     write_part(&block.head.name, out)
 }
 
+/// Writes a block's full name, or nothing where no memory is found.
+fn write_full_name(function: &Funcdef, block: &Block, out: &mut Vec<u8>) -> Result<(), AllocError>
+    ensures written { OnOk result (out.new.items ≡ out.old.items ++ full_name function.now block.now) }
+    ensures stays { OnErr result (out.new.items ≡ out.old.items) }
+{
+    let before = out.len();
+    let written = write_parts(function, block, out);
+    if written.is_err() {
+        out.truncate(before);
+    }
+    written
+}
+
 fn write_name_at(function: &Funcdef, at: u32, out: &mut Vec<u8>) -> Result<(), AllocError>
-    ensures { OnOk result (out.new.items ≡ out.old.items ++ full_name_at function.now (slice_get function.now.blocks at)) }
+    ensures written { OnOk result (out.new.items ≡ out.old.items ++ full_name_at function.now (slice_get function.now.blocks at)) }
+    ensures stays { OnErr result (out.new.items ≡ out.old.items) }
 {
     match function.blocks.as_slice().get(at as usize) {
         None => Ok(()),
@@ -63,7 +85,8 @@ fn write_name_at(function: &Funcdef, at: u32, out: &mut Vec<u8>) -> Result<(), A
 }
 
 fn write_item_name(item: &Item, out: &mut Vec<u8>) -> Result<(), AllocError>
-    ensures { OnOk result (out.new.items ≡ out.old.items ++ item_name (Some item.now)) }
+    ensures written { OnOk result (out.new.items ≡ out.old.items ++ item_name (Some item.now)) }
+    ensures stays { OnErr result (out.new.items ≡ out.old.items) }
 {
     match item {
         Item::Funcdecl(item) => out.extend_from_slice(item.name.text.as_slice()),
@@ -297,10 +320,11 @@ impl Checked {
     }
 
     /// Writes the full name of a block that is there behind what `out` holds: that of its function, of the function's version and its
-    /// own, as `@f.v.b`. Where no memory is found a part of it may have been written.
+    /// own, as `@f.v.b`. Where no memory is found nothing is written.
     pub fn block_name(&self, n: u32, out: &mut Vec<u8>) -> Result<(), AllocError>
         requires { n < length (bundle_blocks self.now) }
-        ensures { OnOk result (out.new.items ≡ out.old.items ++ block_name self.now n) }
+        ensures written { OnOk result (out.new.items ≡ out.old.items ++ block_name self.now n) }
+        ensures stays { OnErr result (out.new.items ≡ out.old.items) }
     {
         let block = self.block(n);
         match self.bundle.as_slice().get(block.item as usize) {
@@ -309,11 +333,12 @@ impl Checked {
         }
     }
 
-    /// Writes the name of a function that is there behind what `out` holds, its `@` included. Where no memory is found a part of it may
-    /// have been written.
+    /// Writes the name of a function that is there behind what `out` holds, its `@` included. Where no memory is found nothing is
+    /// written.
     pub fn function_name(&self, n: u32, out: &mut Vec<u8>) -> Result<(), AllocError>
         requires { n < length (bundle_functions self.now) }
-        ensures { OnOk result (out.new.items ≡ out.old.items ++ function_name self.now n) }
+        ensures written { OnOk result (out.new.items ≡ out.old.items ++ function_name self.now n) }
+        ensures stays { OnErr result (out.new.items ≡ out.old.items) }
     {
         let function = self.function(n);
         match self.bundle.as_slice().get(function.item as usize) {
