@@ -6,3 +6,6 @@ mod threads;
 
 pub use state::ThreadState;
 pub use threads::{AddFault, Threads};
+
+#[cfg(test)]
+mod tests;

@@ -75,6 +75,7 @@ impl Threads {
     pub fn add(&mut self, stack: ActiveStack) -> Result<u32, AddFault>
         requires { length self.old.states < 64 → stack.thread ≡ length self.old.states }
         ensures number { IfOk result (λ n. n ≡ length self.old.states) }
+        ensures below { IfOk result (λ n. n < 64) }
         ensures states { OnOk result (self.new.states ≡ self.old.states ++ ThreadState.Runs ∷ []) }
         ensures stacks { OnOk result (self.new.stacks ≡ self.old.stacks ++ Some stack ∷ []) }
 
