@@ -1,0 +1,4 @@
+pub mod Threads
+pub mod ThreadExamples
+pub mod Lending
+pub mod Kept
