@@ -1,0 +1,17 @@
+-- Runs of bundles: a watchpoint that is enabled or not.
+use Rattle.std.specs.Prelude.{codes, ◌≡◌, refl, ◌++◌, [], ◌∷◌, true, false}
+use Rattle.mu_values.specs.declared.scalars.Scalar.TheVariants.{Int}
+use Rattle.mu_model.specs.Clients.{Watch, Pass, Resume, Told}
+use Rattle.model_rows.specs.Texts.{Text}
+use Rattle.model_rows.specs.Running.{definitions, plain, run_text}
+
+abbrev bundle : Text
+bundle = definitions ++ codes ".funcdef @main VERSION %v <@mi> { %e(): TRAP <> %w = WATCHPOINT 7 <@i64> %d() %n(%w) %d(): RET (@c0) %n(<@i64> %r): RET (%r) }"
+
+enabled_one_asks : run_text (record plain { client = record { entries = record { actions = Watch 7 true ∷ []; reply = Resume (Pass []) } ∷ record { actions = []; reply = Resume (Pass (Told (3, Int 64 40 ∷ []) ∷ [])) } ∷ []; auto = false } }) bundle ≡ codes "0 t0 leave s0\ntrap t0 @main.v.e 0\n1 t0 enter s0\n2 t0 leave s0\nwatchpoint t0 @main.v.e 1 7\n3 t0 enter s0\nreturned t0 40\ndone\n"
+unfolding run_text
+enabled_one_asks = refl
+
+disabled_one_goes_on : run_text (record plain { client = record { entries = record { actions = []; reply = Resume (Pass []) } ∷ []; auto = false } }) bundle ≡ codes "0 t0 leave s0\ntrap t0 @main.v.e 0\n1 t0 enter s0\nreturned t0 0\ndone\n"
+unfolding run_text
+disabled_one_goes_on = refl

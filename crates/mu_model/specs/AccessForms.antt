@@ -1,0 +1,63 @@
+-- To believe: instructions that read and write memory.
+use Rattle.std.specs.Prelude.{Bool, List, Option, Some, None}
+use Rattle.mu_base.specs.declared.order.Order.{Order}
+use Rattle.ir_tree.specs.declared.operators.UpdateOp.{UpdateOp as UpdateWord}
+use Rattle.ir_tree.specs.declared.operators.UpdateOp.TheVariants as words
+use Rattle.ir_tree.specs.declared.accessing.Access.{Access as Instruction}
+use Rattle.ir_tree.specs.declared.accessing.Access.TheVariants as accesses
+use Rattle.mu_values.specs.declared.scalars.Scalar.{Scalar}
+use Rattle.mu_values.specs.declared.scalars.Scalar.TheVariants.{Null, Place}
+use Rattle.mu_values.specs.declared.operators.UpdateOp.{UpdateOp}
+use Rattle.mu_values.specs.declared.operators.UpdateOp.TheVariants as updates
+use Rattle.heap_cells.specs.declared.cells.CellId.{CellId}
+use Rattle.code_check.specs.Accesses.{memory_order}
+use Rattle.typed_heap.specs.Places.{with_some}
+use Rattle.frames.specs.Activations.{Value}
+use Rattle.mu_model.specs.declared.endings.Case.TheVariants as cases
+use Rattle.mu_model.specs.Acts.{Access, Loads, Stores, Compares, Updates, Act, Faults, Accesses, Fences}
+use Rattle.mu_model.specs.Operands.{Scope, value_named, scalar_in}
+
+-- an act on the cell at a place; NULL is none
+abbrev pub cell_act : (CellId → Act) → Scalar → Option Act
+cell_act act (Place object at) = Some (act (record { object = object; at = at }))
+cell_act act Null = Some (Faults cases.NullAccess)
+cell_act act _ = None
+
+abbrev pub access_act : Option Value → Option Access → Option Act
+access_act l access = with_some (scalar_in l) (λ s. with_some access (λ a. cell_act (Accesses a) s))
+
+abbrev pub load_act : Order → Option Value → Option Act
+load_act o l = access_act l (Some (Loads o))
+
+abbrev pub store_act : Order → Option Value → Option Value → Option Act
+store_act o l a = access_act l (with_some (scalar_in a) (λ v. Some (Stores o v)))
+
+abbrev pub cmpxchg_act : Bool → Order → Order → Option Value → Option Value → Option Value → Option Act
+cmpxchg_act w o f l a b = access_act l (with_some (scalar_in a) (λ v. with_some (scalar_in b) (λ u. Some (Compares w o f v u))))
+
+abbrev pub atomicrmw_act : Order → UpdateOp → Option Value → Option Value → Option Act
+atomicrmw_act o op l a = access_act l (with_some (scalar_in a) (λ v. Some (Updates o op v)))
+
+-- the operation that a word of ATOMICRMW stands for
+abbrev pub update_op : UpdateWord → UpdateOp
+update_op words.Xchg = updates.Xchg
+update_op words.Add = updates.Add
+update_op words.Sub = updates.Sub
+update_op words.And = updates.And
+update_op words.Nand = updates.Nand
+update_op words.Or = updates.Or
+update_op words.Xor = updates.Xor
+update_op words.Max = updates.Max
+update_op words.Min = updates.Min
+update_op words.Umax = updates.Umax
+update_op words.Umin = updates.Umin
+
+-- ---- by name
+
+abbrev pub memory_act : Scope → List Value → Instruction → Option Act
+memory_act s vars (accesses.Load o t l e) = load_act (memory_order o.order) (value_named s vars l)
+memory_act s vars (accesses.Store o t l a e) = store_act (memory_order o.order) (value_named s vars l) (value_named s vars a)
+memory_act s vars (accesses.Cmpxchg w o f t l a b e) =
+    cmpxchg_act w (memory_order o.order) (memory_order f.order) (value_named s vars l) (value_named s vars a) (value_named s vars b)
+memory_act s vars (accesses.Atomicrmw o op t l a e) = atomicrmw_act (memory_order o.order) (update_op op) (value_named s vars l) (value_named s vars a)
+memory_act s vars (accesses.Fence o) = Some (Fences (memory_order o.order))

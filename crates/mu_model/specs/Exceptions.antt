@@ -1,0 +1,65 @@
+-- To believe: calls, returns, and exceptions that look for a frame.
+use Rattle.std.specs.Prelude.{ℕ, List, [], ◌∷◌, Option, Some, None, Result, Ok, Err, ok_or, option_map}
+use Rattle.mu_values.specs.declared.scalars.Scalar.{Scalar}
+use Rattle.mu_values.specs.Slots.{TypedValues}
+use Rattle.typed_heap.specs.Places.{with_some}
+use Rattle.frames.specs.Activations.{Value, Goal, Activation}
+use Rattle.mu_model.specs.declared.lines.Note.{Note}
+use Rattle.mu_model.specs.declared.lines.Note.TheVariants.{Returned}
+use Rattle.mu_model.specs.declared.endings.Case.{Case}
+use Rattle.mu_model.specs.declared.endings.Case.TheVariants.{NoBody, Uncaught}
+use Rattle.mu_model.specs.Types.{results_of}
+use Rattle.mu_model.specs.Configuration.{Configuration}
+use Rattle.mu_model.specs.Acts.{Program}
+use Rattle.mu_model.specs.Frames.{called, passed, caught}
+use Rattle.mu_model.specs.Changes.{noted, frames_end, stack_dies, thread_ends}
+use Rattle.mu_model.specs.Turns.{Turn, waiting}
+use Rattle.mu_model.specs.Outcomes.{Outcome, Next, next, onto, tried}
+
+-- ---- calls
+
+-- the first block of a function, where it has one
+abbrev pub body_of : Option (Option ℕ) → Option (Result ℕ Case)
+body_of b = option_map (λ o. ok_or o NoBody) b
+
+-- a frame above this one, which waits for what the function gives
+abbrev pub calls : Program → Configuration → Turn → ℕ → List Value → Outcome
+calls p c u f vs = tried p c u (body_of (p.body f)) (λ b. next c u (with_some (waiting u (results_of p.tables f)) (λ w. Some (called p f vs b ∷ w ∷ u.below))))
+
+-- a frame in place of this one, which ends
+abbrev pub replaces : Program → Configuration → Turn → ℕ → List Value → Outcome
+replaces p c u f vs = tried p c u (body_of (p.body f)) (λ b. next (frames_end (u.top ∷ []) c) u (onto u (called p f vs b)))
+
+-- ---- returns
+
+-- the thread ends, its stack is dead, and a record says so
+abbrev pub finishes : Configuration → Turn → Note → Outcome
+finishes c u n = Next (noted n (thread_ends u.thread (stack_dies u.stack (u.top ∷ u.below) c)))
+
+-- to the frame below, or from the bottom frame
+abbrev pub returns : Program → Configuration → Turn → TypedValues → List Activation → Outcome
+returns p c u vs [] = finishes c u (Returned u.thread vs)
+returns p c u vs (f ∷ fs) = next (frames_end (u.top ∷ []) c) u (with_some (passed p f vs.values) (λ g. Some (g ∷ fs)))
+
+-- ---- exceptions
+
+-- the frames that are left, and those that ended
+pub record Entered : Type 0 where
+  pub frames : List Activation
+  pub ended : List Activation
+
+-- An exception goes to the first frame from the top that has a handler, and the frames above it end.
+abbrev pub also_ended : Activation → Result Entered Case → Result Entered Case
+also_ended f (Err k) = Err k
+also_ended f (Ok r) = Ok (record r { ended = f ∷ r.ended })
+
+abbrev pub caught_by : Program → Scalar → Activation → List Activation → Option Goal → Option (Result Entered Case) → Option (Result Entered Case)
+caught_by p e f fs (Some g) below = with_some (caught p f g e) (λ h. Some (Ok (record { frames = h ∷ fs; ended = [] })))
+caught_by p e f fs None below = option_map (also_ended f) below
+
+abbrev pub unwinding : Program → Scalar → List Activation → Option (Result Entered Case)
+unwinding p e [] = Some (Err Uncaught)
+unwinding p e (f ∷ fs) = caught_by p e f fs f.handler (unwinding p e fs)
+
+abbrev pub throws : Program → Configuration → Turn → Scalar → Outcome
+throws p c u e = tried p c u (unwinding p e (u.top ∷ u.below)) (λ r. next (frames_end r.ended c) u (Some r.frames))

@@ -1,0 +1,115 @@
+-- To believe: what the names and operands of an instruction stand for, in its block, with the values of the block's variables.
+use Rattle.std.specs.Prelude.{ℕ, suc, ◌+◌, List, [], ◌∷◌, ◌++◌, Option, Some, None, map, length, slice_get, nat_eq, zip, if◌then◌else◌}
+use Rattle.demands.specs.Names.{Names, found}
+use Rattle.ir_lex.specs.declared.name.Name.{Name}
+use Rattle.ir_tree.specs.declared.operands.Operand.{Operand}
+use Rattle.ir_tree.specs.declared.operands.Operand.TheVariants as operands
+use Rattle.ir_tree.specs.declared.operands.Destination.{Destination}
+use Rattle.ir_tree.specs.declared.code.Inst.{Inst}
+use Rattle.ir_tree.specs.declared.code.Parameter.{Parameter}
+use Rattle.ir_tree.specs.declared.code.Block.{Block}
+use Rattle.ir_tree.specs.declared.items.Funcdef.{Funcdef}
+use Rattle.ir_tree.specs.declared.items.Item.{Item}
+use Rattle.mu_values.specs.declared.scalars.Scalar.{Scalar}
+use Rattle.mu_values.specs.declared.scalars.Scalar.TheVariants.{Int, Place, Func}
+use Rattle.bundle_names.specs.declared.globals.Sort.{Sort}
+use Rattle.bundle_names.specs.declared.globals.Sort.TheVariants as sorts
+use Rattle.bundle_names.specs.Globals.{globals_of}
+use Rattle.check_tables.specs.declared.tables.Tables.{Tables}
+use Rattle.check_tables.specs.Lookups.{noted_class}
+use Rattle.bundle_constants.specs.Bundle.{constant_values}
+use Rattle.bundle_check.specs.Checking.{bundle_tables}
+use Rattle.code_check.specs.Operands.{noted_list}
+use Rattle.typed_heap.specs.Places.{with_some}
+use Rattle.frames.specs.Activations.{Value, Goal}
+
+-- ---- names
+
+-- a block with its bundle and its function; blocks are counted over the whole bundle in text order, and `first` is that of the function
+pub record Scope : Type 0 where
+  pub bundle : List Item
+  pub function : Funcdef
+  pub first : ℕ
+  pub block : Block
+
+abbrev pub tables_in : Scope → Tables
+tables_in s = bundle_tables s.bundle
+
+-- the class of a type, and of each type of a list
+abbrev pub class : Scope → Name → ℕ
+class s t = noted_class (tables_in s) t
+
+abbrev pub classes : Scope → List Name → List ℕ
+classes s ts = noted_list (tables_in s) ts
+
+-- the names of a block's variables: its parameters, its handler and the results of its instructions
+abbrev pub handler_texts : Option Name → List (List ℕ)
+handler_texts None = []
+handler_texts (Some n) = n.text ∷ []
+
+abbrev pub result_texts : List Inst → List (List ℕ)
+result_texts [] = []
+result_texts (i ∷ is) = map (λ (n : Name). n.text) i.results ++ result_texts is
+
+abbrev pub variables : Block → List (List ℕ)
+variables b = (map (λ (q : Parameter). q.name.text) b.head.parameters ++ handler_texts b.head.handler) ++ result_texts b.insts
+
+-- the number of the block with a name among blocks of which the first has this number
+abbrev pub block_from : ℕ → List Block → Names ℕ
+block_from k [] = []
+block_from k (b ∷ bs) = (b.head.name.text, k) ∷ block_from (suc k) bs
+
+abbrev pub block_named : Scope → Name → Option ℕ
+block_named s n = found (block_from s.first s.function.blocks) n.text
+
+-- ---- operands: a local name is a variable of the block, a global one a constant, a global's place or a function
+
+abbrev pub global_value : List Item → Option Sort → Option Value
+global_value bundle (Some (sorts.Constant n)) = slice_get (constant_values (bundle_tables bundle) bundle) n
+global_value bundle (Some (sorts.GlobalCell n)) = Some (Place n 0 ∷ [])
+global_value bundle (Some (sorts.Function n)) = Some (Func n ∷ [])
+global_value bundle (Some (sorts.Written n)) = None
+global_value bundle (Some (sorts.Signature n)) = None
+global_value bundle None = None
+
+abbrev pub constant_value : Scope → Name → Option Value
+constant_value s n = global_value s.bundle (found (globals_of s.bundle).names n.text)
+
+-- a variable has a value once it stands among those of the frame
+abbrev pub local_value : Scope → List Value → Name → Option Value
+local_value s vars n = found (zip (variables s.block) vars) n.text
+
+abbrev pub value_named : Scope → List Value → Operand → Option Value
+value_named s vars (operands.Local n) = local_value s vars n
+value_named s vars (operands.Global n) = constant_value s n
+
+-- all of them, where each is there
+abbrev pub all_some : {A : Type 0} → List (Option A) → Option (List A)
+all_some [] = Some []
+all_some (x ∷ xs) = with_some x (λ a. with_some (all_some xs) (λ more. Some (a ∷ more)))
+
+abbrev pub values_named : Scope → List Value → List Operand → Option (List Value)
+values_named s vars os = all_some (map (value_named s vars) os)
+
+-- ---- destinations
+
+abbrev pub goal_of : Option ℕ → Option (List Value) → Option Goal
+goal_of block values = with_some block (λ k. with_some values (λ vs. Some (record { block = k; values = vs })))
+
+abbrev pub goal_named : Scope → List Value → Destination → Option Goal
+goal_named s vars d = goal_of (block_named s d.block) (values_named s vars d.arguments.values)
+
+-- ---- what a value is
+
+-- the one scalar of a value
+abbrev pub scalar_in : Option Value → Option Scalar
+scalar_in (Some (s ∷ [])) = Some s
+scalar_in _ = None
+
+-- the bits of an integer of that width
+abbrev pub bits_of_width : Option ℕ → Option Scalar → Option ℕ
+bits_of_width (Some w) (Some (Int v n)) = if nat_eq w v then Some n else None
+bits_of_width _ _ = None
+
+abbrev pub bits_in : Option ℕ → Option Value → Option ℕ
+bits_in w v = bits_of_width w (scalar_in v)

@@ -1,0 +1,102 @@
+-- To believe: a bundle as the machine sees it, by its names.
+use Rattle.std.specs.Prelude.{ℕ, ◌+◌, List, [], ◌∷◌, ◌++◌, Option, Some, None, map, length, slice_get, zip, is_some, if◌then◌else◌}
+use Rattle.demands.specs.Names.{found}
+use Rattle.ir_lex.specs.declared.name.Name.{Name}
+use Rattle.ir_tree.specs.declared.operands.Destination.{Destination}
+use Rattle.ir_tree.specs.declared.code.Op.{Op}
+use Rattle.ir_tree.specs.declared.code.Op.TheVariants as ops
+use Rattle.ir_tree.specs.declared.code.Inst.{Inst}
+use Rattle.ir_tree.specs.declared.code.Block.{Block}
+use Rattle.ir_tree.specs.declared.items.Funcdef.{Funcdef}
+use Rattle.ir_tree.specs.declared.items.Item.{Item}
+use Rattle.ir_tree.specs.declared.items.Item.TheVariants as items
+use Rattle.mu_values.specs.Slots.{TypedValues}
+use Rattle.bundle_names.specs.declared.globals.Globals.{Globals}
+use Rattle.bundle_names.specs.Globals.{globals_of}
+use Rattle.bundle_tables.specs.Entries.{is_function}
+use Rattle.bundle_check.specs.Checking.{bundle_tables}
+use Rattle.code_check.specs.Instructions.{normal_of, exceptional_of, keepalive_of}
+use Rattle.code_check.specs.Typed.{joined}
+use Rattle.code_check.specs.TypedLaws.{all_gives}
+use Rattle.bundle_laws.specs.Accepted.{head_classes}
+use Rattle.typed_heap.specs.Places.{with_some}
+use Rattle.frames.specs.Activations.{Value, Goal}
+use Rattle.mu_model.specs.Acts.{Act, Doing, Program}
+use Rattle.mu_model.specs.Operands.{Scope, tables_in, variables, local_value, all_some, goal_named}
+use Rattle.mu_model.specs.ComputationForms.{computation_act}
+use Rattle.mu_model.specs.ControlForms.{control_act}
+use Rattle.mu_model.specs.ObjectForms.{allocation_act, addressing_act}
+use Rattle.mu_model.specs.AccessForms.{memory_act}
+use Rattle.mu_model.specs.TrappingForms.{trapping_act}
+use Rattle.mu_model.specs.StackForms.{switch_stack_act, common_act}
+
+-- ---- an instruction
+
+abbrev pub act_named : Scope → List Value → Op → Option Act
+act_named s vars (ops.Computation c) = computation_act s vars c
+act_named s vars (ops.ControlFlow c) = control_act s vars c
+act_named s vars (ops.Allocation a) = allocation_act s vars a
+act_named s vars (ops.Addressing a) = addressing_act s vars a
+act_named s vars (ops.Access a) = memory_act s vars a
+act_named s vars (ops.Trapping t) = trapping_act s vars t
+act_named s vars (ops.StackSwitch g) = switch_stack_act s vars g
+act_named s vars (ops.Common c) = common_act s vars c
+
+-- a destination that may be left out
+abbrev pub some_goal : Option Goal → Option (Option Goal)
+some_goal g = with_some g (λ goal. Some (Some goal))
+
+abbrev pub optional_goal : Scope → List Value → Option Destination → Option (Option Goal)
+optional_goal s vars None = Some None
+optional_goal s vars (Some d) = some_goal (goal_named s vars d)
+
+-- the variables that are kept: the class of each, and its value
+abbrev pub variable_classes : Scope → List ℕ
+variable_classes s = head_classes (tables_in s) s.block.head ++ joined (all_gives (tables_in s) s.block.insts)
+
+abbrev pub local_class : Scope → Name → Option ℕ
+local_class s n = found (zip (variables s.block) (variable_classes s)) n.text
+
+abbrev pub typed_values : Option (List ℕ) → Option (List Value) → Option TypedValues
+typed_values cs vs = with_some cs (λ types. with_some vs (λ values. Some (record { types = types; values = values })))
+
+abbrev pub kept_named : Scope → List Value → Option (List Name) → Option TypedValues
+kept_named s vars None = Some (record { types = []; values = [] })
+kept_named s vars (Some ns) = typed_values (all_some (map (local_class s) ns)) (all_some (map (local_value s vars) ns))
+
+abbrev pub does_named : Scope → List Value → Inst → Doing
+does_named s vars i =
+    record { act = act_named s vars i.op; exceptional = optional_goal s vars (exceptional_of i.op); kept = kept_named s vars (keepalive_of i.op) }
+
+-- ---- the blocks of a bundle, in text order
+
+abbrev pub scopes_in : List Item → Funcdef → ℕ → List Scope
+scopes_in bundle d first = map (λ (b : Block). record { bundle = bundle; function = d; first = first; block = b }) d.blocks
+
+abbrev pub scopes_from : List Item → ℕ → List Item → List Scope
+scopes_from bundle first [] = []
+scopes_from bundle first (items.Funcdef d ∷ is) = scopes_in bundle d first ++ scopes_from bundle (first + length d.blocks) is
+scopes_from bundle first (i ∷ is) = scopes_from bundle first is
+
+abbrev pub scopes_of : List Item → List Scope
+scopes_of bundle = scopes_from bundle 0 bundle
+
+-- The first block of function n among items of which the first stands behind so many blocks. A function may have a declaration and a
+-- definition, in either order.
+abbrev pub definition_from : Globals → ℕ → ℕ → List Item → Option ℕ
+definition_from g n first [] = None
+definition_from g n first (items.Funcdef d ∷ is) =
+    if is_function (found g.names d.name.text) n then Some first else definition_from g n (first + length d.blocks) is
+definition_from g n first (i ∷ is) = definition_from g n first is
+
+-- ---- what the machine asks
+
+abbrev pub named : List Item → Program
+named bundle =
+    record {
+      doing = λ block at vars. with_some (slice_get (scopes_of bundle) block) (λ s. with_some (slice_get s.block.insts at) (λ i. Some (does_named s vars i)));
+      going_on = λ block at vars. with_some (slice_get (scopes_of bundle) block) (λ s. with_some (slice_get s.block.insts at) (λ i. optional_goal s vars (normal_of i.op)));
+      has_handler = λ block. with_some (slice_get (scopes_of bundle) block) (λ s. Some (is_some s.block.head.handler));
+      body = λ n. with_some (slice_get (bundle_tables bundle).functions n) (λ g. Some (definition_from (globals_of bundle) n 0 bundle));
+      tables = bundle_tables bundle;
+    }

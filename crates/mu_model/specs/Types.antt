@@ -1,0 +1,41 @@
+-- To believe: what the machine asks of the types and functions of a bundle.
+use Rattle.std.specs.Prelude.{ℕ, List, Option, map, slice_get}
+use Rattle.type_laws.specs.declared.definition.TypeDef.{TypeDef}
+use Rattle.mu_values.specs.declared.scalars.Scalar.{Scalar}
+use Rattle.mu_values.specs.Constants.{width_of}
+use Rattle.check_tables.specs.declared.tables.Tables.{Tables}
+use Rattle.check_tables.specs.declared.tables.Signature.{Signature}
+use Rattle.check_tables.specs.Lookups.{signature_in, noted_signature, noted_classes, takes_of, gives_of}
+use Rattle.typed_heap.specs.Objects.{leaf_classes, zeros}
+
+-- ---- types by class
+
+-- the graph of all types
+abbrev pub graph_of : Tables → List TypeDef
+graph_of p = p.types.definitions
+
+abbrev pub class_definition : Tables → ℕ → Option TypeDef
+class_definition p c = slice_get (graph_of p) c
+
+-- the width of an int
+abbrev pub class_width : Tables → ℕ → Option ℕ
+class_width p c = width_of (class_definition p c)
+
+-- zero and NULL for each leaf
+abbrev pub zero_value : Tables → ℕ → List Scalar
+zero_value p c = zeros (graph_of p) (leaf_classes (graph_of p) c)
+
+-- ---- functions by number
+
+abbrev pub signature_of : Tables → ℕ → Option Signature
+signature_of p f = signature_in p (slice_get p.functions f)
+
+abbrev pub parameters_of : Tables → ℕ → List ℕ
+parameters_of p f = noted_classes (takes_of (signature_of p f))
+
+abbrev pub results_of : Tables → ℕ → List ℕ
+results_of p f = noted_classes (gives_of (signature_of p f))
+
+-- the class of the signature of each function
+abbrev pub signature_classes : Tables → List ℕ
+signature_classes p = map (λ s. noted_signature (slice_get p.signatures s)) p.functions
