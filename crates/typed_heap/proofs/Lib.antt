@@ -6,3 +6,4 @@ pub mod LeafClasses
 pub mod Found
 pub mod Fitted
 pub mod Landing
+pub mod Repeating

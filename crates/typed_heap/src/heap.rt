@@ -17,7 +17,7 @@ use std::marker::Model;
 /// The objects of a run, numbered from 0 in the order in which they are made, and how many cells may still be made. Contracts see
 /// both, and `spare`, the number of initial scalars that `set` takes.
 ///
-/// A cell takes 20 bytes, and an object 16 besides; each initial scalar that was given takes 32 more. It keeps its allocator, so only
+/// A cell takes 20 bytes, and an object 32 besides; each initial scalar that was given takes 32 more. It keeps its allocator, so only
 /// `new` asks for one. A call that finds no memory leaves all as it was.
 #[derive(Drop)]
 pub struct Heap {
@@ -153,7 +153,7 @@ impl Heap {
         ensures spare { self.new.spare ≡ self.old.spare }
     {
         let newest = self.objects.len() - 1;
-        let cells = self.objects.leaves(newest).len() as u32;
+        let cells = self.objects.size(newest);
         self.objects.pop();
         self.left += cells;
     }
@@ -199,7 +199,7 @@ impl Heap {
         requires { object < length self.now.objects }
         ensures { IsSomeAnd (slice_get self.now.objects object) (λ o. length o.leaves ≡ result) }
     {
-        self.objects.leaves(object).len() as u32
+        self.objects.size(object)
     }
 }
 
