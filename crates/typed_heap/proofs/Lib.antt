@@ -7,3 +7,4 @@ pub mod Found
 pub mod Fitted
 pub mod Landing
 pub mod Repeating
+pub mod Narrow

@@ -68,13 +68,6 @@ all_told run found fixed step known some repeats enough first k l =
 
 -- ---- what repeats
 
-pub later_repeat : (fixed run n : ℕ) (cs : List ℕ) → Repeats fixed run cs → Repeats (fixed - n) run (drop n cs)
-later_repeat fixed run n cs h =
-    record {
-      again = λ k l m. get_or-drop n cs k 0 ∙ h.again (n + k) (omega arith) (omega (arith, length-drop n cs, m)) ∙ ap (λ (j : ℕ). slice_index cs j) (omega arith) ∙ sym (get_or-drop n cs (k + run) 0);
-      some = λ l. h.some (omega (arith, l, length-drop n cs));
-    }
-
 some_times : (many : ℕ) (run : List ℕ) → 0 < length (times many run) → 0 < length run
 some_times zero run h = absurd (omega (arith, h))
 some_times (suc many) [] h = some_times many [] h

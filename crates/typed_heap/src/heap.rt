@@ -73,6 +73,7 @@ impl Heap {
         ensures number { IfOk result (λ n. n ≡ length self.old.objects) }
         ensures objects { OnOk result (self.new.objects ≡ self.old.objects ++ object_of classes.now.definitions (leaf_classes classes.now.definitions t) ∷ []) }
         ensures left { OnOk result (self.new.left + length (leaf_classes classes.now.definitions t) ≡ self.old.left) }
+        ensures few_left { self.old.left < 2 ^ 32 }
         ensures spare { self.new.spare ≡ self.old.spare }
 
         // Full is answered where more cells are asked than are left, and only there.
@@ -93,6 +94,7 @@ impl Heap {
         ensures number { IfOk result (λ n. n ≡ length self.old.objects) }
         ensures objects { OnOk result (self.new.objects ≡ self.old.objects ++ object_of classes.now.definitions (hybrid_classes classes.now.definitions t many) ∷ []) }
         ensures left { OnOk result (self.new.left + length (hybrid_classes classes.now.definitions t many) ≡ self.old.left) }
+        ensures few_left { self.old.left < 2 ^ 32 }
         ensures spare { self.new.spare ≡ self.old.spare }
 
         // Full is answered where more cells are asked than are left, and only there.
@@ -117,6 +119,7 @@ impl Heap {
         ensures number { IfOk result (λ n. n ≡ length self.old.objects) }
         ensures objects { OnOk result (self.new.objects ≡ self.old.objects ++ object_of classes.now.definitions (fixed.now ++ times many run.now) ∷ []) }
         ensures left { OnOk result (self.new.left + length (fixed.now ++ times many run.now) ≡ self.old.left) }
+        ensures few_left { self.old.left < 2 ^ 32 }
         ensures spare { self.new.spare ≡ self.old.spare }
         ensures full { self.old.left < length (fixed.now ++ times many run.now) → result ≡ Err (HeapFault.HeapFull (told_cells (length (fixed.now ++ times many run.now))) self.old.left) }
         ensures enough { length (fixed.now ++ times many run.now) ≤ self.old.left → IfErr result (λ fault. fault ≡ HeapFault.Memory) }

@@ -128,7 +128,8 @@ impl Heap {
     }
 
     /// The same reference to an object or the same place, where it fits the target, which is a type of references to objects or of
-    /// places; NULL always does. `BadCast`: it does not fit. It takes time for the leaves of what the target refers to.
+    /// places; NULL always does. `BadCast`: it does not fit. It takes time for the leaves of what the target refers to; for a hybrid it
+    /// takes more, for as many leaves as the object's own type has.
     pub fn cast(&self, classes: &Classes, value: Scalar, target: u32) -> Result<Scalar, PlaceFault>
         requires graph { IsGraph classes.now.definitions }
         requires target { target < length classes.now.definitions }
