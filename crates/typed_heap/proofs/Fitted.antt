@@ -1,8 +1,8 @@
 -- What fits: new objects, changed ones, and in a world that grows.
-use Rattle.std.proofs.Common.{◌≡◌, ◌≢◌, ℕ, zero, suc, ◌<◌, ◌≤◌, ◌^◌, Bool, true, false, List, [], ◌∷◌, ◌++◌, length, map, Option, Some, None, IsSomeAnd, slice_get, refl, sym, ap, subst, ◌∙◌, arith}
+use Rattle.std.proofs.Common.{◌≡◌, ◌≢◌, ℕ, zero, suc, ◌-◌, ◌<◌, ◌≤◌, ◌^◌, Bool, true, false, List, [], ◌∷◌, ◌++◌, length, take, map, Option, Some, None, IsSomeAnd, slice_get, refl, sym, ap, subst, ◌∙◌, arith}
 use Rattle.std.specs.Prelude.{slice_set}
 use Rattle.std.specs.List.{All}
-use Rattle.std.proofs.lemmas.List.{append-nil}
+use Rattle.std.proofs.lemmas.List.{length-append, take_at}
 use Rattle.std.proofs.lemmas.List.Elements.{All-nil, All-head, All-tail, All-append}
 use Rattle.std.proofs.lemmas.Option.{slice_get_within}
 use Rattle.std.proofs.lemmas.Nat.{pow_pos}
@@ -16,7 +16,7 @@ use Rattle.mu_values.specs.declared.scalars.Scalar.TheVariants.{Int, Null, Objec
 use Rattle.check_tables.specs.TypeTests.{is_scalar, repeated_of}
 use Rattle.typed_heap.specs.Objects.{HeapObject, leaf_classes, run_of, run_classes, object_of, zero_of, zeros, killed, given}
 use Rattle.typed_heap.specs.Fits.{World, fits, place_fits, DefinitionFits, ScalarFits, ScalarsFit, ValueFits}
-use Rattle.typed_heap.specs.Heap.{hybrid_classes}
+use Rattle.typed_heap.specs.Heap.{hybrid_classes, newest_cells}
 use Rattle.typed_heap.specs.Offsets.{leaves_fit}
 use Rattle.typed_heap.specs.Laws.{ObjectFits, KeepsLeaves, Grows}
 use Rattle.typed_heap.proofs.LeafClasses.{classes_are_scalars, times_all}
@@ -126,3 +126,18 @@ set_keeps (x ∷ xs) zero o q e f zero p g = let same : o ≡ p = cc in f ∙ ap
 set_keeps (x ∷ xs) zero o q e f (suc k) p g = some_and (λ (r : HeapObject). r.leaves ≡ p.leaves) (slice_get xs k) p g refl
 set_keeps (x ∷ xs) (suc n) o q e f zero p g = let same : x ≡ p = cc in ap (λ (r : HeapObject). r.leaves) same
 set_keeps (x ∷ xs) (suc n) o q e f (suc k) p g = set_keeps xs n o q e f k p g
+
+-- ---- the newest object
+
+newest_at : (os : List HeapObject) (o : HeapObject) → slice_get (os ++ o ∷ []) (length os) ≡ Some o
+newest_at [] o = refl
+newest_at (x ∷ xs) o = newest_at xs o
+
+last_number : (os : List HeapObject) (o : HeapObject) → length (os ++ o ∷ []) - 1 ≡ length os
+last_number os o = omega (arith, length-append os (o ∷ []))
+
+pub taken_back : (os : List HeapObject) (o : HeapObject) → take (length (os ++ o ∷ []) - 1) (os ++ o ∷ []) ≡ os
+taken_back os o = rw (last_number os o) (take_at os (o ∷ []) (length os) refl)
+
+pub newest_counted : (os : List HeapObject) (o : HeapObject) → newest_cells (os ++ o ∷ []) ≡ length o.leaves
+newest_counted os o = rw (last_number os o, newest_at os o) refl

@@ -6,3 +6,5 @@ pub mod LeafClasses
 pub mod Found
 pub mod Fitted
 pub mod Landing
+pub mod Repeating
+pub mod Narrow

@@ -57,12 +57,12 @@ bounds from (x ∷ es) many (suc (suc n)) h l = bounds x.end es many (suc n) h.2
 
 -- ---- rows that grow
 
-range_kept : {A : Type 0} (s v : List A) (from to : ℕ) → from ≤ to → to ≤ length s → slice_range (s ++ v) from to ≡ slice_range s from to
+pub range_kept : {A : Type 0} (s v : List A) (from to : ℕ) → from ≤ to → to ≤ length s → slice_range (s ++ v) from to ≡ slice_range s from to
 range_kept s v from to l m =
     let far : to - from ≤ length (drop from s) = omega (arith, length-drop from s, m) in
     ap (take (to - from)) (drop-append-le from s v (omega (arith, l, m))) ∙ take-append-le (to - from) (drop from s) v far
 
-range_last : {A : Type 0} (s v : List A) (from : ℕ) → from ≡ length s → slice_range (s ++ v) from (length s + length v) ≡ v
+pub range_last : {A : Type 0} (s v : List A) (from : ℕ) → from ≡ length s → slice_range (s ++ v) from (length s + length v) ≡ v
 range_last s v from h =
     let many : length s + length v - from ≡ length v = omega (arith, h) in
     rw (many, h) (ap (take (length v)) (drop_at s v (length s) refl) ∙ take_all (length v) v (omega arith))
@@ -78,25 +78,25 @@ kept from (e ∷ es) cs ds ss ts l h =
     let rest = kept e.end es cs ds ss ts l h.2 in
     cc
 
-pub pushed : (from : ℕ) (es : List Extent) (cs ds : List ℕ) (ss ts : List Scalar) (dead : Bool) → length ss ≡ length cs → length ts ≡ length ds → IsCut from es (length cs) →
-    objects_in from (es ++ record { end = length cs + length ds; dead = dead } ∷ []) (cs ++ ds) (ss ++ ts)
+pub pushed : (from : ℕ) (es : List Extent) (cs ds : List ℕ) (ss ts : List Scalar) (fixed run : ℕ) (dead : Bool) → length ss ≡ length cs → length ts ≡ length ds → IsCut from es (length cs) →
+    objects_in from (es ++ record { end = length cs + length ds; fixed = fixed; run = run; dead = dead } ∷ []) (cs ++ ds) (ss ++ ts)
     ≡ objects_in from es cs ss ++ record { leaves = ds; initial = ts; dead = dead } ∷ []
-pushed from [] cs ds ss ts dead l m h =
+pushed from [] cs ds ss ts fixed run dead l m h =
     let leaves = range_last cs ds from h in
     let initial : slice_range (ss ++ ts) from (length ss + length ts) ≡ ts = range_last ss ts from (omega (arith, h, l)) in
     let far : length cs + length ds ≡ length ss + length ts = omega (arith, l, m) in
     cc
-pushed from (e ∷ es) cs ds ss ts dead l m h =
+pushed from (e ∷ es) cs ds ss ts fixed run dead l m h =
     let low = within e.end es (length cs) h.2 in
     let leaves = range_kept cs ds from e.end h.0 low in
     let initial = range_kept ss ts from e.end h.0 (omega (arith, low, l)) in
-    let rest = pushed e.end es cs ds ss ts dead l m h.2 in
+    let rest = pushed e.end es cs ds ss ts fixed run dead l m h.2 in
     cc
 
-pub cut_pushed : (from : ℕ) (es : List Extent) (many more : ℕ) (dead : Bool) → IsCut from es many → more < 2 ^ 32 →
-    IsCut from (es ++ record { end = many + more; dead = dead } ∷ []) (many + more)
-cut_pushed from [] many more dead h l = (omega (arith, h), omega (arith, h, l), refl)
-cut_pushed from (e ∷ es) many more dead h l = (h.0, h.1, cut_pushed e.end es many more dead h.2 l)
+pub cut_pushed : (from : ℕ) (es : List Extent) (many more fixed run : ℕ) (dead : Bool) → IsCut from es many → more < 2 ^ 32 →
+    IsCut from (es ++ record { end = many + more; fixed = fixed; run = run; dead = dead } ∷ []) (many + more)
+cut_pushed from [] many more fixed run dead h l = (omega (arith, h), omega (arith, h, l), refl)
+cut_pushed from (e ∷ es) many more fixed run dead h l = (h.0, h.1, cut_pushed e.end es many more fixed run dead h.2 l)
 
 -- ---- rows that shrink
 
@@ -134,13 +134,13 @@ cut_of_front es cs k n h m is =
 -- ---- one that changes
 
 pub killed_at : (from : ℕ) (es : List Extent) (cs : List ℕ) (ss : List Scalar) (n : ℕ) (e : Extent) → slice_get es n ≡ Some e →
-    objects_in from (slice_set es n (record { end = e.end; dead = true })) cs ss ≡ slice_set (objects_in from es cs ss) n (part cs ss (begin from es n) e.end true)
+    objects_in from (slice_set es n (record e { dead = true })) cs ss ≡ slice_set (objects_in from es cs ss) n (part cs ss (begin from es n) e.end true)
 killed_at from [] cs ss n e h = cc
 killed_at from (x ∷ es) cs ss zero e h = cc
 killed_at from (x ∷ es) cs ss (suc zero) e h = ap (λ r. part cs ss from x.end x.dead ∷ r) (killed_at x.end es cs ss zero e h)
 killed_at from (x ∷ es) cs ss (suc (suc n)) e h = ap (λ r. part cs ss from x.end x.dead ∷ r) (killed_at x.end es cs ss (suc n) e h)
 
-pub cut_killed : (from : ℕ) (es : List Extent) (many n : ℕ) (e : Extent) (dead : Bool) → slice_get es n ≡ Some e → IsCut from es many → IsCut from (slice_set es n (record { end = e.end; dead = dead })) many
+pub cut_killed : (from : ℕ) (es : List Extent) (many n : ℕ) (e : Extent) (dead : Bool) → slice_get es n ≡ Some e → IsCut from es many → IsCut from (slice_set es n (record e { dead = dead })) many
 cut_killed from [] many n e dead f h = h
 cut_killed from (x ∷ es) many zero e dead f h =
     let same : x ≡ e = cc in

@@ -29,7 +29,7 @@ times_step q run k rest l (inr m) =
     ∙ rest (k - length run) (omega (arith, l, m, suc_times q (length run)))
     ∙ ap (λ (j : ℕ). slice_index run j) (sym (mod-eq-sub-mod m))
 
-times_at : (q : ℕ) (run : List ℕ) (k : ℕ) → k < q * length run → slice_index (times q run) k ≡ slice_index run (k % length run)
+pub times_at : (q : ℕ) (run : List ℕ) (k : ℕ) → k < q * length run → slice_index (times q run) k ≡ slice_index run (k % length run)
 times_at zero run k l = absurd (omega (arith, l, zero-mul (length run)))
 times_at (suc q) run k l = times_step q run k (λ j m. times_at q run j m) l (cases_lt k (length run))
 

@@ -5,5 +5,6 @@ pub mod Heap
 pub mod Rows
 pub mod Offsets
 pub mod Laws
+pub mod Repeating
 pub mod FitsExamples
 pub mod PlacesExamples

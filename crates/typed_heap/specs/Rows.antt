@@ -10,6 +10,7 @@ use Rattle.typed_heap.specs.Objects.{HeapObject}
 use Rattle.typed_heap.specs.declared.objects.Initial.{Initial}
 use Rattle.typed_heap.specs.declared.objects.Initial.TheVariants as initials
 use Rattle.typed_heap.specs.declared.objects.Extent.{Extent}
+use Rattle.typed_heap.specs.Repeating.{AllRepeat}
 
 -- objects, and how many further initial scalars can be given
 pub record RoomyObjects : Type 0 where
@@ -66,3 +67,4 @@ pub record IsRowed (leaves : List ℕ) (first : List Initial) (extents : List Ex
   pub cut : IsCut 0 extents (length leaves)
   pub few : length extents < 2 ^ 32
   pub known : All (IsKnown many) first
+  pub repeats : AllRepeat 0 extents leaves

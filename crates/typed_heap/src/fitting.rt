@@ -1,26 +1,33 @@
 // Which types are found among the leaves of an object.
-ghost use Rattle.std.specs.Prelude.{◌≡◌, ◌<◌, ◌≤◌, length, IsTrue};
+ghost use Rattle.std.specs.Prelude.{◌≡◌, ◌-◌, ◌<◌, ◌≤◌, length, IsTrue};
 ghost use Rattle.type_laws.specs.Same.{IsGraph};
 ghost use Rattle.check_tables.specs.TypeTests.{repeated_of};
 ghost use Rattle.typed_heap.specs.Fits.{begins, are_runs, fits};
+ghost use Rattle.typed_heap.specs.Repeating.{Repeats};
 ghost use Rattle.typed_heap.specs.Offsets.{leaves_fit};
 
+use crate::objects::Rhythm;
 use mu_types::{Classes, TypeDef};
 
 /// Whether a type is found at a place of these leaves, or the place is their end.
-pub(crate) fn fits_at(classes: &Classes, t: u32, leaves: &[u32], at: u32) -> bool
+pub(crate) fn fits_at(classes: &Classes, t: u32, leaves: &[u32], rhythm: Rhythm, at: u32) -> bool
     requires graph { IsGraph classes.now.definitions }
     requires t { t < length classes.now.definitions }
+    requires repeats { Repeats rhythm.fixed rhythm.run leaves.now }
     ensures { result ≡ leaves_fit classes.now.definitions t leaves.now at }
 {
     let at = at as usize;
-    at == leaves.len() || at < leaves.len() && fits(classes, t, &leaves[at..])
+    at == leaves.len() || at < leaves.len() && fits(classes, t, &leaves[at..], later(rhythm, at))
 }
 
 /// Whether leaves begin with those of a type; of a hybrid, whether all others are whole runs of its element's.
-pub(crate) fn fits(classes: &Classes, t: u32, found: &[u32]) -> bool
+///
+/// It takes time for the type's leaves. For a hybrid it takes more for as many leaves as the object's own type has, fixed ones and one
+/// run, but never for all runs of the object.
+pub(crate) fn fits(classes: &Classes, t: u32, found: &[u32], rhythm: Rhythm) -> bool
     requires graph { IsGraph classes.now.definitions }
     requires t { t < length classes.now.definitions }
+    requires repeats { Repeats rhythm.fixed rhythm.run found.now }
     ensures { result ≡ fits classes.now.definitions t found.now }
 {
     let wanted = classes.leaves(t);
@@ -28,10 +35,23 @@ pub(crate) fn fits(classes: &Classes, t: u32, found: &[u32]) -> bool
         return false;
     }
     match classes.definition(t) {
-        TypeDef::Hybrid { element, .. } => {
-            are_runs(classes.leaves(*element), &found[wanted.len()..])
-        }
+        TypeDef::Hybrid { element, .. } => are_runs(
+            classes.leaves(*element),
+            &found[wanted.len()..],
+            later(rhythm, wanted.len()),
+        ),
         _ => true,
+    }
+}
+
+/// How leaves repeat that begin so many leaves later.
+fn later(rhythm: Rhythm, n: usize) -> Rhythm
+    ensures fixed { result.fixed ≡ rhythm.fixed - n }
+    ensures run { result.run ≡ rhythm.run }
+{
+    Rhythm {
+        fixed: rhythm.fixed.saturating_sub(n),
+        run: rhythm.run,
     }
 }
 
@@ -43,8 +63,10 @@ fn begins(wanted: &[u32], found: &[u32]) -> bool
     found.starts_with(wanted)
 }
 
-/// Whether leaves are whole runs of others.
-fn are_runs(run: &[u32], found: &[u32]) -> bool
+/// Whether leaves are whole runs of others. As they repeat, the first of them tell all: those that do not repeat, one run of theirs, and
+/// one run of the others.
+fn are_runs(run: &[u32], found: &[u32], rhythm: Rhythm) -> bool
+    requires { Repeats rhythm.fixed rhythm.run found.now }
     ensures { result ≡ are_runs run.now found.now }
 {
     if run.is_empty() {
@@ -53,7 +75,11 @@ fn are_runs(run: &[u32], found: &[u32]) -> bool
     if found.len() % run.len() != 0 {
         return false;
     }
-    for i in 0..found.len() {
+    let telling = rhythm
+        .fixed
+        .saturating_add(rhythm.run)
+        .saturating_add(run.len());
+    for i in 0..found.len().min(telling) {
         if found[i] != run[i % run.len()] {
             return false;
         }

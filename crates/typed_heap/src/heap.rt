@@ -17,7 +17,7 @@ use std::marker::Model;
 /// The objects of a run, numbered from 0 in the order in which they are made, and how many cells may still be made. Contracts see
 /// both, and `spare`, the number of initial scalars that `set` takes.
 ///
-/// A cell takes 20 bytes, and an object 16 besides; each initial scalar that was given takes 32 more. It keeps its allocator, so only
+/// A cell takes 20 bytes, and an object 32 besides; each initial scalar that was given takes 32 more. It keeps its allocator, so only
 /// `new` asks for one. A call that finds no memory leaves all as it was.
 #[derive(Drop)]
 pub struct Heap {
@@ -73,6 +73,7 @@ impl Heap {
         ensures number { IfOk result (λ n. n ≡ length self.old.objects) }
         ensures objects { OnOk result (self.new.objects ≡ self.old.objects ++ object_of classes.now.definitions (leaf_classes classes.now.definitions t) ∷ []) }
         ensures left { OnOk result (self.new.left + length (leaf_classes classes.now.definitions t) ≡ self.old.left) }
+        ensures few_left { self.old.left < 2 ^ 32 }
         ensures spare { self.new.spare ≡ self.old.spare }
 
         // Full is answered where more cells are asked than are left, and only there.
@@ -93,6 +94,7 @@ impl Heap {
         ensures number { IfOk result (λ n. n ≡ length self.old.objects) }
         ensures objects { OnOk result (self.new.objects ≡ self.old.objects ++ object_of classes.now.definitions (hybrid_classes classes.now.definitions t many) ∷ []) }
         ensures left { OnOk result (self.new.left + length (hybrid_classes classes.now.definitions t many) ≡ self.old.left) }
+        ensures few_left { self.old.left < 2 ^ 32 }
         ensures spare { self.new.spare ≡ self.old.spare }
 
         // Full is answered where more cells are asked than are left, and only there.
@@ -117,6 +119,7 @@ impl Heap {
         ensures number { IfOk result (λ n. n ≡ length self.old.objects) }
         ensures objects { OnOk result (self.new.objects ≡ self.old.objects ++ object_of classes.now.definitions (fixed.now ++ times many run.now) ∷ []) }
         ensures left { OnOk result (self.new.left + length (fixed.now ++ times many run.now) ≡ self.old.left) }
+        ensures few_left { self.old.left < 2 ^ 32 }
         ensures spare { self.new.spare ≡ self.old.spare }
         ensures full { self.old.left < length (fixed.now ++ times many run.now) → result ≡ Err (HeapFault.HeapFull (told_cells (length (fixed.now ++ times many run.now))) self.old.left) }
         ensures enough { length (fixed.now ++ times many run.now) ≤ self.old.left → IfErr result (λ fault. fault ≡ HeapFault.Memory) }
@@ -153,7 +156,7 @@ impl Heap {
         ensures spare { self.new.spare ≡ self.old.spare }
     {
         let newest = self.objects.len() - 1;
-        let cells = self.objects.leaves(newest).len() as u32;
+        let cells = self.objects.size(newest);
         self.objects.pop();
         self.left += cells;
     }
@@ -199,7 +202,7 @@ impl Heap {
         requires { object < length self.now.objects }
         ensures { IsSomeAnd (slice_get self.now.objects object) (λ o. length o.leaves ≡ result) }
     {
-        self.objects.leaves(object).len() as u32
+        self.objects.size(object)
     }
 }
 

@@ -1,5 +1,5 @@
 // Laws of the definitions, each the contract of a function that does nothing.
-ghost use Rattle.std.specs.Prelude.{◌≡◌, ◌≢◌, ℕ, ◌<◌, ◌⊎◌, true, false, List, Option, Some, Ok, Err, [], ◌∷◌, ◌++◌, length, slice_get, slice_set, IsSomeAnd};
+ghost use Rattle.std.specs.Prelude.{◌≡◌, ◌≢◌, ℕ, ◌-◌, ◌<◌, ◌⊎◌, true, false, List, Option, Some, Ok, Err, [], ◌∷◌, ◌++◌, length, take, slice_get, slice_set, IsSomeAnd};
 ghost use Rattle.type_laws.specs.declared.definition.TypeDef.{TypeDef};
 ghost use Rattle.type_laws.specs.declared.definition.TypeDef.TheVariants.{Ref, Iref};
 ghost use Rattle.type_laws.specs.Same.{IsGraph};
@@ -9,7 +9,7 @@ ghost use Rattle.heap_cells.specs.declared.cells.CellId.{CellId};
 ghost use Rattle.typed_heap.specs.Objects.{HeapObject, leaf_classes, object_of, killed, given};
 ghost use Rattle.typed_heap.specs.Fits.{World, place_fits, DefinitionFits, ScalarFits, ScalarsFit, ValueFits};
 ghost use Rattle.typed_heap.specs.Places.{Move, find_place, cast, cell_of};
-ghost use Rattle.typed_heap.specs.Heap.{hybrid_classes};
+ghost use Rattle.typed_heap.specs.Heap.{hybrid_classes, newest_cells};
 ghost use Rattle.typed_heap.specs.Laws.{ObjectFits, KeepsLeaves, Grows};
 
 /// A new object has one scalar for each leaf, zero or NULL, that fits it.
@@ -37,6 +37,12 @@ pub fn calls_keep_leaves()
     ensures added { (os : List HeapObject) (o : HeapObject) → KeepsLeaves os (os ++ o ∷ []) }
     ensures killed { (os : List HeapObject) (n : ℕ) (o : HeapObject) → slice_get os n ≡ Some o → KeepsLeaves os (slice_set os n (killed o)) }
     ensures given { (os : List HeapObject) (n : ℕ) (o : HeapObject) (at : ℕ) (s : Scalar) → slice_get os n ≡ Some o → KeepsLeaves os (slice_set os n (given o at s)) }
+{}
+
+/// Taking back the newest object undoes the making of it.
+pub fn taking_back_undoes_making()
+    ensures objects { (os : List HeapObject) (o : HeapObject) → take (length (os ++ o ∷ []) - 1) (os ++ o ∷ []) ≡ os }
+    ensures cells { (os : List HeapObject) (o : HeapObject) → newest_cells (os ++ o ∷ []) ≡ length o.leaves }
 {}
 
 /// A place that is found fits the references to places of the wanted type, a reference that is cast fits its target, and a cell that

@@ -5,6 +5,7 @@ ghost use Rattle.type_laws.specs.Leaves.{times};
 ghost use Rattle.mu_values.specs.Constants.{width_of};
 ghost use Rattle.typed_heap.specs.Objects.{object_of, killed, given};
 ghost use Rattle.typed_heap.specs.Heap.{AreNarrow};
+ghost use Rattle.typed_heap.specs.Repeating.{Repeats};
 ghost use Rattle.typed_heap.specs.Rows.{initial_of, begin, end, first_by, firsts, IsCut, IsKnown};
 
 use mu_types::{Classes, TypeDef};
@@ -22,11 +23,21 @@ pub(crate) enum Initial {
     Given(usize),
 }
 
-/// Where the cells of an object end, and whether they are dead. They begin where those of the object before it end.
+/// Where the cells of an object end, how their leaves repeat, and whether they are dead. They begin where those of the object before it
+/// end.
 #[derive(Clone, Copy, Debug, PartialEq, Eq)]
 pub(crate) struct Extent {
     pub(crate) end: usize,
+    pub(crate) fixed: usize,
+    pub(crate) run: usize,
     pub(crate) dead: bool,
+}
+
+/// How leaves repeat: behind the first `fixed`, each is the same as the one that stands `run` before it.
+#[derive(Clone, Copy, Debug, PartialEq, Eq)]
+pub(crate) struct Rhythm {
+    pub(crate) fixed: usize,
+    pub(crate) run: usize,
 }
 
 /// Objects by number. Contracts see them, and `spare`, the number of initial scalars that can be given without a refusal.
@@ -40,6 +51,7 @@ pub(crate) struct Objects {
 
 impl Model for Objects {
     ghost use Rattle.std.specs.Prelude.{◌-◌, map, length, vec_len, vec_capacity};
+    ghost use Rattle.typed_heap.specs.Repeating.{Repeats};
     ghost use Rattle.typed_heap.specs.Rows.{RoomyObjects, initial_of, objects_in, IsRowed};
 
     ghost Value = { RoomyObjects };
@@ -69,14 +81,24 @@ impl Objects {
         self.extents.len() as u32
     }
 
-    /// The classes of the leaves of an object, fewer than 2^32, in constant time.
-    pub fn leaves(&self, n: u32) -> &[u32]
+    /// The classes of the leaves of an object, fewer than 2^32, and how they repeat, in constant time.
+    pub fn leaves(&self, n: u32) -> (&[u32], Rhythm)
         requires { n < length self.now.objects }
-        ensures leaves { IsSomeAnd (slice_get self.now.objects n) (λ o. o.leaves ≡ result.now) }
-        ensures few { length result.now < 2 ^ 32 }
+        ensures leaves { IsSomeAnd (slice_get self.now.objects n) (λ o. o.leaves ≡ result.0.now) }
+        ensures few { length result.0.now < 2 ^ 32 }
+        ensures repeats { Repeats result.1.fixed result.1.run result.0.now }
     {
         let (begin, end) = bounds(&self.leaves, &self.extents, n as usize);
-        &self.leaves[begin..end]
+        let Extent { fixed, run, .. } = self.extents[n as usize];
+        (&self.leaves[begin..end], Rhythm { fixed, run })
+    }
+
+    /// How many cells an object has, in constant time.
+    pub fn size(&self, n: u32) -> u32
+        requires { n < length self.now.objects }
+        ensures { IsSomeAnd (slice_get self.now.objects n) (λ o. length o.leaves ≡ result) }
+    {
+        self.leaves(n).0.len() as u32
     }
 
     /// Whether the cells of an object are dead.
@@ -261,7 +283,7 @@ fn append_object(
     requires leaves { All (λ c. c < length classes.now.definitions) (fixed.now ++ times count run.now) }
     ensures leaves { OnOk result (leaves.new.items ≡ leaves.old.items ++ (fixed.now ++ times count run.now)) }
     ensures initials { OnOk result (initials.new.items ≡ initials.old.items ++ firsts classes.now.definitions (fixed.now ++ times count run.now)) }
-    ensures extents { OnOk result (extents.new.items ≡ extents.old.items ++ record { end = length leaves.old.items + length (fixed.now ++ times count run.now); dead = false } ∷ []) }
+    ensures extents { OnOk result (extents.new.items ≡ extents.old.items ++ record { end = length leaves.old.items + length (fixed.now ++ times count run.now); fixed = length fixed.now; run = length run.now; dead = false } ∷ []) }
     ensures leaves_kept { take (length leaves.old.items) leaves.new.items ≡ leaves.old.items }
     ensures initials_kept { take (length initials.old.items) initials.new.items ≡ initials.old.items }
     ensures extents_kept { OnErr result (extents.new.items ≡ extents.old.items) }
@@ -272,6 +294,8 @@ fn append_object(
     append_firsts(initials, classes, &leaves[begin..])?;
     extents.push(Extent {
         end: leaves.len(),
+        fixed: fixed.len(),
+        run: run.len(),
         dead: false,
     })?;
     Ok(())

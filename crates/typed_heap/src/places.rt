@@ -117,15 +117,19 @@ impl Heap {
         requires object { object < length self.now.objects }
         ensures { (at : ℕ) (z : ℤ) → offset_of (pos at +ℤ z) ≡ offset → find_place classes.now.definitions self.now.objects (Some (record { by = Some z; wanted = wanted })) (Place object at) ≡ Some result }
     {
-        let leaves = self.objects.leaves(object);
+        let (leaves, rhythm) = self.objects.leaves(object);
         match offset {
-            Some(at) if fits_at(classes, wanted, leaves, at) => Ok(Scalar::Place { object, at }),
+            Some(at) if fits_at(classes, wanted, leaves, rhythm, at) => Ok(Scalar::Place {
+                object,
+                at,
+            }),
             _ => Err(PlaceFault::OutOfRange),
         }
     }
 
     /// The same reference to an object or the same place, where it fits the target, which is a type of references to objects or of
-    /// places; NULL always does. `BadCast`: it does not fit. It takes time for the leaves of what the target refers to.
+    /// places; NULL always does. `BadCast`: it does not fit. It takes time for the leaves of what the target refers to; for a hybrid it
+    /// takes more, for as many leaves as the object's own type has.
     pub fn cast(&self, classes: &Classes, value: Scalar, target: u32) -> Result<Scalar, PlaceFault>
         requires graph { IsGraph classes.now.definitions }
         requires target { target < length classes.now.definitions }
@@ -134,10 +138,12 @@ impl Heap {
     {
         let fits = match (value, classes.definition(target)) {
             (Scalar::Object(object), TypeDef::Ref(t)) => {
-                fits(classes, *t, self.objects.leaves(object))
+                let (leaves, rhythm) = self.objects.leaves(object);
+                fits(classes, *t, leaves, rhythm)
             }
             (Scalar::Place { object, at }, TypeDef::Iref(t)) => {
-                fits_at(classes, *t, self.objects.leaves(object), at)
+                let (leaves, rhythm) = self.objects.leaves(object);
+                fits_at(classes, *t, leaves, rhythm, at)
             }
             _ => true,
         };
@@ -157,7 +163,7 @@ impl Heap {
         let Scalar::Place { object, at } = place else {
             return Err(PlaceFault::Null);
         };
-        if at as usize >= self.objects.leaves(object).len() {
+        if at >= self.objects.size(object) {
             return Err(PlaceFault::OutOfRange);
         }
         if self.objects.is_dead(object) {
