@@ -25,12 +25,28 @@ number_of_sources() {
   )
 }
 
-# Proves and links once. What an earlier build left is removed first, so a program that is there afterwards is of this one.
-# The first command proves crates side by side that do not stand on one another; the second proves what is left and links. With
-# no words the program prints its usage.
+# The crates that the program stands on, and itself, lowest first: crates.txt has a line NAME: DEP DEP .. for each.
+needed_crates() {
+  awk '
+    function need(name, i, n, deps) {
+      if (!(name in line) || name in needed) return
+      needed[name] = 1
+      n = split(line[name], deps, " ")
+      for (i = 1; i <= n; i++) need(deps[i])
+    }
+    /^[a-z]/ { name = $1; sub(/:$/, "", name); order[++count] = name; $1 = ""; line[name] = $0 }
+    END {
+      need("mu")
+      for (i = 1; i <= count; i++) if (order[i] in needed) print order[i]
+    }' "$top/crates.txt"
+}
+
+# Proves and links once. What an earlier build left is removed first, so a program that is there afterwards is of this one. Crates
+# that do not stand on one another are proved side by side; the last command proves what is left and links. With no words the
+# program prints its usage.
 make_program() {
   rm -f "$out/mu"
-  (cd "$top" && rt all check --jobs "$(nproc)") > "$out/build.log" 2>&1 < /dev/null
+  needed_crates | xargs -P "$(nproc)" -I '{}' sh -c 'cd "$0/crates/{}" && rt check' "$top" > "$out/build.log" 2>&1 < /dev/null
   (cd "$top/crates/mu" && rt run) >> "$out/build.log" 2>&1 < /dev/null
   [ -x "$out/mu" ]
 }
