@@ -1,5 +1,5 @@
 -- Leaves and their classes are scalar types of the graph.
-use Rattle.std.proofs.Common.{◌≡◌, ◌≢◌, ℕ, zero, suc, ◌+◌, ◌<◌, Bool, true, false, cond, ◌||◌, ◌==◌, List, [], ◌∷◌, ◌++◌, length, map, Option, Some, None, slice_get, get_or, refl, sym, ap, subst, ◌∙◌, arith}
+use Rattle.std.proofs.Common.{◌≡◌, ℕ, zero, suc, ◌<◌, Bool, true, false, ◌||◌, ◌==◌, List, [], ◌∷◌, ◌++◌, length, Option, Some, None, slice_get, get_or, refl, sym, ap, ◌∙◌, arith}
 use Rattle.std.specs.List.{All, flat_map}
 use Rattle.std.proofs.lemmas.List.{length-append}
 use Rattle.std.proofs.lemmas.List.Concat.{flat_map-cons}
@@ -13,7 +13,7 @@ use Rattle.type_laws.specs.Definition.{constructor}
 use Rattle.type_laws.specs.Same.{same, IsGraph}
 use Rattle.type_laws.specs.Class.{least, class_of}
 use Rattle.type_laws.specs.Leaves.{times, leaves, leaves_by, leaves_at, leaves_to}
-use Rattle.type_laws.proofs.Depth.{args_within, alike_same, same_meets, Meets}
+use Rattle.type_laws.proofs.Depth.{args_within, alike_same, same_meets}
 use Rattle.check_tables.specs.TypeTests.{is_scalar, repeated_of}
 use Rattle.typed_heap.specs.Objects.{leaf_classes, run_of, run_classes}
 use Rattle.typed_heap.specs.Heap.{hybrid_classes}
