@@ -62,14 +62,14 @@ some_one a b o e f = cc
 
 fields_in : (g : List TypeDef) → IsGraph g → (t : ℕ) (o : Option TypeDef) (fields : List ℕ) → slice_get g t ≡ o → fixed_fields_of o ≡ Some fields → All (λ x. x < length g) fields
 fields_in g i t (Some (Struct fs)) fields e f =
-    let same : fs.members ≡ fields = cc in
+    let same : fs ≡ fields = cc in
     let P : List ℕ → Type 0 = λ ys. All (λ y. y < length g) ys in
     subst P same (args_within g i t (Struct fs) e)
 fields_in g i t (Some (Hybrid fixed element)) fields e f =
-    let same : fixed.members ≡ fields = cc in
+    let same : fixed ≡ fields = cc in
     let P : List ℕ → Type 0 = λ ys. All (λ y. y < length g) ys in
-    let within : All (λ y. y < length g) fixed.members = λ k d l.
-    rw (← get_or_append_left fixed.members (element ∷ []) d k l) (args_within g i t (Hybrid fixed element) e k d (omega (arith, l, length-append fixed.members (element ∷ [])))) in
+    let within : All (λ y. y < length g) fixed = λ k d l.
+    rw (← get_or_append_left fixed (element ∷ []) d k l) (args_within g i t (Hybrid fixed element) e k d (omega (arith, l, length-append fixed (element ∷ [])))) in
     subst P same within
 fields_in g i t None fields e f = cc
 fields_in g i t (Some (Int width)) fields e f = cc
