@@ -1,10 +1,9 @@
 -- What fits: new objects, changed ones, and in a world that grows.
-use Rattle.std.proofs.Common.{◌≡◌, ◌≢◌, ℕ, zero, suc, ◌-◌, ◌<◌, ◌≤◌, ◌^◌, Bool, true, false, List, [], ◌∷◌, ◌++◌, length, take, map, Option, Some, None, IsSomeAnd, slice_get, refl, sym, ap, subst, ◌∙◌, arith}
+use Rattle.std.proofs.Common.{◌≡◌, ℕ, zero, suc, ◌-◌, true, List, [], ◌∷◌, ◌++◌, length, take, Option, Some, None, IsSomeAnd, slice_get, refl, sym, ap, subst, ◌∙◌, arith}
 use Rattle.std.specs.Prelude.{slice_set}
 use Rattle.std.specs.List.{All}
 use Rattle.std.proofs.lemmas.List.{length-append, take_at}
 use Rattle.std.proofs.lemmas.List.Elements.{All-nil, All-head, All-tail, All-append}
-use Rattle.std.proofs.lemmas.Option.{slice_get_within}
 use Rattle.std.proofs.lemmas.Nat.{pow_pos}
 use Rattle.type_laws.specs.declared.definition.TypeDef.{TypeDef}
 use Rattle.type_laws.specs.declared.definition.TypeDef.TheVariants as types
@@ -14,8 +13,8 @@ use Rattle.mu_values.specs.Constants.{width_of}
 use Rattle.mu_values.specs.declared.scalars.Scalar.{Scalar}
 use Rattle.mu_values.specs.declared.scalars.Scalar.TheVariants.{Int, Null, Object, Place, Func, Stack, Thread}
 use Rattle.check_tables.specs.TypeTests.{is_scalar, repeated_of}
-use Rattle.typed_heap.specs.Objects.{HeapObject, leaf_classes, run_of, run_classes, object_of, zero_of, zeros, killed, given}
-use Rattle.typed_heap.specs.Fits.{World, fits, place_fits, DefinitionFits, ScalarFits, ScalarsFit, ValueFits}
+use Rattle.typed_heap.specs.Objects.{HeapObject, leaf_classes, run_of, run_classes, object_of, zero_of, zeros}
+use Rattle.typed_heap.specs.Fits.{World, fits, DefinitionFits, ScalarFits, ScalarsFit}
 use Rattle.typed_heap.specs.Heap.{hybrid_classes, newest_cells}
 use Rattle.typed_heap.specs.Offsets.{leaves_fit}
 use Rattle.typed_heap.specs.Laws.{ObjectFits, KeepsLeaves, Grows}

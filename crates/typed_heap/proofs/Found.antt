@@ -1,13 +1,11 @@
 -- What is there where a place is found, and the types that are met on the way.
-use Rattle.std.proofs.Common.{◌≡◌, ◌⊎◌, inl, inr, ℕ, zero, suc, ◌+◌, ◌-◌, ◌*◌, ◌^◌, ◌<◌, ◌≤◌, min, Bool, true, false, List, [], ◌∷◌, ◌++◌, length, take, Option, Some, None, IsSome, IfSome, Result, slice_get, get_or, refl, sym, ap, subst, ◌∙◌, arith}
-use Rattle.std.specs.Prelude.{ℤ, pos, ◌+ℤ◌, ◌*ℤ◌, nat_lt}
+use Rattle.std.proofs.Common.{◌≡◌, ◌⊎◌, inl, inr, ℕ, ◌+◌, ◌-◌, ◌*◌, ◌^◌, ◌<◌, ◌≤◌, min, false, List, [], ◌∷◌, length, take, Option, Some, None, IsSome, IfSome, Result, slice_get, get_or, refl, sym, ap, subst, ◌∙◌, arith}
+use Rattle.std.specs.Prelude.{pos, ◌+ℤ◌, ◌*ℤ◌, nat_lt}
 use Rattle.std.specs.List.{All}
 use Rattle.std.proofs.lemmas.Bool.{cases_lt}
 use Rattle.std.proofs.lemmas.Bool.Decides.{nat_tests}
 use Rattle.std.proofs.lemmas.List.{length-append, get_or_append_left}
-use Rattle.std.proofs.lemmas.List.Elements.{All-take}
 use Rattle.std.proofs.lemmas.Option.{slice_get_within, slice_get-get_or}
-use Rattle.mu_base.specs.Lists.{Roomy}
 use Rattle.type_laws.specs.declared.definition.TypeDef.{TypeDef}
 use Rattle.type_laws.specs.declared.definition.TypeDef.TheVariants.{Int, Struct, Array, Hybrid, Void, Ref, Iref, FuncRef, StackRef, ThreadRef, Sig}
 use Rattle.type_laws.specs.Definition.{arguments}
@@ -64,14 +62,14 @@ some_one a b o e f = cc
 
 fields_in : (g : List TypeDef) → IsGraph g → (t : ℕ) (o : Option TypeDef) (fields : List ℕ) → slice_get g t ≡ o → fixed_fields_of o ≡ Some fields → All (λ x. x < length g) fields
 fields_in g i t (Some (Struct fs)) fields e f =
-    let same : fs.members ≡ fields = cc in
+    let same : fs ≡ fields = cc in
     let P : List ℕ → Type 0 = λ ys. All (λ y. y < length g) ys in
     subst P same (args_within g i t (Struct fs) e)
 fields_in g i t (Some (Hybrid fixed element)) fields e f =
-    let same : fixed.members ≡ fields = cc in
+    let same : fixed ≡ fields = cc in
     let P : List ℕ → Type 0 = λ ys. All (λ y. y < length g) ys in
-    let within : All (λ y. y < length g) fixed.members = λ k d l.
-    rw (← get_or_append_left fixed.members (element ∷ []) d k l) (args_within g i t (Hybrid fixed element) e k d (omega (arith, l, length-append fixed.members (element ∷ [])))) in
+    let within : All (λ y. y < length g) fixed = λ k d l.
+    rw (← get_or_append_left fixed (element ∷ []) d k l) (args_within g i t (Hybrid fixed element) e k d (omega (arith, l, length-append fixed (element ∷ [])))) in
     subst P same within
 fields_in g i t None fields e f = cc
 fields_in g i t (Some (Int width)) fields e f = cc

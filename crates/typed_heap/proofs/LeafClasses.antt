@@ -1,28 +1,27 @@
 -- Leaves and their classes are scalar types of the graph.
-use Rattle.std.proofs.Common.{◌≡◌, ◌≢◌, ℕ, zero, suc, ◌+◌, ◌<◌, Bool, true, false, cond, ◌||◌, ◌==◌, List, [], ◌∷◌, ◌++◌, length, map, Option, Some, None, slice_get, get_or, refl, sym, ap, subst, ◌∙◌, arith}
+use Rattle.std.proofs.Common.{◌≡◌, ℕ, zero, suc, ◌<◌, Bool, true, false, ◌||◌, ◌==◌, List, [], ◌∷◌, ◌++◌, length, Option, Some, None, slice_get, get_or, refl, sym, ap, ◌∙◌, arith}
 use Rattle.std.specs.List.{All, flat_map}
 use Rattle.std.proofs.lemmas.List.{length-append}
 use Rattle.std.proofs.lemmas.List.Concat.{flat_map-cons}
 use Rattle.std.proofs.lemmas.List.Elements.{All-nil, All-cons, All-append, All-map}
 use Rattle.std.proofs.lemmas.Option.{slice_get_within}
 use Rattle.std.proofs.Math.Seq.{get_or-append_seam}
-use Rattle.mu_base.specs.Lists.{Roomy}
 use Rattle.type_laws.specs.declared.definition.TypeDef.{TypeDef}
 use Rattle.type_laws.specs.declared.definition.TypeDef.TheVariants.{Int, Struct, Array, Hybrid, Void, Ref, Iref, FuncRef, StackRef, ThreadRef, Sig}
 use Rattle.type_laws.specs.Definition.{constructor}
 use Rattle.type_laws.specs.Same.{same, IsGraph}
 use Rattle.type_laws.specs.Class.{least, class_of}
 use Rattle.type_laws.specs.Leaves.{times, leaves, leaves_by, leaves_at, leaves_to}
-use Rattle.type_laws.proofs.Depth.{args_within, alike_same, same_meets, Meets}
+use Rattle.type_laws.proofs.Depth.{args_within, alike_same, same_meets}
 use Rattle.check_tables.specs.TypeTests.{is_scalar, repeated_of}
 use Rattle.typed_heap.specs.Objects.{leaf_classes, run_of, run_classes}
 use Rattle.typed_heap.specs.Heap.{hybrid_classes}
 
 -- the element of a hybrid is of the graph
-pub element_within : (g : List TypeDef) → IsGraph g → (t : ℕ) (fixed : Roomy ℕ) (element : ℕ) → slice_get g t ≡ Some (Hybrid fixed element) → element < length g
+pub element_within : (g : List TypeDef) → IsGraph g → (t : ℕ) (fixed : List ℕ) (element : ℕ) → slice_get g t ≡ Some (Hybrid fixed element) → element < length g
 element_within g i t fixed element e =
-    let within = args_within g i t (Hybrid fixed element) e (length fixed.members) 0 (omega (arith, length-append fixed.members (element ∷ []))) in
-    rw (get_or-append_seam fixed.members element [] 0) at within
+    let within = args_within g i t (Hybrid fixed element) e (length fixed) 0 (omega (arith, length-append fixed (element ∷ []))) in
+    rw (get_or-append_seam fixed element [] 0) at within
 
 -- ---- leaves
 
@@ -39,9 +38,9 @@ one P t h = All-cons P t [] h (All-nil P)
 
 by_all : (P : ℕ → Type 0) (of : ℕ → List ℕ) (t : ℕ) (d : TypeDef) → ((x : ℕ) → All P (of x)) → (is_scalar (Some d) ≡ true → P t) → All P (leaves_by of t d)
 by_all P of t (Int width) h f = one P t (f refl)
-by_all P of t (Struct fields) h f = flat_all P of fields.members h
+by_all P of t (Struct fields) h f = flat_all P of fields h
 by_all P of t (Array element size) h f = times_all P size (of element) (h element)
-by_all P of t (Hybrid fixed element) h f = flat_all P of fixed.members h
+by_all P of t (Hybrid fixed element) h f = flat_all P of fixed h
 by_all P of t Void h f = All-nil P
 by_all P of t (Ref x) h f = one P t (f refl)
 by_all P of t (Iref x) h f = one P t (f refl)

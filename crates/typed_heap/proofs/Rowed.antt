@@ -1,5 +1,5 @@
 -- Rows with all that is kept true of them, when an object is added, taken away or changed.
-use Rattle.std.proofs.Common.{◌≡◌, ℕ, zero, suc, ◌+◌, ◌-◌, ◌<◌, ◌≤◌, ◌^◌, Bool, true, false, List, [], ◌∷◌, ◌++◌, length, take, drop, map, Option, Some, slice_get, refl, sym, ap, subst, ◌∙◌, arith}
+use Rattle.std.proofs.Common.{◌≡◌, ℕ, zero, suc, ◌+◌, ◌-◌, ◌<◌, ◌≤◌, ◌^◌, Bool, true, false, List, [], ◌∷◌, ◌++◌, length, take, drop, map, Some, slice_get, sym, ap, subst, ◌∙◌, arith}
 use Rattle.std.specs.Prelude.{slice_set, slice_range}
 use Rattle.std.specs.List.{take-map}
 use Rattle.std.proofs.lemmas.List.{length-append, length-map, length-take, map-append, take-append-drop}
@@ -7,11 +7,11 @@ use Rattle.std.proofs.lemmas.List.Elements.{All-append, All-take}
 use Rattle.type_laws.specs.declared.definition.TypeDef.{TypeDef}
 use Rattle.mu_values.specs.Constants.{width_of}
 use Rattle.mu_values.specs.declared.scalars.Scalar.{Scalar}
-use Rattle.typed_heap.specs.Objects.{HeapObject, object_of, zeros, given}
+use Rattle.typed_heap.specs.Objects.{object_of, zeros, given}
 use Rattle.typed_heap.specs.declared.objects.Initial.{Initial}
 use Rattle.typed_heap.specs.declared.objects.Initial.TheVariants as initials
 use Rattle.typed_heap.specs.declared.objects.Extent.{Extent}
-use Rattle.typed_heap.specs.Rows.{RoomyObjects, initial_of, objects_in, shown, firsts, first_by, IsCut, IsKnown, IsRowed, begin, end}
+use Rattle.typed_heap.specs.Rows.{initial_of, shown, firsts, first_by, IsCut, IsKnown, IsRowed, begin}
 use Rattle.typed_heap.specs.Repeating.{Repeats, AllRepeat}
 use Rattle.typed_heap.proofs.Rows.{part, within, range_kept, range_last, pushed, cut_pushed, front, cut_of_front, given_at}
 use Rattle.typed_heap.proofs.Firsts.{zeros_shown, firsts_known, given_shown}

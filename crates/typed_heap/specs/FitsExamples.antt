@@ -1,6 +1,5 @@
 -- Worked examples, to read beside the definitions: what an object has, and what fits.
-use Rattle.std.specs.Prelude.{◌≡◌, ℕ, Bool, true, false, List, [], ◌∷◌, refl}
-use Rattle.mu_base.specs.Lists.{Roomy}
+use Rattle.std.specs.Prelude.{◌≡◌, ℕ, true, false, List, [], ◌∷◌, refl}
 use Rattle.type_laws.specs.declared.definition.TypeDef.{TypeDef}
 use Rattle.type_laws.specs.declared.definition.TypeDef.TheVariants.{Struct, Array, Hybrid, Void, Ref, Iref}
 use Rattle.type_laws.specs.declared.definition.TypeDef.TheVariants as types
@@ -11,13 +10,10 @@ use Rattle.typed_heap.specs.Objects.{HeapObject, leaf_classes, object_of}
 use Rattle.typed_heap.specs.Fits.{World, fits, place_fits, DefinitionFits}
 use Rattle.typed_heap.specs.Heap.{hybrid_classes}
 
-abbrev ids : List ℕ → Roomy ℕ
-ids members = record { members = members; spare = 0 }
-
 -- 0 is int<64>, 1 is int<8>, 2 is struct<int<64> int<64>>, 3 is array<int<64> 3>, 4 is hybrid<int<8> struct 2>, 5 is ref<struct 2>,
 -- 6 is iref<int<64>>, 7 is void, and 8 is int<64> once more
 abbrev pub graph : List TypeDef
-graph = types.Int 64 ∷ types.Int 8 ∷ Struct (ids (0 ∷ 8 ∷ [])) ∷ Array 0 3 ∷ Hybrid (ids (1 ∷ [])) 2 ∷ Ref 2 ∷ Iref 0 ∷ Void ∷ types.Int 64 ∷ []
+graph = types.Int 64 ∷ types.Int 8 ∷ Struct (0 ∷ 8 ∷ []) ∷ Array 0 3 ∷ Hybrid (1 ∷ []) 2 ∷ Ref 2 ∷ Iref 0 ∷ Void ∷ types.Int 64 ∷ []
 
 -- a hybrid of two runs, and its first cells
 abbrev pub two_runs : HeapObject

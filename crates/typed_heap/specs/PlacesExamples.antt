@@ -1,5 +1,5 @@
 -- Worked examples, to read beside the definitions: casts, places that are found, and cells.
-use Rattle.std.specs.Prelude.{◌≡◌, ℕ, ◌^◌, ◌-◌, List, [], ◌∷◌, Some, Ok, Err, slice_get, ℤ, pos, negsuc, refl}
+use Rattle.std.specs.Prelude.{◌≡◌, ◌^◌, List, [], ◌∷◌, Some, Ok, Err, slice_get, pos, negsuc, refl}
 use Rattle.type_laws.specs.declared.definition.TypeDef.TheVariants.{Ref}
 use Rattle.type_laws.specs.Same.{alike}
 use Rattle.type_laws.specs.Leaves.{leaves_to}

@@ -3,16 +3,16 @@ ghost use Rattle.type_laws.specs.Same.{IsGraph};
 ghost use Rattle.typed_heap.specs.Heap.{AreNarrow};
 
 use crate::{CellId, Heap, HeapFault, PlaceFault};
-use mu_base::Ids;
 use mu_types::{Classes, TypeDef, TypeFault, TypeGraph, classes};
 use mu_values::Scalar;
 use std::alloc::{AllocError, Global};
 use std::test::Fail;
+use text_forms::Listing;
 
-fn ids(alloc: Global, first: u32, second: u32) -> Result<Ids, AllocError>
-    ensures { IfOk result (λ ids. ids.members ≡ first ∷ second ∷ []) }
+fn ids(alloc: Global, first: u32, second: u32) -> Result<Listing<u32>, AllocError>
+    ensures { IfOk result (λ ids. ids ≡ first ∷ second ∷ []) }
 {
-    let mut ids = Ids::new(alloc);
+    let mut ids = Listing::new(alloc);
     ids.push(first)?;
     ids.push(second)?;
     Ok(ids)
@@ -25,15 +25,15 @@ fn sample(alloc: Global) -> Result<Classes, TypeFault>
     ensures many { IfOk result (λ c. 6 ≤ length c.definitions) }
 {
     let mut graph = TypeGraph::new(alloc);
-    graph.add(TypeDef::Int { width: 64 }, Ids::new(alloc))?;
+    graph.add(TypeDef::Int { width: 64 }, Listing::new(alloc))?;
     let fields = ids(alloc, 0, 0)?;
-    graph.add(TypeDef::Struct { fields }, Ids::new(alloc))?;
+    graph.add(TypeDef::Struct { fields }, Listing::new(alloc))?;
     let length = 3;
-    graph.add(TypeDef::Array { element: 1, length }, Ids::new(alloc))?;
+    graph.add(TypeDef::Array { element: 1, length }, Listing::new(alloc))?;
     let fixed = ids(alloc, 0, 0)?;
-    graph.add(TypeDef::Hybrid { fixed, element: 1 }, Ids::new(alloc))?;
-    graph.add(TypeDef::Ref(3), Ids::new(alloc))?;
-    graph.add(TypeDef::Iref(1), Ids::new(alloc))?;
+    graph.add(TypeDef::Hybrid { fixed, element: 1 }, Listing::new(alloc))?;
+    graph.add(TypeDef::Ref(3), Listing::new(alloc))?;
+    graph.add(TypeDef::Iref(1), Listing::new(alloc))?;
     classes(alloc, graph)
 }
 

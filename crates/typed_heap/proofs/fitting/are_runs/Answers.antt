@@ -1,7 +1,7 @@
 use Rattle.std.proofs.Common.{◌≡◌, ◌<◌, ◌≤◌, ◌+◌, ◌%◌, min, ℕ, length, sym, arith}
 use Rattle.std.specs.Prelude.{slice_index}
 use Rattle.std.proofs.lemmas.Bool.Decides.{nat_tests}
-use Rattle.typed_heap.proofs.Runs.{AreRuns, runs_decide, no_runs}
+use Rattle.typed_heap.proofs.Runs.{runs_decide, no_runs}
 use Rattle.typed_heap.proofs.Repeating.{all_told}
 use Rattle.typed_heap.proofs.fitting.are_runs.Goals as goal
 

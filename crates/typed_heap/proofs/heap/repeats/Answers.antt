@@ -1,6 +1,5 @@
-use Rattle.std.proofs.Common.{◌≡◌, ◌*◌, ◌<◌, ◌≤◌, ℕ, length, sym, ap, ◌∙◌, arith}
+use Rattle.std.proofs.Common.{◌<◌, length, sym, arith}
 use Rattle.std.proofs.lemmas.Bool.Decides.{nat_tests}
-use Rattle.type_laws.specs.Leaves.{times}
 use Rattle.typed_heap.proofs.Runs.{times_length, times_none, le_times}
 use Rattle.typed_heap.proofs.heap.repeats.Goals as goal
 

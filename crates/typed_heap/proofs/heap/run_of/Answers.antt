@@ -1,4 +1,4 @@
-use Rattle.std.proofs.Common.{◌≡◌, Some, slice_get, ◌∙◌, ap}
+use Rattle.std.proofs.Common.{Some, ◌∙◌, ap}
 use Rattle.typed_heap.proofs.LeafClasses.{element_within}
 use Rattle.typed_heap.proofs.heap.run_of.Goals as goal
 

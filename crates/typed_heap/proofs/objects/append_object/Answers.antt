@@ -1,5 +1,4 @@
-use Rattle.std.proofs.Common.{◌≡◌, ◌<◌, ◌++◌, ℕ, List, length, sym, ap, ◌∙◌, subst, refl, arith, rules}
-use Rattle.std.specs.Prelude.{slice_range}
+use Rattle.std.proofs.Common.{◌≡◌, ◌<◌, ◌++◌, ℕ, List, length, sym, ◌∙◌, subst, refl, rules}
 use Rattle.std.specs.Vec.{vec_len}
 use Rattle.std.specs.List.{All}
 use Rattle.type_laws.specs.Leaves.{times}

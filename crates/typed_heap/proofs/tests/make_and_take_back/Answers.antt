@@ -1,4 +1,4 @@
-use Rattle.std.proofs.Common.{◌≡◌, ◌+◌, ◌<◌, ◌++◌, [], ◌∷◌, length, ap, ◌∙◌, arith}
+use Rattle.std.proofs.Common.{◌≡◌, length, ap, ◌∙◌, arith}
 use Rattle.typed_heap.specs.Objects.{leaf_classes, object_of}
 use Rattle.typed_heap.specs.Heap.{newest_cells}
 use Rattle.typed_heap.proofs.Fitted.{newest_counted}

@@ -1,5 +1,4 @@
-use Rattle.std.proofs.Common.{◌≡◌, [], ◌∷◌, List, refl, ap, subst, sym, ◌∙◌}
-use Rattle.type_laws.specs.declared.definition.TypeDef.{TypeDef}
+use Rattle.std.proofs.Common.{◌≡◌, [], ◌∷◌, refl, subst, sym, ◌∙◌}
 use Rattle.type_laws.specs.declared.definition.TypeDef.TheVariants.{Int, Struct, Array, Hybrid, Ref, Iref}
 use Rattle.mu_types.specs.Graph.{Table}
 use Rattle.mu_types.specs.Implied.{complete}

@@ -1,5 +1,5 @@
-use Rattle.std.proofs.Common.{◌≡◌, ◌<◌, IsSome, [], ◌∷◌, Some, length, slice_get, sym, ◌∙◌, ap, refl, subst}
-use Rattle.std.specs.Prelude.{List, Option}
+use Rattle.std.proofs.Common.{◌≡◌, IsSome, Some, length, slice_get, ◌∙◌, ap, subst}
+use Rattle.std.specs.Prelude.{Option}
 use Rattle.type_laws.specs.declared.definition.TypeDef.{TypeDef}
 use Rattle.type_laws.specs.declared.definition.TypeDef.TheVariants.{Iref}
 use Rattle.type_laws.specs.Definition.{arguments}

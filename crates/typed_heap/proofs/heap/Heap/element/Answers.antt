@@ -1,4 +1,4 @@
-use Rattle.std.proofs.Common.{◌≡◌, ◌<◌, IsSome, length, subst, ap}
+use Rattle.std.proofs.Common.{IsSome, subst, ap}
 use Rattle.type_laws.specs.Definition.{arguments}
 use Rattle.mu_values.specs.declared.scalars.Scalar.{Scalar}
 use Rattle.typed_heap.specs.Places.{Element, move, find_place}

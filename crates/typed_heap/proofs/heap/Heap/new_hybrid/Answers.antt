@@ -1,5 +1,3 @@
-use Rattle.std.proofs.Common.{◌≡◌, ◌<◌, ◌++◌, [], List, ℕ, length, sym, ap, ◌∙◌, subst}
-use Rattle.std.specs.List.{All}
 use Rattle.typed_heap.proofs.LeafClasses.{hybrid_within}
 use Rattle.typed_heap.proofs.heap.Heap.new_hybrid.Goals as goal
 

@@ -1,6 +1,3 @@
-use Rattle.std.proofs.Common.{◌≡◌, ◌<◌, ◌++◌, [], List, ℕ, length, sym, ap, ◌∙◌, subst}
-use Rattle.std.specs.List.{All}
-use Rattle.typed_heap.specs.Objects.{leaf_classes}
 use Rattle.typed_heap.proofs.LeafClasses.{all_within}
 use Rattle.typed_heap.proofs.heap.Heap.new_object.Goals as goal
 

@@ -1,4 +1,4 @@
-use Rattle.std.proofs.Common.{◌≡◌, ◌<◌, Some, IsSome, length, slice_get, subst, ap, ◌∙◌}
+use Rattle.std.proofs.Common.{Some, IsSome, subst, ap, ◌∙◌}
 use Rattle.mu_values.specs.declared.scalars.Scalar.{Scalar}
 use Rattle.typed_heap.specs.Places.{VarPart, move, find_place}
 use Rattle.typed_heap.proofs.LeafClasses.{element_within}

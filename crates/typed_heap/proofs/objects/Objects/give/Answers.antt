@@ -1,6 +1,6 @@
-use Rattle.std.proofs.Common.{◌≡◌, ◌<◌, ◌+◌, ◌-◌, ◌++◌, [], ◌∷◌, Some, length, map, ap, sym, ◌∙◌, refl, slice_get, IsSomeAnd, subst, arith, rules}
+use Rattle.std.proofs.Common.{◌≡◌, ◌<◌, ◌-◌, ◌++◌, [], ◌∷◌, length, map, ◌∙◌, refl, arith, rules}
 use Rattle.std.specs.Vec.{vec_len}
-use Rattle.typed_heap.specs.Rows.{initial_of, begin, end, IsKnown}
+use Rattle.typed_heap.specs.Rows.{initial_of, begin, end}
 use Rattle.typed_heap.proofs.Rows.{seen, object_at, some_at, cell_there, cell_within}
 use Rattle.typed_heap.proofs.Rowed.{shown_given}
 use Rattle.typed_heap.proofs.objects.Objects.give.Goals as goal

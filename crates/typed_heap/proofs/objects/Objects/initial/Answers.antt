@@ -1,7 +1,7 @@
-use Rattle.std.proofs.Common.{◌≡◌, ◌<◌, ◌+◌, ◌-◌, Some, length, map, ap, sym, ◌∙◌, refl, slice_get, IsSomeAnd, subst, arith, rules}
+use Rattle.std.proofs.Common.{◌≡◌, ◌<◌, ◌+◌, Some, length, map, sym, ◌∙◌, refl, slice_get, subst, arith, rules}
 use Rattle.std.specs.Vec.{vec_len}
 use Rattle.std.proofs.lemmas.Option.{slice_get-map, slice_get_read}
-use Rattle.typed_heap.specs.Rows.{initial_of, begin, end, IsKnown}
+use Rattle.typed_heap.specs.Rows.{initial_of, begin, IsKnown}
 use Rattle.typed_heap.proofs.Rows.{seen, cell_there, cell_within, cell_begins}
 use Rattle.typed_heap.proofs.objects.Objects.initial.Goals as goal
 

@@ -1,4 +1,4 @@
-use Rattle.std.proofs.Common.{◌≡◌, ◌<◌, length, map, refl, arith, rules}
+use Rattle.std.proofs.Common.{◌≡◌, length, map, refl, arith, rules}
 use Rattle.std.specs.Vec.{vec_len}
 use Rattle.typed_heap.specs.Rows.{initial_of}
 use Rattle.typed_heap.proofs.Rows.{counted, seen, there}

@@ -1,4 +1,4 @@
-use Rattle.std.proofs.Common.{◌≡◌, ◌<◌, true, length, map, sym, ◌∙◌, refl, slice_get, Some, arith, rules}
+use Rattle.std.proofs.Common.{◌≡◌, true, length, map, refl, arith, rules}
 use Rattle.std.specs.Vec.{vec_len}
 use Rattle.std.proofs.lemmas.List.{length-set}
 use Rattle.std.proofs.lemmas.Option.{slice_get_read}

@@ -1,4 +1,4 @@
-use Rattle.std.proofs.Common.{◌≡◌, ◌<◌, ◌≤◌, ◌-◌, ℕ, length, take, sym, ap, ◌∙◌, refl, arith, rules}
+use Rattle.std.proofs.Common.{◌≡◌, ◌-◌, length, sym, ◌∙◌, refl, arith, rules}
 use Rattle.std.specs.Vec.{vec_len}
 use Rattle.typed_heap.specs.Rows.{begin}
 use Rattle.typed_heap.proofs.Rows.{counted, seen}
