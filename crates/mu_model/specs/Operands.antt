@@ -1,5 +1,5 @@
 -- To believe: what the names and operands of an instruction stand for, in its block, with the values of the block's variables.
-use Rattle.std.specs.Prelude.{ℕ, suc, ◌+◌, List, [], ◌∷◌, ◌++◌, Option, Some, None, map, length, slice_get, nat_eq, zip, if◌then◌else◌}
+use Rattle.std.specs.Prelude.{ℕ, suc, ◌+◌, List, [], ◌∷◌, ◌++◌, Option, Some, None, map, slice_get, nat_eq, zip, if◌then◌else◌}
 use Rattle.demands.specs.Names.{Names, found}
 use Rattle.ir_lex.specs.declared.name.Name.{Name}
 use Rattle.ir_tree.specs.declared.operands.Operand.{Operand}

@@ -1,6 +1,5 @@
 -- To believe: instructions that enter stacks, and instructions under names.
 use Rattle.std.specs.Prelude.{ℕ, Bool, true, false, List, Option, Some, None, option_map}
-use Rattle.ir_tree.specs.declared.operands.Operand.{Operand}
 use Rattle.ir_tree.specs.declared.operands.NewStackClause.{NewStackClause}
 use Rattle.ir_tree.specs.declared.operands.NewStackClause.TheVariants as clauses
 use Rattle.ir_tree.specs.declared.switching.StackSwitch.{StackSwitch}

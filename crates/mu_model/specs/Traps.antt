@@ -1,5 +1,5 @@
 -- To believe: traps, watchpoints, and what comes of the client's answer.
-use Rattle.std.specs.Prelude.{ℕ, suc, Bool, ◌==◌, not, List, [], ◌∷◌, Option, Some, None, map, filter, slice_get, flat_map, fold, reverse, ◌++◌, if◌then◌else◌}
+use Rattle.std.specs.Prelude.{ℕ, Bool, ◌==◌, not, List, ◌∷◌, Option, Some, None, map, filter, fold, reverse, ◌++◌, if◌then◌else◌}
 use Rattle.std.specs.List.{list_any}
 use Rattle.mu_values.specs.declared.scalars.Scalar.{Scalar}
 use Rattle.mu_values.specs.declared.scalars.Scalar.TheVariants as scalars
