@@ -1,8 +1,8 @@
 -- Runs of bundles: what a client may answer.
 use Rattle.std.specs.Prelude.{codes, ◌≡◌, refl, ◌++◌, [], ◌∷◌, true, false}
 use Rattle.mu_values.specs.declared.scalars.Scalar.TheVariants.{Int, Null}
-use Rattle.mu_model.specs.Clients.{TellFrames, TellKept, Watch, Pass, Throw, Resume, Rebind, Exit, KeptValue, Told}
-use Rattle.model_rows.specs.Texts.{Text}
+use Rattle.mu_model.specs.Clients.{TellFrames, TellKept, Watch, Pass, Throw, Resume, Rebind, Exit, Stop, KeptValue, Told}
+use Rattle.run_texts.specs.Texts.{Text}
 use Rattle.model_rows.specs.Running.{definitions, plain, run_text}
 
 abbrev bundle : Text
@@ -50,3 +50,7 @@ watchpoint_is_enabled_once = refl
 enabled_watchpoint_takes_the_second_way : run_text (record plain { client = record { entries = record { actions = Watch 7 true ∷ []; reply = Resume (Pass []) } ∷ []; auto = false } }) branching ≡ codes "0 t0 leave s0\ntrap t0 @main.v.e 0\n1 t0 enter s0\nreturned t0 1\ndone\n"
 unfolding run_text
 enabled_watchpoint_takes_the_second_way = refl
+
+records_stand_before_a_stop : run_text (record plain { client = record { entries = record { actions = TellFrames ∷ []; reply = Stop } ∷ []; auto = false } }) bundle ≡ codes "0 t0 leave s0\ntrap t0 @main.v.e 1\nframe 0 @main.v.e 1\nstop\n"
+unfolding run_text
+records_stand_before_a_stop = refl

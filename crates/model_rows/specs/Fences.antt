@@ -1,6 +1,6 @@
 -- Runs of bundles: store buffering with a fence between store and load.
 use Rattle.std.specs.Prelude.{codes, ◌≡◌, refl, ◌++◌, [], ◌∷◌}
-use Rattle.model_rows.specs.Texts.{Text}
+use Rattle.run_texts.specs.Texts.{Text}
 use Rattle.model_rows.specs.Running.{definitions, plain, run_text}
 
 abbrev sequentially_consistent : Text

@@ -1,5 +1,3 @@
-pub mod EventTexts
-pub mod Texts
 pub mod Running
 pub mod Addition
 pub mod RecursiveTypes
@@ -32,3 +30,8 @@ pub mod ElementPlaces
 pub mod ThreadObjects
 pub mod ThrownInto
 pub mod ClientAnswers
+pub mod RefusedStacks
+pub mod UpdatedCells
+pub mod FutexCells
+pub mod ObjectEnds
+pub mod ClientNames

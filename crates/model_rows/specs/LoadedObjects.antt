@@ -3,7 +3,7 @@ use Rattle.std.specs.Prelude.{codes, ◌≡◌, refl, ◌++◌, [], ◌∷◌, L
 use Rattle.mu_values.specs.declared.scalars.Scalar.TheVariants.{Int, Object, Place}
 use Rattle.check_tables.specs.declared.tables.Tables.{Tables}
 use Rattle.typed_heap.specs.Objects.{HeapObject}
-use Rattle.model_rows.specs.Texts.{Text}
+use Rattle.run_texts.specs.Texts.{Text}
 use Rattle.model_rows.specs.Running.{definitions, plain, holding, run_text}
 
 abbrev bundle : Text

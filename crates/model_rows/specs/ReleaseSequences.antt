@@ -1,7 +1,7 @@
 -- Runs of bundles: a store of the same thread behind a release.
 use Rattle.std.specs.Prelude.{codes, ◌≡◌, refl, ◌++◌}
 use Rattle.mem_axioms.specs.declared.types.Rule.TheVariants.{Rmw}
-use Rattle.model_rows.specs.Texts.{Text}
+use Rattle.run_texts.specs.Texts.{Text}
 use Rattle.model_rows.specs.Running.{definitions, plain, run_text}
 
 abbrev bundle : Text

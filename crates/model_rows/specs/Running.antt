@@ -1,5 +1,5 @@
 -- The run of a bundle's text, as text.
-use Rattle.std.specs.Prelude.{ℕ, suc, false, List, [], ◌++◌, Option, Some, None, Ok, Err, codes, flat_map}
+use Rattle.std.specs.Prelude.{ℕ, suc, false, List, [], ◌∷◌, ◌++◌, Option, Some, None, Ok, Err, codes, flat_map}
 use Rattle.text_forms.specs.Reading.{elements}
 use Rattle.ir_lex.specs.WordTable.{words, directives, common_names}
 use Rattle.ir_lex.specs.Scanner.{gap_len, next_of}
@@ -41,8 +41,9 @@ use Rattle.mem_axioms.specs.Races.{race}
 use Rattle.mu_model.specs.Clients.{Client}
 use Rattle.mu_model.specs.Programs.{named}
 use Rattle.mu_model.specs.Outcomes.{on, tried}
-use Rattle.mu_model.specs.Run.{Run, Ends, Breaks, Unfinished, Setting, global_objects, run_of}
-use Rattle.model_rows.specs.Texts.{Text, line_text, ending_text}
+use Rattle.mu_model.specs.Run.{Run, Ends, Breaks, Unfinished, Setting, global_objects, program_run}
+use Rattle.run_texts.specs.Texts.{Text}
+use Rattle.run_texts.specs.Pieces.{pieces_of}
 
 -- definitions that most rows begin with
 abbrev pub definitions : Text
@@ -71,20 +72,24 @@ abbrev pub bundle_in : Answer → List Item
 bundle_in (Ok b) = b
 bundle_in (Err f) = []
 
--- the text of all lines, those of each step in order
-abbrev pub written : List Item → Run → Text
-written b (Ends steps lines e) = flat_map (flat_map (line_text b)) steps ++ flat_map (line_text b) lines ++ ending_text b e ++ codes "\n"
-written b Breaks = codes "breaks"
-written b Unfinished = codes "unfinished"
+-- its text, in pieces
+abbrev pub written : List Item → Run → List Text
+written b (Ends steps lines e) = pieces_of b steps lines e
+written b Breaks = codes "breaks" ∷ []
+written b Unfinished = codes "unfinished" ∷ []
 
 abbrev pub run_entry : Given → List Item → Option Sort → Run
-run_entry g b (Some (sorts.Function n)) = run_of (named b) (setting g (named b).tables) n
+run_entry g b (Some (sorts.Function n)) = program_run (named b) (setting g (named b).tables) n
 run_entry g b _ = Breaks
 
 -- it begins in @main
-abbrev pub run_bundle : Given → List Item → Text
+abbrev pub run_bundle : Given → List Item → List Text
 run_bundle g b = written b (run_entry g b (found (globals_of b).names (codes "@main")))
 
-unfoldable pub run_text : Given → Text → Text
+unfoldable pub run_pieces : Given → Text → List Text
 unfolding on tried digits tables_of alike leaves_to values_to happens_before is_coherent is_seq_cst_ordered meets_axioms options choices race tokens_from tokens_within next_of gap_len words directives common_names elements mark name numeral order global local bracketed bracketed_pair global_list local_list type_list value values dest exc keep pass_values throw_exc new_stack_clause binary compare convert refcast select bracketed_field extractvalue insertvalue computation branch branch2 switch_case switch call tailcall ret throw control new_object newhybrid alloca allocation getiref getfieldiref getelemiref shiftiref getvarpartiref addressing_form optional_order load store weak cmpxchg atomicrmw fence access trap wpexc watchpoint wpbranch trapping_form returning killing swapstack threadlocal newthread stack_switch one_value two_values three_values new_stack kill_stack thread_exit current_stack set_threadlocal get_threadlocal futex_wait futex_wake futex_wait_timeout common_inst op label labelled pair params handler head_rest head result results more_results body_rest body int_type some_types struct_type array_type hybrid_type type_form literal typedef funcsig constant global_cell funcdecl funcdef item bundle
-run_text g text = run_bundle g (bundle_in (text_answer text))
+run_pieces g text = run_bundle g (bundle_in (text_answer text))
+
+unfoldable pub run_text : Given → Text → Text
+unfolding run_pieces
+run_text g text = flat_map (λ t. t) (run_pieces g text)

@@ -1,7 +1,7 @@
 -- Runs of bundles: threads that are made until no more may be.
 use Rattle.std.specs.Prelude.{codes, ◌≡◌, refl, ◌++◌, [], ℕ, decimal, zero, suc, ◌+◌}
 use Rattle.std.specs.Fmt.{digits}
-use Rattle.model_rows.specs.Texts.{Text}
+use Rattle.run_texts.specs.Texts.{Text}
 use Rattle.model_rows.specs.Running.{definitions, plain, run_text}
 
 abbrev bundle : Text

@@ -1,7 +1,7 @@
 -- Runs of bundles: traps with a script and without.
 use Rattle.std.specs.Prelude.{codes, ◌≡◌, refl, ◌++◌, [], ◌∷◌, true, false}
 use Rattle.mu_model.specs.Clients.{TellFrames, TellKept, Pass, Resume, KeptValue}
-use Rattle.model_rows.specs.Texts.{Text}
+use Rattle.run_texts.specs.Texts.{Text}
 use Rattle.model_rows.specs.Running.{definitions, plain, run_text}
 
 abbrev bundle : Text

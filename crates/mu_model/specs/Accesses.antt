@@ -82,6 +82,6 @@ abbrev pub picking_option : Program → Configuration → Turn → Access → Ce
 picking_option p c u a cell ks = let k = pick (length ks) c.picks in on (slice_get ks k.0) (takes_option p (record c { picks = k.1 }) u a cell)
 
 -- the place may be the object's end, and its cells may be dead; then the options are those that the log allows
-abbrev pub accesses : Program → Configuration → Turn → Access → CellId → Outcome
-accesses p c u a cell =
+abbrev pub accesses_cell : Program → Configuration → Turn → Access → CellId → Outcome
+accesses_cell p c u a cell =
     tried p c u (option_map or_case (cell_in c.objects cell)) (λ there. picking_option p c u a there (choices c.rule (initial c) c.log u.thread there (wanted a)))

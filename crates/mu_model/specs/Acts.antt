@@ -13,7 +13,7 @@ use Rattle.mu_model.specs.declared.endings.Case.{Case}
 -- what a stack is entered with: values of some classes, or an exception; what is thrown of another type than ref<void> misfits every stack
 pub data Entering : Type 0 where
   Passes : List ℕ → List Value → Entering
-  Throws : Scalar → Entering
+  ThrowsInto : Scalar → Entering
   Misfits : Entering
 
 -- what is done with a cell; a comparison may be weak, and has its two orders, the expected scalar and the one that is written
@@ -45,8 +45,9 @@ pub data Act : Type 0 where
   -- memory
   Accesses : Access → CellId → Act
   Fences : Order → Act
-  -- the client is asked for values of these classes; or, where a watchpoint is disabled, it goes on there; it goes one way or the other
-  Asks : List ℕ → Act
+  -- The client is asked for values of these classes; or, where this watchpoint is disabled, it goes on there. By a watchpoint it goes
+  -- one way where that is disabled and the other where it is enabled: the client is not asked.
+  Traps : List ℕ → Act
   Watches : ℕ → List ℕ → Goal → Act
   Chooses : ℕ → Goal → Goal → Act
   -- the stack is left for values of these classes, or ends, and another is entered; a thread is started on one, with its own object
@@ -64,7 +65,8 @@ pub data Act : Type 0 where
   Waits : Bool → Scalar → CellId → Act
   Wakes : ℕ → CellId → Act
 
--- what an instruction does, where an exception goes, and the values that are kept; None stands where a name or an operand has no value
+-- what an instruction does, where an exception goes, and the values that are kept; None stands where a name or an operand
+-- has no value, or one of another kind than is wanted
 pub record Doing : Type 0 where
   pub act : Option Act
   pub exceptional : Option (Option Goal)

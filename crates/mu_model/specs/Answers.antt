@@ -1,25 +1,34 @@
 -- To believe: what a client answers.
 use Rattle.std.specs.Prelude.{ℕ, suc, Bool, true, false, ◌==◌, drop, List, [], ◌∷◌, Option, Some, None, map, slice_get, flat_map, if◌then◌else◌}
+use Rattle.ir_lex.specs.declared.name.Name.{Name}
+use Rattle.ir_tree.specs.declared.items.Item.{Item}
 use Rattle.mu_values.specs.Slots.{TypedValues}
 use Rattle.check_tables.specs.declared.tables.Tables.{Tables}
 use Rattle.check_tables.specs.Types.{stackref}
+use Rattle.check_tables.specs.Lookups.{class_of_global}
+use Rattle.bundle_check.specs.Checking.{bundle_tables}
 use Rattle.frames.specs.Activations.{Activation}
 use Rattle.typed_heap.specs.Places.{with_some}
 use Rattle.mu_model.specs.declared.lines.Note.{Note}
 use Rattle.mu_model.specs.declared.lines.Note.TheVariants.{Frame, Kept}
 use Rattle.mu_model.specs.Types.{zero_value}
-use Rattle.mu_model.specs.Clients.{Classed, With, Pass, Throw, Reply, Resume, Rebind, Exit, Stop, Argument, Told, KeptValue, Action, TellFrames, TellKept, Watch, Entry, Client, Answer}
-use Rattle.mu_model.specs.Operands.{all_some}
+use Rattle.mu_model.specs.Clients.{Classed, With, Pass, Throw, Reply, Resume, Rebind, Exit, Stop, Argument, Told, KeptValue, Action, TellFrames, TellKept, Watch, ScriptEntry, Client, Answer}
+use Rattle.mu_model.specs.Operands.{global_operand, all_some}
 use Rattle.mu_model.specs.Outcomes.{View}
 
--- ---- an entry of a script: None where it names a frame or a kept value that is not there, or a target that is no stack
+-- ---- what a global name of a script stands for, with the class that it has as an operand: a constant, a global's place, a function
 
-abbrev pub value_at : TypedValues → ℕ → Option Classed
-value_at vs n = with_some (slice_get vs.types n) (λ c. with_some (slice_get vs.values n) (λ v. Some (c, v)))
+abbrev pub global_told : List Item → Name → Option Classed
+global_told bundle n = with_some (class_of_global (bundle_tables bundle) n) (λ c. with_some (global_operand bundle n) (λ v. Some (c, v)))
+
+-- ---- an entry of a script: None where it names a frame or a kept value that is not there, or a target whose type is not stackref
+
+abbrev pub typed_value_at : TypedValues → ℕ → Option Classed
+typed_value_at vs n = with_some (slice_get vs.types n) (λ c. with_some (slice_get vs.values n) (λ v. Some (c, v)))
 
 abbrev pub argument_value : List Activation → Argument → Option Classed
 argument_value fs (Told v) = Some v
-argument_value fs (KeptValue n k) = with_some (slice_get fs n) (λ f. value_at f.kept k)
+argument_value fs (KeptValue n k) = with_some (slice_get fs n) (λ f. typed_value_at f.kept k)
 
 abbrev pub typed : List Classed → TypedValues
 typed vs = record { types = map (λ (v : Classed). v.0) vs; values = map (λ (v : Classed). v.1) vs }
@@ -49,7 +58,7 @@ watches_of [] = []
 watches_of (Watch n enabled ∷ more) = (n, enabled) ∷ watches_of more
 watches_of (a ∷ more) = watches_of more
 
-abbrev pub entry_answer : Tables → List Activation → Entry → Option Answer
+abbrev pub entry_answer : Tables → List Activation → ScriptEntry → Option Answer
 entry_answer p fs e =
     with_some (all_some (map (notes_of fs) e.actions)) (λ ns. with_some (reply_of p fs e.reply) (λ r.
     Some (record { notes = flat_map (λ n. n) ns; watches = watches_of e.actions; reply = r })))
@@ -63,7 +72,7 @@ plain_answer r = record { notes = []; watches = []; reply = r }
 abbrev pub blank : Tables → List ℕ → TypedValues
 blank p cs = record { types = cs; values = map (zero_value p) cs }
 
-abbrev pub answer_by : Tables → View → Bool → List Entry → Option Answer
+abbrev pub answer_by : Tables → View → Bool → List ScriptEntry → Option Answer
 answer_by p view auto (e ∷ es) = entry_answer p view.frames e
 answer_by p view true [] = Some (plain_answer (Resume (Pass (blank p view.asked))))
 answer_by p view false [] = Some (plain_answer Stop)

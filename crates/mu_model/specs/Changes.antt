@@ -1,5 +1,5 @@
 -- To believe: the small changes of a configuration that acts share.
-use Rattle.std.specs.Prelude.{ℕ, zero, suc, ◌%◌, nat_le, List, [], ◌∷◌, Option, Some, None, fold, length, slice_set, flat_map, option_map, if◌then◌else◌}
+use Rattle.std.specs.Prelude.{ℕ, zero, suc, ◌%◌, nat_le, List, [], ◌∷◌, None, fold, length, slice_set, flat_map, option_map, if◌then◌else◌}
 use Rattle.typed_heap.specs.Objects.{killed}
 use Rattle.frames.specs.Activations.{Activation}
 use Rattle.mem_axioms.specs.declared.types.Event.{Event}

@@ -22,7 +22,7 @@ pub data Reply (Many One : Type 0) : Type 0 where
 
 -- ---- scripts
 
--- a constant, a global or a function, by its value and its class; or a kept value, by the numbers of its frame and of itself
+-- a constant, a global or a function, by its value and its class (`global_told` in Answers); or a kept value, by the numbers of its frame and of itself
 pub data Argument : Type 0 where
   Told : Classed → Argument
   KeptValue : ℕ → ℕ → Argument
@@ -34,18 +34,18 @@ pub data Action : Type 0 where
   -- a watchpoint is enabled or not from here on
   Watch : ℕ → Bool → Action
 
-pub record Entry : Type 0 where
+pub record ScriptEntry : Type 0 where
   pub actions : List Action
   pub reply : Reply (List Argument) Argument
 
 -- the entries that are left, and whether zero and NULL are passed after them; else the answer after them is to stop
 pub record Client : Type 0 where
-  pub entries : List Entry
+  pub entries : List ScriptEntry
   pub auto : Bool
 
 -- ---- answers
 
--- its records, which watchpoints are enabled or not from then on, and how it ends
+-- its records, which are of frames and of kept values alone; which watchpoints are enabled or not from then on, and how it ends
 pub record Answer : Type 0 where
   pub notes : List Note
   pub watches : List (ℕ × Bool)

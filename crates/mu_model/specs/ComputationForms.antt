@@ -17,7 +17,7 @@ use Rattle.typed_heap.specs.Objects.{leaf_classes}
 use Rattle.typed_heap.specs.Places.{with_some, leaves_together}
 use Rattle.frames.specs.Activations.{Value}
 use Rattle.mu_model.specs.declared.endings.Case.TheVariants as cases
-use Rattle.mu_model.specs.Types.{graph_of, class_definition, class_width}
+use Rattle.mu_model.specs.Types.{type_graph, class_definition, class_width}
 use Rattle.mu_model.specs.Acts.{Act, Gives, Faults, Casts}
 use Rattle.mu_model.specs.Operands.{Scope, tables_in, class, value_named, scalar_in, bits_in}
 
@@ -66,7 +66,7 @@ pub record Part : Type 0 where
 abbrev pub part_of : Tables → ℕ → ℕ → Option Part
 part_of p c n =
     with_some (fields_of (class_definition p c)) (λ fields. with_some (slice_get fields n) (λ t.
-    Some (record { before = leaves_together (graph_of p) (take n fields); size = length (leaf_classes (graph_of p) t) })))
+    Some (record { before = leaves_together (type_graph p) (take n fields); size = length (leaf_classes (type_graph p) t) })))
 
 -- the scalars of the field
 abbrev pub extractvalue_act : Tables → ℕ → ℕ → Option Value → Option Act

@@ -11,7 +11,7 @@ use Rattle.typed_heap.specs.Places.{with_some}
 use Rattle.frames.specs.Activations.{Value, Goal}
 use Rattle.mu_model.specs.declared.endings.Case.TheVariants as cases
 use Rattle.mu_model.specs.Acts.{Act, Faults, Goes, Calls, Replaces, Returns, Throws}
-use Rattle.mu_model.specs.Operands.{Scope, tables_in, constant_value, value_named, values_named, goal_named, scalar_in, bits_in}
+use Rattle.mu_model.specs.Operands.{Scope, tables_in, global_operand, value_named, values_named, goal_named, scalar_in, bits_in}
 use Rattle.mu_model.specs.ComputationForms.{scalar_act}
 
 -- ---- BRANCH
@@ -60,7 +60,7 @@ abbrev pub function_gives : Scope → List ℕ
 function_gives s = noted_classes (gives_of (signature_named (tables_in s) s.function.signature))
 
 abbrev pub arm_named : Scope → List Value → SwitchCase → Arm
-arm_named s vars c = record { constant = constant_value s c.constant; goal = goal_named s vars c.destination }
+arm_named s vars c = record { constant = global_operand s.bundle c.constant; goal = goal_named s vars c.destination }
 
 abbrev pub control_act : Scope → List Value → ControlFlow → Option Act
 control_act s vars (flows.Branch d) = branch_act (goal_named s vars d)

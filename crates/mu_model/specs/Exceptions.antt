@@ -8,7 +8,7 @@ use Rattle.mu_model.specs.declared.lines.Note.{Note}
 use Rattle.mu_model.specs.declared.lines.Note.TheVariants.{Returned}
 use Rattle.mu_model.specs.declared.endings.Case.{Case}
 use Rattle.mu_model.specs.declared.endings.Case.TheVariants.{NoBody, Uncaught}
-use Rattle.mu_model.specs.Types.{results_of}
+use Rattle.mu_model.specs.Types.{classes_given}
 use Rattle.mu_model.specs.Configuration.{Configuration}
 use Rattle.mu_model.specs.Acts.{Program}
 use Rattle.mu_model.specs.Frames.{called, passed, caught}
@@ -19,16 +19,16 @@ use Rattle.mu_model.specs.Outcomes.{Outcome, Next, next, onto, tried}
 -- ---- calls
 
 -- the first block of a function, where it has one
-abbrev pub body_of : Option (Option ℕ) → Option (Result ℕ Case)
-body_of b = option_map (λ o. ok_or o NoBody) b
+abbrev pub body_or_case : Option (Option ℕ) → Option (Result ℕ Case)
+body_or_case b = option_map (λ o. ok_or o NoBody) b
 
 -- a frame above this one, which waits for what the function gives
 abbrev pub calls : Program → Configuration → Turn → ℕ → List Value → Outcome
-calls p c u f vs = tried p c u (body_of (p.body f)) (λ b. next c u (with_some (waiting u (results_of p.tables f)) (λ w. Some (called p f vs b ∷ w ∷ u.below))))
+calls p c u f vs = tried p c u (body_or_case (p.body f)) (λ b. next c u (with_some (waiting u (classes_given p.tables f)) (λ w. Some (called p f vs b ∷ w ∷ u.below))))
 
 -- a frame in place of this one, which ends
 abbrev pub replaces : Program → Configuration → Turn → ℕ → List Value → Outcome
-replaces p c u f vs = tried p c u (body_of (p.body f)) (λ b. next (frames_end (u.top ∷ []) c) u (onto u (called p f vs b)))
+replaces p c u f vs = tried p c u (body_or_case (p.body f)) (λ b. next (frames_end (u.top ∷ []) c) u (onto u (called p f vs b)))
 
 -- ---- returns
 
@@ -44,20 +44,20 @@ returns p c u vs (f ∷ fs) = next (frames_end (u.top ∷ []) c) u (with_some (p
 -- ---- exceptions
 
 -- the frames that are left, and those that ended
-pub record Entered : Type 0 where
+pub record EnteredFrames : Type 0 where
   pub frames : List Activation
   pub ended : List Activation
 
 -- An exception goes to the first frame from the top that has a handler, and the frames above it end.
-abbrev pub also_ended : Activation → Result Entered Case → Result Entered Case
+abbrev pub also_ended : Activation → Result EnteredFrames Case → Result EnteredFrames Case
 also_ended f (Err k) = Err k
 also_ended f (Ok r) = Ok (record r { ended = f ∷ r.ended })
 
-abbrev pub caught_by : Program → Scalar → Activation → List Activation → Option Goal → Option (Result Entered Case) → Option (Result Entered Case)
+abbrev pub caught_by : Program → Scalar → Activation → List Activation → Option Goal → Option (Result EnteredFrames Case) → Option (Result EnteredFrames Case)
 caught_by p e f fs (Some g) below = with_some (caught p f g e) (λ h. Some (Ok (record { frames = h ∷ fs; ended = [] })))
 caught_by p e f fs None below = option_map (also_ended f) below
 
-abbrev pub unwinding : Program → Scalar → List Activation → Option (Result Entered Case)
+abbrev pub unwinding : Program → Scalar → List Activation → Option (Result EnteredFrames Case)
 unwinding p e [] = Some (Err Uncaught)
 unwinding p e (f ∷ fs) = caught_by p e f fs f.handler (unwinding p e fs)
 

@@ -1,23 +1,16 @@
 -- To believe: where a frame stands next, and what it waits for.
-use Rattle.std.specs.Prelude.{ℕ, suc, Bool, true, false, List, [], ◌∷◌, ◌++◌, Option, Some, None, if◌then◌else◌}
+use Rattle.std.specs.Prelude.{ℕ, suc, Bool, true, List, [], ◌∷◌, ◌++◌, Option, Some, None, if◌then◌else◌}
 use Rattle.mu_values.specs.declared.scalars.Scalar.{Scalar}
-use Rattle.mu_values.specs.Slots.{TypedValues}
 use Rattle.typed_heap.specs.Places.{with_some}
 use Rattle.frames.specs.Activations.{Value, Goal, Activation}
-use Rattle.mu_model.specs.Types.{parameters_of}
+use Rattle.frames.specs.Chains.{nothing_kept, stands}
+use Rattle.mu_model.specs.Types.{classes_taken}
 use Rattle.mu_model.specs.Acts.{Program}
-
-abbrev pub nothing_kept : TypedValues
-nothing_kept = record { types = []; values = [] }
 
 -- a frame of a function, before its parameters
 abbrev pub fresh_frame : Program → ℕ → ℕ → Activation
 fresh_frame p f block =
-    record { block = block; at = 0; vars = []; fresh = true; waits = parameters_of p.tables f; handler = None; kept = nothing_kept; objects = [] }
-
--- it stands at a place, with these values, and waits for nothing
-abbrev pub stands : Activation → ℕ → ℕ → List Value → Activation
-stands f block at vars = record f { block = block; at = at; vars = vars; fresh = false; waits = []; handler = None; kept = nothing_kept }
+    record { block = block; at = 0; vars = []; fresh = true; waits = classes_taken p.tables f; handler = None; kept = nothing_kept; objects = [] }
 
 -- the frame of a function that is called with these values
 abbrev pub called : Program → ℕ → List Value → ℕ → Activation

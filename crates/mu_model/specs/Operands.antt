@@ -1,5 +1,5 @@
 -- To believe: what the names and operands of an instruction stand for, in its block, with the values of the block's variables.
-use Rattle.std.specs.Prelude.{ℕ, suc, ◌+◌, List, [], ◌∷◌, ◌++◌, Option, Some, None, map, length, slice_get, nat_eq, zip, if◌then◌else◌}
+use Rattle.std.specs.Prelude.{ℕ, suc, ◌+◌, List, [], ◌∷◌, ◌++◌, Option, Some, None, map, slice_get, nat_eq, zip, if◌then◌else◌}
 use Rattle.demands.specs.Names.{Names, found}
 use Rattle.ir_lex.specs.declared.name.Name.{Name}
 use Rattle.ir_tree.specs.declared.operands.Operand.{Operand}
@@ -59,8 +59,8 @@ abbrev pub block_from : ℕ → List Block → Names ℕ
 block_from k [] = []
 block_from k (b ∷ bs) = (b.head.name.text, k) ∷ block_from (suc k) bs
 
-abbrev pub block_named : Scope → Name → Option ℕ
-block_named s n = found (block_from s.first s.function.blocks) n.text
+abbrev pub target_block : Scope → Name → Option ℕ
+target_block s n = found (block_from s.first s.function.blocks) n.text
 
 -- ---- operands: a local name is a variable of the block, a global one a constant, a global's place or a function
 
@@ -72,8 +72,8 @@ global_value bundle (Some (sorts.Written n)) = None
 global_value bundle (Some (sorts.Signature n)) = None
 global_value bundle None = None
 
-abbrev pub constant_value : Scope → Name → Option Value
-constant_value s n = global_value s.bundle (found (globals_of s.bundle).names n.text)
+abbrev pub global_operand : List Item → Name → Option Value
+global_operand bundle n = global_value bundle (found (globals_of bundle).names n.text)
 
 -- a variable has a value once it stands among those of the frame
 abbrev pub local_value : Scope → List Value → Name → Option Value
@@ -81,7 +81,7 @@ local_value s vars n = found (zip (variables s.block) vars) n.text
 
 abbrev pub value_named : Scope → List Value → Operand → Option Value
 value_named s vars (operands.Local n) = local_value s vars n
-value_named s vars (operands.Global n) = constant_value s n
+value_named s vars (operands.Global n) = global_operand s.bundle n
 
 -- all of them, where each is there
 abbrev pub all_some : {A : Type 0} → List (Option A) → Option (List A)
@@ -93,11 +93,11 @@ values_named s vars os = all_some (map (value_named s vars) os)
 
 -- ---- destinations
 
-abbrev pub goal_of : Option ℕ → Option (List Value) → Option Goal
-goal_of block values = with_some block (λ k. with_some values (λ vs. Some (record { block = k; values = vs })))
+abbrev pub goal_to : Option ℕ → Option (List Value) → Option Goal
+goal_to block values = with_some block (λ k. with_some values (λ vs. Some (record { block = k; values = vs })))
 
 abbrev pub goal_named : Scope → List Value → Destination → Option Goal
-goal_named s vars d = goal_of (block_named s d.block) (values_named s vars d.arguments.values)
+goal_named s vars d = goal_to (target_block s d.block) (values_named s vars d.arguments.values)
 
 -- ---- what a value is
 

@@ -51,11 +51,11 @@ abbrev pub onto : Turn → Activation → Option (List Activation)
 onto u f = Some (f ∷ u.below)
 
 -- its instruction has these results
-abbrev pub given : Program → Configuration → Turn → List Value → Outcome
-given p c u vs = next c u (with_some (passed p u.top vs) (onto u))
+abbrev pub has_results : Program → Configuration → Turn → List Value → Outcome
+has_results p c u vs = next c u (with_some (passed p u.top vs) (onto u))
 
-abbrev pub gives : Program → Configuration → Turn → Scalar → Outcome
-gives p c u s = given p c u ((s ∷ []) ∷ [])
+abbrev pub has_result : Program → Configuration → Turn → Scalar → Outcome
+has_result p c u s = has_results p c u ((s ∷ []) ∷ [])
 
 abbrev pub ended : Configuration → Ending → Outcome
 ended c e = End (reverse c.lines) e

@@ -21,6 +21,7 @@ use Rattle.code_check.specs.TypedLaws.{all_gives}
 use Rattle.bundle_laws.specs.Accepted.{head_classes}
 use Rattle.typed_heap.specs.Places.{with_some}
 use Rattle.frames.specs.Activations.{Value, Goal}
+use Rattle.frames.specs.Chains.{nothing_kept}
 use Rattle.mu_model.specs.Acts.{Act, Doing, Program}
 use Rattle.mu_model.specs.Operands.{Scope, tables_in, variables, local_value, all_some, goal_named}
 use Rattle.mu_model.specs.ComputationForms.{computation_act}
@@ -54,15 +55,15 @@ optional_goal s vars (Some d) = some_goal (goal_named s vars d)
 abbrev pub variable_classes : Scope → List ℕ
 variable_classes s = head_classes (tables_in s) s.block.head ++ joined (all_gives (tables_in s) s.block.insts)
 
-abbrev pub local_class : Scope → Name → Option ℕ
-local_class s n = found (zip (variables s.block) (variable_classes s)) n.text
+abbrev pub kept_class : Scope → Name → Option ℕ
+kept_class s n = found (zip (variables s.block) (variable_classes s)) n.text
 
 abbrev pub typed_values : Option (List ℕ) → Option (List Value) → Option TypedValues
 typed_values cs vs = with_some cs (λ types. with_some vs (λ values. Some (record { types = types; values = values })))
 
 abbrev pub kept_named : Scope → List Value → Option (List Name) → Option TypedValues
-kept_named s vars None = Some (record { types = []; values = [] })
-kept_named s vars (Some ns) = typed_values (all_some (map (local_class s) ns)) (all_some (map (local_value s vars) ns))
+kept_named s vars None = Some nothing_kept
+kept_named s vars (Some ns) = typed_values (all_some (map (kept_class s) ns)) (all_some (map (local_value s vars) ns))
 
 abbrev pub does_named : Scope → List Value → Inst → Doing
 does_named s vars i =

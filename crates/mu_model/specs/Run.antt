@@ -9,7 +9,7 @@ use Rattle.typed_heap.specs.Places.{with_some}
 use Rattle.mem_axioms.specs.declared.types.Rule.{Rule}
 use Rattle.mu_model.specs.declared.lines.Line.{Line}
 use Rattle.mu_model.specs.declared.endings.Ending.{Ending}
-use Rattle.mu_model.specs.Types.{graph_of, class_definition}
+use Rattle.mu_model.specs.Types.{type_graph, class_definition}
 use Rattle.mu_model.specs.Clients.{Client}
 use Rattle.mu_model.specs.Configuration.{Active, Configuration}
 use Rattle.mu_model.specs.Acts.{Program}
@@ -24,9 +24,9 @@ abbrev pub with_client : Client → Outcome → Outcome
 with_client k (Next c) = Next (record c { client = k })
 with_client k o = o
 
-abbrev pub told : Program → Client → Outcome → Outcome
-told p k (Asks view go) = with_client (advanced k) (go (answer_of p.tables view k))
-told p k o = o
+abbrev pub client_answers : Program → Client → Outcome → Outcome
+client_answers p k (Asks view go) = with_client (advanced k) (go (answer_of p.tables view k))
+client_answers p k o = o
 
 -- ---- the run
 
@@ -50,18 +50,18 @@ goes_on more Stuck = Breaks
 -- within so many steps
 abbrev pub run : Program → ℕ → Configuration → Run
 run p zero c = Unfinished
-run p (suc n) c = goes_on (run p n) (told p c.client (step p c))
+run p (suc n) c = goes_on (run p n) (client_answers p c.client (step p c))
 
 -- ---- the first configuration
 
 -- the leaves of what a place of the class leads to
 abbrev pub target_leaves : Tables → Option TypeDef → List ℕ
-target_leaves p (Some (Iref t)) = leaf_classes (graph_of p) t
+target_leaves p (Some (Iref t)) = leaf_classes (type_graph p) t
 target_leaves p _ = []
 
 -- an object for each global, in text order
 abbrev pub global_objects : Tables → List HeapObject
-global_objects p = map (λ c. object_of (graph_of p) (target_leaves p (class_definition p c))) p.global_cells
+global_objects p = map (λ c. object_of (type_graph p) (target_leaves p (class_definition p c))) p.global_cells
 
 -- What a run is given: the objects that are there, those of the globals first; the client, the schedule, how many cells may be made
 -- beside those of the globals, how many steps, and the rule of release sequences.
@@ -104,5 +104,5 @@ abbrev pub run_from : Program → Option Configuration → Run
 run_from p None = Breaks
 run_from p (Some c) = run p (suc c.budget) c
 
-abbrev pub run_of : Program → Setting → ℕ → Run
-run_of p s f = run_from p (first_configuration p s f)
+abbrev pub program_run : Program → Setting → ℕ → Run
+program_run p s f = run_from p (first_configuration p s f)

@@ -1,6 +1,5 @@
 -- To believe: instructions that enter stacks, and instructions under names.
 use Rattle.std.specs.Prelude.{ℕ, Bool, true, false, List, Option, Some, None, option_map}
-use Rattle.ir_tree.specs.declared.operands.Operand.{Operand}
 use Rattle.ir_tree.specs.declared.operands.NewStackClause.{NewStackClause}
 use Rattle.ir_tree.specs.declared.operands.NewStackClause.TheVariants as clauses
 use Rattle.ir_tree.specs.declared.switching.StackSwitch.{StackSwitch}
@@ -11,7 +10,7 @@ use Rattle.mu_values.specs.declared.scalars.Scalar.{Scalar}
 use Rattle.mu_values.specs.declared.scalars.Scalar.TheVariants.{Null}
 use Rattle.typed_heap.specs.Places.{with_some}
 use Rattle.frames.specs.Activations.{Value}
-use Rattle.mu_model.specs.Acts.{Entering, Passes, Throws, Act, Swaps, Leaves, Starts, MakesStack, KillsStack, Tells, Exits, SetsOwn, TellsOwn, Waits, Wakes}
+use Rattle.mu_model.specs.Acts.{Entering, Passes, ThrowsInto, Act, Swaps, Leaves, Starts, MakesStack, KillsStack, Tells, Exits, SetsOwn, TellsOwn, Waits, Wakes}
 use Rattle.mu_model.specs.Operands.{Scope, classes, value_named, values_named, scalar_in, bits_in}
 use Rattle.mu_model.specs.ComputationForms.{scalar_act}
 use Rattle.mu_model.specs.ControlForms.{function_act}
@@ -23,7 +22,7 @@ abbrev pub pass_values : List ℕ → Option (List Value) → Option Entering
 pass_values cs vs = with_some vs (λ values. Some (Passes cs values))
 
 abbrev pub throw_exc : Option Value → Option Entering
-throw_exc e = with_some (scalar_in e) (λ s. Some (Throws s))
+throw_exc e = with_some (scalar_in e) (λ s. Some (ThrowsInto s))
 
 abbrev pub entering_named : Scope → List Value → NewStackClause → Option Entering
 entering_named s vars (clauses.PassValues ts a) = pass_values (classes s ts) (values_named s vars a.values)

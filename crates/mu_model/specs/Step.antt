@@ -11,13 +11,13 @@ use Rattle.mu_model.specs.Acts as acts
 use Rattle.mu_model.specs.Acts.{Act, Program}
 use Rattle.mu_model.specs.Changes.{pick, logged, thread_changes}
 use Rattle.mu_model.specs.Turns.{Turn, turn_of}
-use Rattle.mu_model.specs.Outcomes.{Outcome, End, on, given, gives, refused}
+use Rattle.mu_model.specs.Outcomes.{Outcome, End, on, has_results, has_result, refused}
 use Rattle.mu_model.specs.Exceptions.{calls, replaces, finishes, returns, throws}
-use Rattle.mu_model.specs.EnteringStacks.{swaps, leaves, starts, makes_stack, kills_stack}
+use Rattle.mu_model.specs.EnteringStacks.{swaps, swaps_killing, starts, makes_stack, kills_stack}
 use Rattle.mu_model.specs.Objects.{makes, makes_hybrid, makes_own, casts, finds}
-use Rattle.mu_model.specs.Accesses.{accesses}
+use Rattle.mu_model.specs.Accesses.{accesses_cell}
 use Rattle.mu_model.specs.Waiting.{futex_waits, futex_wakes, is_of, times_out}
-use Rattle.mu_model.specs.Traps.{trapped, goes, watches, chooses}
+use Rattle.mu_model.specs.Traps.{trapped, goes, meets_watchpoint, chooses}
 
 -- ---- acts
 
@@ -25,10 +25,10 @@ abbrev pub with_own : Scalar → Thread → Thread
 with_own r t = record t { own = r }
 
 abbrev pub tells_own : Program → Configuration → Turn → Thread → Outcome
-tells_own p c u t = gives p c u t.own
+tells_own p c u t = has_result p c u t.own
 
 abbrev pub performed : Program → Configuration → Turn → Act → Outcome
-performed p c u (acts.Gives vs) = given p c u vs
+performed p c u (acts.Gives vs) = has_results p c u vs
 performed p c u (acts.Faults k) = refused p c u k
 performed p c u (acts.Goes g) = goes c u g
 performed p c u (acts.Calls f vs) = calls p c u f vs
@@ -40,19 +40,19 @@ performed p c u (acts.Finds way s) = finds p c u way s
 performed p c u (acts.Makes t) = makes p c u t
 performed p c u (acts.MakesHybrid t many) = makes_hybrid p c u t many
 performed p c u (acts.MakesOwn t) = makes_own p c u t
-performed p c u (acts.Accesses a cell) = accesses p c u a cell
-performed p c u (acts.Fences o) = given p (logged u.thread (Fence o) c) u []
-performed p c u (acts.Asks cs) = trapped p c u None cs
-performed p c u (acts.Watches n cs disabled) = watches p c u n cs disabled
+performed p c u (acts.Accesses a cell) = accesses_cell p c u a cell
+performed p c u (acts.Fences o) = has_results p (logged u.thread (Fence o) c) u []
+performed p c u (acts.Traps cs) = trapped p c u None cs
+performed p c u (acts.Watches n cs disabled) = meets_watchpoint p c u n cs disabled
 performed p c u (acts.Chooses n disabled enabled) = chooses c u n disabled enabled
 performed p c u (acts.Swaps s cs e) = swaps p c u s cs e
-performed p c u (acts.Leaves s e) = leaves p c u s e
+performed p c u (acts.Leaves s e) = swaps_killing p c u s e
 performed p c u (acts.Starts s own e) = starts p c u s own e
 performed p c u (acts.MakesStack f) = makes_stack p c u f
 performed p c u (acts.KillsStack s) = kills_stack p c u s
-performed p c u acts.Tells = gives p c u (scalars.Stack u.stack)
+performed p c u acts.Tells = has_result p c u (scalars.Stack u.stack)
 performed p c u acts.Exits = finishes c u (Exited u.thread)
-performed p c u (acts.SetsOwn r) = given p (thread_changes u.thread (with_own r) c) u []
+performed p c u (acts.SetsOwn r) = has_results p (thread_changes u.thread (with_own r) c) u []
 performed p c u acts.TellsOwn = on (slice_get c.threads u.thread) (λ t. on t (tells_own p c u))
 performed p c u (acts.Waits timed v cell) = futex_waits p c u timed v cell
 performed p c u (acts.Wakes many cell) = futex_wakes p c u many cell
@@ -87,10 +87,10 @@ abbrev pub picking_thread : Program → Configuration → List ℕ → Outcome
 picking_thread p c is = let k = pick (length is) c.picks in on (slice_get is k.0) (turns p (picked c k.1))
 
 -- First no thread is left; then all that are left wait without a limit; then no step may be made any more. Else a thread is picked.
-abbrev pub tested : Program → Configuration → List ℕ → List ℕ → Outcome
-tested p c [] is = End [] Done
-tested p c (t ∷ ts) [] = End [] (AllWaiting (t ∷ ts))
-tested p c (t ∷ ts) (i ∷ is) = if c.steps == c.budget then End [] (Budget c.steps) else picking_thread p c (i ∷ is)
+abbrev pub ends_or_picks : Program → Configuration → List ℕ → List ℕ → Outcome
+ends_or_picks p c [] is = End [] Done
+ends_or_picks p c (t ∷ ts) [] = End [] (AllWaiting (t ∷ ts))
+ends_or_picks p c (t ∷ ts) (i ∷ is) = if c.steps == c.budget then End [] (Budget c.steps) else picking_thread p c (i ∷ is)
 
 abbrev pub step : Program → Configuration → Outcome
-step p c = tested p c (threads_from 0 c.threads) (runnable c)
+step p c = ends_or_picks p c (threads_from 0 c.threads) (runnable c)

@@ -1,10 +1,10 @@
 -- To believe: instructions that ask the client.
-use Rattle.std.specs.Prelude.{ℕ, List, Option, Some, None}
+use Rattle.std.specs.Prelude.{ℕ, List, Option, Some}
 use Rattle.ir_tree.specs.declared.trapping.Trapping.{Trapping}
 use Rattle.ir_tree.specs.declared.trapping.Trapping.TheVariants as trappings
 use Rattle.typed_heap.specs.Places.{with_some}
 use Rattle.frames.specs.Activations.{Value, Goal}
-use Rattle.mu_model.specs.Acts.{Act, Asks, Watches, Chooses}
+use Rattle.mu_model.specs.Acts.{Act, Traps, Watches, Chooses}
 use Rattle.mu_model.specs.Operands.{Scope, classes, goal_named}
 
 -- ---- WATCHPOINT: it goes on at the first destination where it is disabled
@@ -20,6 +20,6 @@ wpbranch_act n d e = with_some d (λ g. with_some e (λ h. Some (Chooses n g h))
 -- ---- by name
 
 abbrev pub trapping_act : Scope → List Value → Trapping → Option Act
-trapping_act s vars (trappings.Trap ts e k) = Some (Asks (classes s ts))
+trapping_act s vars (trappings.Trap ts e k) = Some (Traps (classes s ts))
 trapping_act s vars (trappings.Watchpoint n ts d e x k) = watchpoint_act n.number.magnitude (classes s ts) (goal_named s vars d)
 trapping_act s vars (trappings.Wpbranch n d e) = wpbranch_act n.number.magnitude (goal_named s vars d) (goal_named s vars e)

@@ -1,5 +1,5 @@
 -- To believe: traps, watchpoints, and what comes of the client's answer.
-use Rattle.std.specs.Prelude.{ℕ, suc, Bool, ◌==◌, not, List, [], ◌∷◌, Option, Some, None, map, filter, slice_get, flat_map, fold, reverse, ◌++◌, if◌then◌else◌}
+use Rattle.std.specs.Prelude.{ℕ, Bool, ◌==◌, not, List, ◌∷◌, Option, Some, None, map, filter, fold, reverse, ◌++◌, if◌then◌else◌}
 use Rattle.std.specs.List.{list_any}
 use Rattle.mu_values.specs.declared.scalars.Scalar.{Scalar}
 use Rattle.mu_values.specs.declared.scalars.Scalar.TheVariants as scalars
@@ -15,7 +15,7 @@ use Rattle.mu_model.specs.declared.endings.Case.TheVariants.{ClientMisuse}
 use Rattle.mu_model.specs.declared.endings.Ending.TheVariants as endings
 use Rattle.mu_model.specs.Clients.{Classed, With, Pass, Throw, Reply, Resume, Rebind, Exit, Stop, Answer}
 use Rattle.mu_model.specs.Configuration.{Configuration}
-use Rattle.mu_model.specs.Acts.{Entering, Passes, Throws, Misfits, Program}
+use Rattle.mu_model.specs.Acts.{Entering, Passes, ThrowsInto, Misfits, Program}
 use Rattle.mu_model.specs.Operands.{scalar_in}
 use Rattle.mu_model.specs.Frames.{arrived}
 use Rattle.mu_model.specs.Changes.{noted, thread_ends}
@@ -28,7 +28,7 @@ use Rattle.mu_model.specs.EnteringStacks.{leaving, entering, enters}
 -- an exception has the type ref<void>
 abbrev pub entering_of : Tables → With TypedValues Classed → Option Entering
 entering_of p (Pass vs) = Some (Passes vs.types vs.values)
-entering_of p (Throw v) = if v.0 == ref_void p.types then with_some (scalar_in (Some v.1)) (λ e. Some (Throws e)) else Some Misfits
+entering_of p (Throw v) = if v.0 == ref_void p.types then with_some (scalar_in (Some v.1)) (λ e. Some (ThrowsInto e)) else Some Misfits
 
 abbrev pub is_among : ℕ → List ℕ → Bool
 is_among n ns = list_any (λ m. m == n) ns
@@ -71,8 +71,8 @@ trapped p c u watchpoint cs =
 abbrev pub goes : Configuration → Turn → Goal → Outcome
 goes c u g = next c u (onto u (arrived u.top g))
 
-abbrev pub watches : Program → Configuration → Turn → ℕ → List ℕ → Goal → Outcome
-watches p c u n cs disabled = if is_among n c.watched then trapped p c u (Some n) cs else goes c u disabled
+abbrev pub meets_watchpoint : Program → Configuration → Turn → ℕ → List ℕ → Goal → Outcome
+meets_watchpoint p c u n cs disabled = if is_among n c.watched then trapped p c u (Some n) cs else goes c u disabled
 
 abbrev pub chooses : Configuration → Turn → ℕ → Goal → Goal → Outcome
 chooses c u n disabled enabled = if is_among n c.watched then goes c u enabled else goes c u disabled

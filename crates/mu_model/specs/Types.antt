@@ -11,11 +11,11 @@ use Rattle.typed_heap.specs.Objects.{leaf_classes, zeros}
 -- ---- types by class
 
 -- the graph of all types
-abbrev pub graph_of : Tables → List TypeDef
-graph_of p = p.types.definitions
+abbrev pub type_graph : Tables → List TypeDef
+type_graph p = p.types.definitions
 
 abbrev pub class_definition : Tables → ℕ → Option TypeDef
-class_definition p c = slice_get (graph_of p) c
+class_definition p c = slice_get (type_graph p) c
 
 -- the width of an int
 abbrev pub class_width : Tables → ℕ → Option ℕ
@@ -23,18 +23,18 @@ class_width p c = width_of (class_definition p c)
 
 -- zero and NULL for each leaf
 abbrev pub zero_value : Tables → ℕ → List Scalar
-zero_value p c = zeros (graph_of p) (leaf_classes (graph_of p) c)
+zero_value p c = zeros (type_graph p) (leaf_classes (type_graph p) c)
 
 -- ---- functions by number
 
 abbrev pub signature_of : Tables → ℕ → Option Signature
 signature_of p f = signature_in p (slice_get p.functions f)
 
-abbrev pub parameters_of : Tables → ℕ → List ℕ
-parameters_of p f = noted_classes (takes_of (signature_of p f))
+abbrev pub classes_taken : Tables → ℕ → List ℕ
+classes_taken p f = noted_classes (takes_of (signature_of p f))
 
-abbrev pub results_of : Tables → ℕ → List ℕ
-results_of p f = noted_classes (gives_of (signature_of p f))
+abbrev pub classes_given : Tables → ℕ → List ℕ
+classes_given p f = noted_classes (gives_of (signature_of p f))
 
 -- the class of the signature of each function
 abbrev pub signature_classes : Tables → List ℕ

@@ -17,7 +17,7 @@ use Rattle.mu_model.specs.Acts.{Loads, Program}
 use Rattle.mu_model.specs.Frames.{passed}
 use Rattle.mu_model.specs.Changes.{noted, logged, stack_becomes}
 use Rattle.mu_model.specs.Turns.{Turn, turn_of}
-use Rattle.mu_model.specs.Outcomes.{Outcome, on, onto, gives, tried, or_case}
+use Rattle.mu_model.specs.Outcomes.{Outcome, on, onto, has_result, tried, or_case}
 use Rattle.mu_model.specs.Accesses.{initial, wanted, kind_of, accessed}
 
 -- the results of a wait: of a thread that was woken 0, of one that found another value -1, of one whose time was over -3
@@ -70,7 +70,7 @@ wakes_all p wake (w ∷ ws) c = with_some (turn_of p c w.thread) (λ u. with_som
 abbrev pub wakes_these : Program → Configuration → Turn → CellId → List Waiter → Outcome
 wakes_these p c u cell ws =
     on (wakes_all p (length c.log) ws (logged u.thread (Wake cell (length ws)) (record c { waiters = without ws c.waiters })))
-    (λ d. gives p d u (Int 32 (length ws)))
+    (λ d. has_result p d u (Int 32 (length ws)))
 
 -- the oldest that wait there, and so many at most
 abbrev pub futex_wakes : Program → Configuration → Turn → ℕ → CellId → Outcome
@@ -80,4 +80,4 @@ futex_wakes p c u many cell =
 -- ---- the end of a timed wait
 
 abbrev pub times_out : Program → Configuration → Turn → Waiter → Outcome
-times_out p c u w = gives p (noted (TimedOut u.thread w.cell) (record c { waiters = without (w ∷ []) c.waiters })) u time_was_over
+times_out p c u w = has_result p (noted (TimedOut u.thread w.cell) (record c { waiters = without (w ∷ []) c.waiters })) u time_was_over

@@ -1,5 +1,7 @@
--- The text of a run: a line for each event and each record, and a last one for the ending.
+-- To believe: the text of a run: a line for each event and each record, and a last one for the ending.
 use Rattle.std.specs.Prelude.{List, [], ◌++◌, Option, Some, None, codes, decimal}
+use Rattle.mu_base.specs.declared.status.Status.{Status}
+use Rattle.mu_base.specs.declared.status.Status.TheVariants as statuses
 use Rattle.ir_tree.specs.declared.items.Item.{Item}
 use Rattle.mu_model.specs.declared.lines.Note.{Note}
 use Rattle.mu_model.specs.declared.lines.Note.TheVariants as notes
@@ -10,8 +12,8 @@ use Rattle.mu_model.specs.declared.endings.Case.TheVariants as cases
 use Rattle.mu_model.specs.declared.endings.Raced.{Raced}
 use Rattle.mu_model.specs.declared.endings.Ending.{Ending}
 use Rattle.mu_model.specs.declared.endings.Ending.TheVariants as endings
-pub use Rattle.model_rows.specs.EventTexts.{Text}
-use Rattle.model_rows.specs.EventTexts.{place_text, cell_text, thread_text, spaced, values_text, kind_text}
+pub use Rattle.run_texts.specs.EventTexts.{Text}
+use Rattle.run_texts.specs.EventTexts.{place_text, cell_text, thread_text, spaced, values_text, kind_text}
 
 -- ---- lines
 
@@ -54,3 +56,13 @@ ending_text bundle (endings.HeapFull i asked left) = codes "heap full " ++ threa
 ending_text bundle (endings.ThreadsFull i) = codes "threads full " ++ thread_text i
 ending_text bundle (endings.AllWaiting is) = codes "all waiting" ++ spaced thread_text is
 ending_text bundle (endings.Budget n) = codes "budget " ++ decimal n
+
+-- the status of the program after that ending
+abbrev pub ending_status : Ending → Status
+ending_status endings.Done = statuses.Done
+ending_status endings.Stop = statuses.Stop
+ending_status (endings.Undefined k i block at r) = statuses.Undefined
+ending_status (endings.HeapFull i asked left) = statuses.HeapFull
+ending_status (endings.ThreadsFull i) = statuses.ThreadsFull
+ending_status (endings.AllWaiting is) = statuses.AllWaiting
+ending_status (endings.Budget n) = statuses.Budget

@@ -1,0 +1,4 @@
+pub mod EventTexts
+pub mod Texts
+pub mod Pieces
+pub mod PieceExamples
