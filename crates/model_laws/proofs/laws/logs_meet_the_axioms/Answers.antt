@@ -1,0 +1,8 @@
+use Rattle.model_laws.proofs.Proved.{meets, race_free}
+use Rattle.model_laws.proofs.laws.logs_meet_the_axioms.Goals as goal
+
+pub returns-clause-axioms : goal.returns-clause-axioms
+returns-clause-axioms c = meets
+
+pub returns-clause-races : goal.returns-clause-races
+returns-clause-races c = race_free

@@ -1,0 +1,5 @@
+use Rattle.model_laws.proofs.Proved.{operands_fit}
+use Rattle.model_laws.proofs.laws.operands_fit_their_types.Goals as goal
+
+pub returns : goal.returns
+returns c = operands_fit

@@ -1,0 +1,12 @@
+pub mod Values
+pub mod Places
+pub mod AccessesFit
+pub mod ActsFit
+pub mod Programs
+pub mod FramesFit
+pub mod ThreadsFit
+pub mod LogFits
+pub mod ClientsFit
+pub mod WellTyped
+pub mod Laws
+pub mod Bounds

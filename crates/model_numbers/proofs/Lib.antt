@@ -1,0 +1,7 @@
+pub mod Names
+pub mod Operands
+pub mod Forms
+pub mod Functions
+pub mod Places
+pub mod Whole
+pub mod Classes

@@ -1,0 +1,222 @@
+-- The instructions of an accepted bundle and their code, place by place.
+use Rattle.std.proofs.Common.{◌≡◌, ℕ, zero, suc, ◌+◌, Bool, false, List, [], ◌∷◌, ◌++◌, Option, Some, None, map, length, slice_get, is_some, option_map, refl, sym, ◌∙◌, ap, subst, append_assoc, append-nil}
+use Rattle.demands.specs.Demands.{AllMet, first_unmet}
+use Rattle.demands.proofs.Meeting.{all_met}
+use Rattle.ir_lex.specs.declared.name.Name.{Name}
+use Rattle.ir_tree.specs.declared.code.Inst.{Inst}
+use Rattle.ir_tree.specs.declared.code.Parameter.{Parameter}
+use Rattle.ir_tree.specs.declared.code.Block.{Block}
+use Rattle.ir_tree.specs.declared.code.BlockHead.{BlockHead}
+use Rattle.ir_tree.specs.declared.items.Funcdef.{Funcdef}
+use Rattle.ir_tree.specs.declared.items.Item.{Item}
+use Rattle.ir_tree.specs.declared.items.Item.TheVariants as items
+use Rattle.bundle_names.specs.Naming.{name_demands}
+use Rattle.check_tables.specs.declared.tables.Tables.{Tables}
+use Rattle.check_tables.specs.Types.{ref_void}
+use Rattle.check_tables.specs.Lookups.{noted_class}
+use Rattle.code_check.specs.declared.code.Code.{Code}
+use Rattle.code_check.specs.declared.scopes.Variable.{Variable}
+use Rattle.code_check.specs.declared.scopes.Locals.{Locals}
+use Rattle.code_check.specs.Instructions.{no_locals, bound, after, gives, inst_demands, insts_demands, insts_code, is_ending, normal_of}
+use Rattle.code_check.specs.Typed.{LocalsFit, TablesFit, joined}
+use Rattle.code_check.specs.TypedLaws.{all_gives}
+use Rattle.code_check.proofs.TypedOperands.{nat_eq_is}
+use Rattle.code_check.proofs.TypedVariables.{get_more, results_fit, results_classes}
+use Rattle.code_check.proofs.TypedInstructions.{all_classes}
+use Rattle.bundle_check.specs.declared.code.BlockCode.{BlockCode}
+use Rattle.bundle_check.specs.Blocks.{bound_parameters, bound_handler, head_locals, handler_number, block_demands, blocks_demands, block_code, blocks_code}
+use Rattle.bundle_check.specs.Functions.{body_of, functions_demands, all_blocks}
+use Rattle.bundle_check.specs.Checking.{bundle_tables, bundle_blocks, check_demands}
+use Rattle.bundle_laws.proofs.Heads.{head_fits, head_has}
+use Rattle.bundle_laws.proofs.Tables.{tables_fit}
+use Rattle.typed_heap.specs.Places.{with_some}
+use Rattle.frames.specs.Activations.{Value}
+use Rattle.mu_model.specs.Operands.{Scope, tables_in, handler_texts, result_texts, variables}
+use Rattle.mu_model.specs.Programs.{optional_goal, variable_classes, does_named, scopes_in, scopes_from, scopes_of, named}
+use Rattle.model_numbers.specs.Numbered.{optional_goal_at, does_at, numbered}
+use Rattle.model_numbers.proofs.Names.{place, place_more, LocalsNamed, no_locals_named, bound_named, results_named}
+use Rattle.model_numbers.proofs.Operands.{body, ScopeFits}
+use Rattle.model_numbers.proofs.Forms.{does_same, goes_on_same}
+
+-- ---- the variables so far are the first of the block's
+
+-- their names, and their classes
+record IsKnown (s : Scope) (own rest : List (List ℕ)) (later : List ℕ) (ls : Locals) : Type 0 where
+  whole : variables s.block ≡ own ++ rest
+  names : LocalsNamed own ls
+  types : variable_classes s ≡ ls.classes ++ later
+  fits : LocalsFit ls
+
+known : (s : Scope) (own rest : List (List ℕ)) (later : List ℕ) (ls : Locals) → IsKnown s own rest later ls → ScopeFits s ls
+known s own rest later ls k = record {
+  each = λ name v e.
+      ap (λ (ns : List (List ℕ)). place ns name) k.whole ∙ place_more own rest name v.number (sym (k.names.each name) ∙ ap (option_map (λ (v : Variable). v.number)) e);
+  fits = k.fits;
+  more = λ n c e. ap (λ (cs : List ℕ). slice_get cs n) k.types ∙ get_more ls.classes later n c e;
+}
+
+-- ---- heads
+
+abbrev texts : List Name → List (List ℕ)
+texts ns = map (λ (n : Name). n.text) ns
+
+abbrev parameter_texts : List Parameter → List (List ℕ)
+parameter_texts qs = map (λ (q : Parameter). q.name.text) qs
+
+parameters_named : (p : Tables) (own : List (List ℕ)) (ls : Locals) (qs : List Parameter) → LocalsNamed own ls → LocalsNamed (own ++ parameter_texts qs) (bound_parameters p ls qs)
+parameters_named p own ls [] names = subst (λ (xs : List (List ℕ)). LocalsNamed xs ls) (sym (append-nil own)) names
+parameters_named p own ls (q ∷ qs) names =
+    subst (λ (xs : List (List ℕ)). LocalsNamed xs (bound_parameters p (bound ls q.name (noted_class p q.of_type)) qs)) (append_assoc own (q.name.text ∷ []) (parameter_texts qs))
+    (parameters_named p (own ++ q.name.text ∷ []) (bound ls q.name (noted_class p q.of_type)) qs (bound_named own ls q.name (noted_class p q.of_type) names))
+
+handler_named : (p : Tables) (own : List (List ℕ)) (ls : Locals) (n : Option Name) → LocalsNamed own ls → LocalsNamed (own ++ handler_texts n) (bound_handler p ls n)
+handler_named p own ls None names = subst (λ (xs : List (List ℕ)). LocalsNamed xs ls) (sym (append-nil own)) names
+handler_named p own ls (Some n) names = bound_named own ls n (ref_void p.types) names
+
+heads_named : (p : Tables) (h : BlockHead) → LocalsNamed (parameter_texts h.parameters ++ handler_texts h.handler) (head_locals p h)
+heads_named p h = handler_named p (parameter_texts h.parameters) (bound_parameters p no_locals h.parameters) h.handler (parameters_named p [] no_locals h.parameters no_locals_named)
+
+-- ---- instructions
+
+-- one instruction further
+next_known : (s : Scope) (own : List (List ℕ)) (ls : Locals) (ended : Bool) (i : Inst) (is : List Inst) → AllMet (inst_demands (tables_in s) (body s) ls ended i) →
+    IsKnown s own (result_texts (i ∷ is)) (joined (all_gives (tables_in s) (i ∷ is))) ls →
+    IsKnown s (own ++ texts i.results) (result_texts is) (joined (all_gives (tables_in s) is)) (after (tables_in s) ls i)
+unfolding inst_demands
+next_known s own ls ended i is m k =
+    let many : length i.results ≡ length (gives (tables_in s) i.op) = nat_eq_is (length i.results) (length (gives (tables_in s) i.op)) m.1.0 in
+    record {
+      whole = k.whole ∙ sym (append_assoc own (texts i.results) (result_texts is));
+      names = results_named own ls i.results (gives (tables_in s) i.op) many k.names;
+      types =
+          k.types
+          ∙ sym (append_assoc ls.classes (gives (tables_in s) i.op) (joined (all_gives (tables_in s) is)))
+          ∙ ap (λ (cs : List ℕ). cs ++ joined (all_gives (tables_in s) is)) (sym (results_classes ls i.results (gives (tables_in s) i.op) many));
+      fits = results_fit ls i.results (gives (tables_in s) i.op) k.fits;
+    }
+
+-- what both say of an instruction, where there is one
+abbrev Both : List Item → Scope → List Value → Option Inst → Option Code → Type 0
+Both bundle s vars i c =
+    (with_some i (λ x. Some (does_named s vars x)) ≡ with_some c (λ x. Some (does_at bundle (variable_classes s) vars x)))
+    × (with_some i (λ x. optional_goal s vars (normal_of x.op)) ≡ with_some c (λ x. optional_goal_at bundle vars x.normal))
+
+insts_same : (s : Scope) (vars : List Value) (own : List (List ℕ)) (ls : Locals) (ended : Bool) (is : List Inst) (at : ℕ) → TablesFit (tables_in s) →
+    IsKnown s own (result_texts is) (joined (all_gives (tables_in s) is)) ls → AllMet (insts_demands (tables_in s) (body s) ls ended is) →
+    Both s.bundle s vars (slice_get is at) (slice_get (insts_code (tables_in s) (body s) ls is) at)
+insts_same s vars own ls ended [] at fit k m = (refl, refl)
+insts_same s vars own ls ended (i ∷ is) zero fit k m = (
+  ap (λ x. Some x) (does_same s ls ended i fit (known s own (result_texts (i ∷ is)) (joined (all_gives (tables_in s) (i ∷ is))) ls k) m.0 vars),
+  goes_on_same s ls ended i
+      (known s (own ++ texts i.results) (result_texts is) (joined (all_gives (tables_in s) is)) (after (tables_in s) ls i) (next_known s own ls ended i is m.0 k)) m.0 vars,
+)
+insts_same s vars own ls ended (i ∷ is) (suc at) fit k m =
+    insts_same s vars (own ++ texts i.results) (after (tables_in s) ls i) (is_ending i.op) is at fit (next_known s own ls ended i is m.0 k) m.1
+
+-- ---- blocks
+
+-- a block and its code: its classes, whether it has a handler, and each instruction
+record BlockIsSame (bundle : List Item) (s : Scope) (c : BlockCode) : Type 0 where
+  types : variable_classes s ≡ c.classes
+  handler : is_some s.block.head.handler ≡ is_some c.handler
+  each : (vars : List Value) (at : ℕ) → Both bundle s vars (slice_get s.block.insts at) (slice_get c.code at)
+
+handler_same : (h : BlockHead) (o : Option Name) → is_some o ≡ is_some (handler_number h o)
+handler_same h None = refl
+handler_same h (Some n) = refl
+
+head_known : (s : Scope) → IsKnown s (parameter_texts s.block.head.parameters ++ handler_texts s.block.head.handler) (result_texts s.block.insts)
+    (joined (all_gives (tables_in s) s.block.insts)) (head_locals (tables_in s) s.block.head)
+head_known s = record {
+  whole = refl;
+  names = heads_named (tables_in s) s.block.head;
+  types = ap (λ (cs : List ℕ). cs ++ joined (all_gives (tables_in s) s.block.insts)) (sym (head_has (tables_in s) s.block.head));
+  fits = head_fits (tables_in s) s.block.head;
+}
+
+block_same : (s : Scope) (item k : ℕ) → TablesFit (tables_in s) → AllMet (block_demands (tables_in s) (body s) s.block) →
+    BlockIsSame s.bundle s (block_code (tables_in s) (body s) item k s.block)
+block_same s item k fit m = record {
+  types =
+      sym (all_classes (tables_in s) (body s) (head_locals (tables_in s) s.block.head) false s.block.insts m.1.0
+      ∙ ap (λ (cs : List ℕ). cs ++ joined (all_gives (tables_in s) s.block.insts)) (head_has (tables_in s) s.block.head));
+  handler = handler_same s.block.head s.block.head.handler;
+  each = λ vars at.
+      insts_same s vars (parameter_texts s.block.head.parameters ++ handler_texts s.block.head.handler) (head_locals (tables_in s) s.block.head) false s.block.insts at fit
+      (head_known s) m.1.0;
+}
+
+-- blocks and their code, which are equally many
+AllSame : List Item → List Scope → List BlockCode → Type 0
+AllSame bundle [] [] = Unit {0}
+AllSame bundle [] (c ∷ cs) = ⊥
+AllSame bundle (s ∷ ss) [] = ⊥
+AllSame bundle (s ∷ ss) (c ∷ cs) = BlockIsSame bundle s c × AllSame bundle ss cs
+
+both_lists : (bundle : List Item) (ss rs : List Scope) (cs ds : List BlockCode) → AllSame bundle ss cs → AllSame bundle rs ds → AllSame bundle (ss ++ rs) (cs ++ ds)
+unfolding AllSame
+both_lists bundle [] rs [] ds a b = b
+both_lists bundle [] rs (c ∷ cs) ds a b = absurd a
+both_lists bundle (s ∷ ss) rs [] ds a b = absurd a
+both_lists bundle (s ∷ ss) rs (c ∷ cs) ds a b = (a.0, both_lists bundle ss rs cs ds a.1 b)
+
+abbrev scope : List Item → Funcdef → ℕ → Block → Scope
+scope bundle d first b = record { bundle = bundle; function = d; first = first; block = b }
+
+blocks_same : (bundle : List Item) (d : Funcdef) (first item k : ℕ) (bs : List Block) → TablesFit (bundle_tables bundle) →
+    AllMet (blocks_demands (bundle_tables bundle) (body_of (bundle_tables bundle) first d) bs) →
+    AllSame bundle (map (scope bundle d first) bs) (blocks_code (bundle_tables bundle) (body_of (bundle_tables bundle) first d) item k bs)
+unfolding AllSame
+blocks_same bundle d first item k [] fit m = tt
+blocks_same bundle d first item k (b ∷ bs) fit m = (block_same (scope bundle d first b) item k fit m.0, blocks_same bundle d first item (suc k) bs fit m.1)
+
+items_same : (bundle : List Item) (item first : ℕ) (is : List Item) → TablesFit (bundle_tables bundle) → AllMet (functions_demands (bundle_tables bundle) first is) →
+    AllSame bundle (scopes_from bundle first is) (all_blocks (bundle_tables bundle) item first is)
+unfolding AllSame
+items_same bundle item first [] fit m = tt
+items_same bundle item first (items.Typedef d ∷ is) fit m = items_same bundle (suc item) first is fit m
+items_same bundle item first (items.Funcsig d ∷ is) fit m = items_same bundle (suc item) first is fit m
+items_same bundle item first (items.Const d ∷ is) fit m = items_same bundle (suc item) first is fit m
+items_same bundle item first (items.GlobalCell d ∷ is) fit m = items_same bundle (suc item) first is fit m
+items_same bundle item first (items.Funcdecl d ∷ is) fit m = items_same bundle (suc item) first is fit m
+items_same bundle item first (items.Funcdef d ∷ is) fit m =
+    both_lists bundle (scopes_in bundle d first) (scopes_from bundle (first + length d.blocks) is)
+    (blocks_code (bundle_tables bundle) (body_of (bundle_tables bundle) first d) item 0 d.blocks) (all_blocks (bundle_tables bundle) (suc item) (first + length d.blocks) is)
+    (blocks_same bundle d first item 0 d.blocks fit m.0.1.1) (items_same bundle (suc item) (first + length d.blocks) is fit m.1)
+
+-- ---- by number
+
+-- what two blocks with the same number say alike
+by_number : {B : Type 0} (bundle : List Item) (f : Scope → Option B) (g : BlockCode → Option B) (ss : List Scope) (cs : List BlockCode) (n : ℕ) → AllSame bundle ss cs →
+    ((s : Scope) (c : BlockCode) → BlockIsSame bundle s c → f s ≡ g c) → with_some (slice_get ss n) f ≡ with_some (slice_get cs n) g
+unfolding AllSame
+by_number bundle f g [] [] n a same = refl
+by_number bundle f g [] (c ∷ cs) n a same = absurd a
+by_number bundle f g (s ∷ ss) [] n a same = absurd a
+by_number bundle f g (s ∷ ss) (c ∷ cs) zero a same = same s c a.0
+by_number bundle f g (s ∷ ss) (c ∷ cs) (suc n) a same = by_number bundle f g ss cs n a.1 same
+
+all_same : (bundle : List Item) → first_unmet (name_demands bundle) ≡ None → first_unmet (check_demands bundle) ≡ None → AllSame bundle (scopes_of bundle) (bundle_blocks bundle)
+unfolding check_demands
+all_same bundle names checked = items_same bundle 0 0 bundle (tables_fit bundle names checked) (all_met (check_demands bundle) checked).1
+
+-- ---- what the machine asks, field by field
+
+pub doing_same : (bundle : List Item) → first_unmet (name_demands bundle) ≡ None → first_unmet (check_demands bundle) ≡ None → (block at : ℕ) (vars : List Value) →
+    (named bundle).doing block at vars ≡ (numbered bundle).doing block at vars
+doing_same bundle names checked block at vars =
+    by_number bundle (λ s. with_some (slice_get s.block.insts at) (λ i. Some (does_named s vars i))) (λ c. with_some (slice_get c.code at) (λ i. Some (does_at bundle c.classes vars i)))
+    (scopes_of bundle) (bundle_blocks bundle) block (all_same bundle names checked)
+    (λ s c same. (same.each vars at).0 ∙ ap (λ (cs : List ℕ). with_some (slice_get c.code at) (λ i. Some (does_at bundle cs vars i))) same.types)
+
+pub going_on_same : (bundle : List Item) → first_unmet (name_demands bundle) ≡ None → first_unmet (check_demands bundle) ≡ None → (block at : ℕ) (vars : List Value) →
+    (named bundle).going_on block at vars ≡ (numbered bundle).going_on block at vars
+going_on_same bundle names checked block at vars =
+    by_number bundle (λ s. with_some (slice_get s.block.insts at) (λ i. optional_goal s vars (normal_of i.op))) (λ c. with_some (slice_get c.code at) (λ i. optional_goal_at bundle vars i.normal))
+    (scopes_of bundle) (bundle_blocks bundle) block (all_same bundle names checked) (λ s c same. (same.each vars at).1)
+
+pub has_handler_same : (bundle : List Item) → first_unmet (name_demands bundle) ≡ None → first_unmet (check_demands bundle) ≡ None → (block : ℕ) →
+    (named bundle).has_handler block ≡ (numbered bundle).has_handler block
+has_handler_same bundle names checked block =
+    by_number bundle (λ s. Some (is_some s.block.head.handler)) (λ c. Some (is_some c.handler)) (scopes_of bundle) (bundle_blocks bundle) block (all_same bundle names checked)
+    (λ s c same. ap (λ (b : Bool). Some b) same.handler)

@@ -1,0 +1,5 @@
+use Rattle.model_numbers.proofs.Whole.{programs_same}
+use Rattle.model_numbers.proofs.laws.programs_are_same.Goals as goal
+
+pub returns : goal.returns
+returns c = programs_same

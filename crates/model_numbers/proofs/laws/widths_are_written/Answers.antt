@@ -1,0 +1,7 @@
+use Rattle.bundle_laws.proofs.Tables.{tables_fit}
+use Rattle.bundle_check.specs.Checking.{bundle_tables}
+use Rattle.model_numbers.proofs.Classes.{width_same}
+use Rattle.model_numbers.proofs.laws.widths_are_written.Goals as goal
+
+pub returns : goal.returns
+returns c = λ bundle names checked t int. width_same (bundle_tables bundle) t (tables_fit bundle names checked) int

@@ -1,0 +1,55 @@
+-- Laws of the two readings of a bundle, by its names and by the numbers of its checked code.
+use Rattle.std.specs.Prelude.{◌≡◌, true, ℕ, List, None}
+use Rattle.demands.specs.Demands.{first_unmet}
+use Rattle.ir_lex.specs.declared.name.Name.{Name}
+use Rattle.ir_tree.specs.declared.items.Item.{Item}
+use Rattle.mu_values.specs.Constants.{width_of}
+use Rattle.bundle_names.specs.Naming.{name_demands}
+use Rattle.check_tables.specs.Lookups.{noted_class, definition_named}
+use Rattle.check_tables.specs.TypeTests.{is_int}
+use Rattle.bundle_check.specs.Checking.{bundle_tables, check_demands}
+use Rattle.frames.specs.Activations.{Value}
+use Rattle.mu_model.specs.Types.{class_width}
+use Rattle.mu_model.specs.Configuration.{Configuration}
+use Rattle.mu_model.specs.Programs.{named}
+use Rattle.mu_model.specs.Step.{step}
+use Rattle.mu_model.specs.Run.{Setting, program_run}
+use Rattle.model_numbers.specs.Numbered.{numbered}
+
+-- what holds of each bundle that meets its demands
+abbrev pub OfAccepted : (List Item → Type 0) → Type 0
+OfAccepted holds = (bundle : List Item) → first_unmet (name_demands bundle) ≡ None → first_unmet (check_demands bundle) ≡ None → holds bundle
+
+-- it is one program by name and by number
+abbrev pub ProgramsAreSame : Type 0
+ProgramsAreSame = OfAccepted (λ bundle. named bundle ≡ numbered bundle)
+
+-- the same field by field: what an instruction does, and where it goes on
+abbrev pub DoingsAreSame : Type 0
+DoingsAreSame = OfAccepted (λ bundle. (block at : ℕ) (vars : List Value) → (named bundle).doing block at vars ≡ (numbered bundle).doing block at vars)
+
+abbrev pub GoingsOnAreSame : Type 0
+GoingsOnAreSame = OfAccepted (λ bundle. (block at : ℕ) (vars : List Value) → (named bundle).going_on block at vars ≡ (numbered bundle).going_on block at vars)
+
+-- whether a block has a handler
+abbrev pub HandlersAreSame : Type 0
+HandlersAreSame = OfAccepted (λ bundle. (block : ℕ) → (named bundle).has_handler block ≡ (numbered bundle).has_handler block)
+
+-- the first block of a function, and the tables; so it is of every bundle
+abbrev pub BodiesAreSame : Type 0
+BodiesAreSame = (bundle : List Item) (function : ℕ) → (named bundle).body function ≡ (numbered bundle).body function
+
+abbrev pub TablesAreSame : Type 0
+TablesAreSame = (bundle : List Item) → (named bundle).tables ≡ (numbered bundle).tables
+
+-- so each step is the same, and each run
+abbrev pub StepsAreSame : Type 0
+StepsAreSame = OfAccepted (λ bundle. (c : Configuration) → step (named bundle) c ≡ step (numbered bundle) c)
+
+abbrev pub RunsAreSame : Type 0
+RunsAreSame = OfAccepted (λ bundle. (setting : Setting) (function : ℕ) → program_run (named bundle) setting function ≡ program_run (numbered bundle) setting function)
+
+-- the width that the class of an int type has is the one that is written
+abbrev pub WidthsAreWritten : Type 0
+WidthsAreWritten = OfAccepted (λ bundle. (t : Name) → is_int (definition_named (bundle_tables bundle) t) ≡ true →
+    class_width (bundle_tables bundle) (noted_class (bundle_tables bundle) t) ≡ width_of (definition_named (bundle_tables bundle) t))

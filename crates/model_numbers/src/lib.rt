@@ -1,0 +1,10 @@
+//! A bundle by the numbers of its checked code is the bundle by its names. A run is said by names; a machine over checked code proves
+//! what it does by numbers, and calls these laws where its contract speaks of names. This crate has no code.
+#![tactic(auto)]
+
+mod laws;
+
+pub use laws::{
+    bodies_are_same, doings_are_same, goings_on_are_same, handlers_are_same, programs_are_same,
+    runs_are_same, steps_are_same, tables_are_same, widths_are_written,
+};
