@@ -1,6 +1,5 @@
 -- The two halves put together.
 use Rattle.std.proofs.Common.{ℕ, ◌≤◌, List, [], refl, subst, Option, Some, None}
-use Rattle.std.specs.Io.KnownBytes.{Keeps}
 use Rattle.mu_base.specs.declared.status.Status.{Status}
 use Rattle.mu_base.specs.declared.status.Status.TheVariants.{Memory}
 use Rattle.mu_base.specs.Outcome.{Outcome, got}
@@ -15,7 +14,7 @@ use Rattle.mu_command.specs.Allowed.{Seen, AllowsFile, AllowsJob}
 use Rattle.mu_command.specs.Parts.{IsAnswer}
 use Rattle.mu_command.specs.Written.{Writes}
 use Rattle.mu_command.specs.Central.{Answered}
-use Rattle.mu_command.proofs.Puts.{nothing_put, kept_is_part}
+use Rattle.mu_command.proofs.Puts.{no_memory}
 
 pub answered : (seen : Seen) (words : List (List ℕ)) (answer : Answer) (w0 w1 e0 e1 : Option (List ℕ)) (status : Status) →
     IsAnswer seen words answer → Writes answer w0 w1 e0 e1 status → Answered seen words w0 w1 e0 e1 status
@@ -34,21 +33,10 @@ some_outcomes seen words (Some job) le =
     let some : (what : What) → (o : Outcome) × AllowsFile seen words what (file_of job what) o = λ what. some_named seen words what (file_of job what) (le (slot_of what)) in
     ((λ what. (some what).0), (λ what. (some what).1))
 
-keeps : (w : Option (List ℕ)) → Keeps w w
-keeps None = tt
-keeps (Some x) = refl
-
-nothing_written : (answer : Answer) (w e : Option (List ℕ)) → Writes answer w w e e Memory
-nothing_written answer w e = record {
-  part = record { text = kept_is_part w w _ (keeps w); done = []; left = answer.pieces; is = refl; ends = (nothing_put w e).ends };
-  whole = λ h. absurd (h.1 refl);
-  status_of = λ h. absurd (h.1 refl);
-}
-
 -- a call that found no memory and wrote nothing
 pub gave_up : (seen : Seen) (words : List (List ℕ)) (w e : Option (List ℕ)) → ((s : ℕ) → seen.before s ≤ seen.now s) → Answered seen words w w e e Memory
 gave_up seen words w e le =
     let some = some_outcomes seen words (job_of words) le in
-    record { outcomes = some.0; allowed = some.1; writes = nothing_written _ w e }
+    record { outcomes = some.0; allowed = some.1; writes = no_memory _ w e }
 
 pub ruleset answering = (gave_up, answered)

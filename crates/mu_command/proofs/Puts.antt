@@ -3,6 +3,7 @@ use Rattle.std.proofs.Common.{◌≡◌, ℕ, ◌+◌, List, [], ◌∷◌, ◌+
 use Rattle.std.proofs.lemmas.List.{append-nil, take_at, take_all, take-append-drop}
 use Rattle.std.specs.Io.KnownBytes.{Appends, Keeps}
 use Rattle.mu_base.specs.declared.status.Status.{Status}
+use Rattle.mu_base.specs.declared.status.Status.TheVariants.{Memory}
 use Rattle.mu_base.specs.Files.{IsPrefix}
 use Rattle.mu_base.specs.Sink.{AppendsPrefix, MarksEnd, PutsPart}
 use Rattle.mu_texts.specs.Answer.{Answer, in_one_piece}
@@ -130,7 +131,19 @@ pub second_put_stops : (answer : Answer) (p q : List ℕ) (left : List (List ℕ
 second_put_stops answer p q left w0 w1 w2 e0 e1 e2 fault is a m b k =
     put_stops (p ∷ []) q left answer w0 w1 w2 e0 e1 e2 (stopped fault) is (stopped_is fault) (put_whole [] p w0 w0 w1 e0 e0 e1 (nothing_put w0 e0) a m) b k
 
--- a text that is not empty is one piece
+-- where no memory was found nothing was put
+pub no_memory : (answer : Answer) (w e : Option (List ℕ)) → Writes answer w w e e Memory
+no_memory answer w e = record {
+  part = record { done = []; left = answer.pieces; is = refl; part = []; begins = refl; bytes = (nothing_put w e).bytes; ends = (nothing_put w e).ends };
+  whole = λ h. absurd (h.1 refl);
+  status_of = λ h. absurd (h.1 refl);
+}
+
+-- a text that is empty is no piece, and one that is not is one piece
+pub no_text : (text : List ℕ) → length text ≡ 0 → in_one_piece text ≡ []
+no_text [] none = refl
+no_text (b ∷ text) none = cc
+
 pub one_piece : (text : List ℕ) → (length text ≡ 0 → ⊥) → in_one_piece text ≡ text ∷ []
 one_piece [] some = absurd (some refl)
 one_piece (b ∷ text) some = refl

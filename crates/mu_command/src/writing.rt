@@ -30,7 +30,7 @@ pub fn put_text<S: Sink>(out: &mut S, text: Vec<u8>, status: Status) -> Status
 }
 
 /// Writes a whole text, in one piece. An empty text has no piece, so it is not put, and no sink can fail at it.
-#[tactic(auto, using(crate::proofs::Puts::no_piece, crate::proofs::Puts::one_piece))]
+#[tactic(auto, using(crate::proofs::Puts::one_piece))]
 pub fn put_whole_text<S: Sink>(out: &mut S, text: Vec<u8>, status: Status) -> Status
     requires { IsWhole status }
     ensures writes { Writes (record { pieces = in_one_piece text.items; status = status }) (S.written out.old) (S.written out.new) (S.ends out.old) (S.ends out.new) result }
