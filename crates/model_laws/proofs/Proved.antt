@@ -2,6 +2,7 @@
 use Rattle.std.specs.Prelude.{◌≡◌, ℕ, ◌∷◌, Option, Some, None, IsSomeAnd, slice_get, refl}
 use Rattle.std.proofs.Common.{sym, ◌∙◌, subst}
 use Rattle.mem_axioms.specs.Lemmas.Racings.{race_free-is}
+use Rattle.mem_axioms.specs.Lemmas.Building.{was-option}
 use Rattle.model_laws.proofs.Answering.{told_settles}
 use Rattle.model_laws.proofs.Basics.{some_more}
 use Rattle.model_laws.proofs.First.{first_fits}
@@ -9,10 +10,11 @@ use Rattle.model_laws.proofs.Moving.{one_stack}
 use Rattle.model_laws.proofs.Performing.{step_good}
 use Rattle.model_laws.proofs.Placing.{Placed, has_place}
 use Rattle.model_laws.specs.ActsFit.{ActFits}
-use Rattle.model_laws.specs.Laws.{ClientsSettle, FirstIsWellTyped, LogsAreRaceFree, LogsMeetAxioms, OperandsFit, StacksHaveOneOwner, StepsGoWell}
+use Rattle.model_laws.specs.Laws.{ClientsSettle, FirstIsWellTyped, LogsAreRaceFree, LogsMeetAxioms, OperandsFit, ReadsWereOffered, StacksHaveOneOwner, StepsGoWell}
 use Rattle.model_laws.specs.ThreadsFit.{IsActiveOn}
 use Rattle.model_laws.specs.Values.{world}
 use Rattle.model_laws.specs.WellTyped.{WellTyped}
+use Rattle.mu_model.specs.Accesses.{initial}
 use Rattle.mu_model.specs.Answers.{typed}
 use Rattle.mu_model.specs.Configuration.{Active, Configuration, Dead, Ready, Stack}
 use Rattle.mu_model.specs.Run.{begins_in}
@@ -58,3 +60,6 @@ meets p t c h = h.log.sound.axioms
 
 pub race_free : LogsAreRaceFree
 race_free p t c h = race_free-is c.rule c.log h.log.sound.race_free
+
+pub reads_offered : ReadsWereOffered
+reads_offered p t c h i thread cell order position value = was-option c.rule (initial c) thread cell order position value c.log h.log.sound.axioms i

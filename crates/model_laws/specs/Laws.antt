@@ -1,10 +1,18 @@
 -- To believe: what holds of every well-typed program: each law is the contract of a function that does nothing.
 use Rattle.std.specs.Prelude.{◌≡◌, ℕ, true, List, [], Some, IsSomeAnd, All, slice_get}
+use Rattle.mu_base.specs.declared.order.Order.{Order}
+use Rattle.mu_values.specs.declared.scalars.Scalar.{Scalar}
+use Rattle.heap_cells.specs.declared.cells.CellId.{CellId}
 use Rattle.check_tables.specs.declared.tables.Tables.{Tables}
 use Rattle.typed_heap.specs.Fits.{World}
 use Rattle.frames.specs.Activations.{Activation}
 use Rattle.mem_axioms.specs.Axioms.{meets_axioms}
 use Rattle.mem_axioms.specs.Races.{Racing}
+use Rattle.mem_axioms.specs.Logs.{event_at, past_of}
+use Rattle.mem_axioms.specs.Form.{value_at}
+use Rattle.mem_axioms.specs.Choices.{is_option}
+use Rattle.mem_axioms.specs.declared.types.Mode.TheVariants.{Read}
+use Rattle.mem_axioms.specs.declared.types.Kind.TheVariants.{Access}
 use Rattle.mu_model.specs.Types.{type_graph, signature_classes, classes_taken}
 use Rattle.mu_model.specs.Acts.{Program}
 use Rattle.mu_model.specs.Configuration.{Active, Thread, Configuration}
@@ -62,3 +70,9 @@ LogsMeetAxioms = (p : Program) (t : Places) (c : Configuration) → WellTyped p 
 
 abbrev pub LogsAreRaceFree : Type 0
 LogsAreRaceFree = (p : Program) (t : Places) (c : Configuration) → WellTyped p t c → (i j : ℕ) → Racing c.rule c.log i j → ⊥
+
+-- each read in the log was an option of its past, and has the value that stood there
+abbrev pub ReadsWereOffered : Type 0
+ReadsWereOffered = (p : Program) (t : Places) (c : Configuration) → WellTyped p t c →
+    (i thread : ℕ) (cell : CellId) (order : Order) (position : ℕ) (value : Scalar) → event_at c.log i ≡ Some (record { thread = thread; kind = Access Read cell order position value }) →
+    (is_option c.rule (initial c) (past_of c.log i) thread cell order position ≡ true) × (value ≡ value_at (initial c) (past_of c.log i) cell position)

@@ -1,5 +1,5 @@
 // What holds of every step of a well-typed program.
-ghost use Rattle.model_laws.specs.Laws.{FirstIsWellTyped, StepsGoWell, ClientsSettle, OperandsFit, StacksHaveOneOwner, LogsMeetAxioms, LogsAreRaceFree};
+ghost use Rattle.model_laws.specs.Laws.{FirstIsWellTyped, StepsGoWell, ClientsSettle, OperandsFit, StacksHaveOneOwner, LogsMeetAxioms, LogsAreRaceFree, ReadsWereOffered};
 ghost use Rattle.model_laws.specs.Bounds.{FirstIsInBounds, StepsStayInBounds, RunsStaySmall, RunsEnd};
 
 /// A run of a well-typed program begins well typed, where it is given objects and a client that fit, and begins in a function that takes
@@ -27,10 +27,12 @@ pub fn stacks_have_one_owner()
     ensures { StacksHaveOneOwner }
 {}
 
-/// The log of a well-typed configuration meets the axioms of memory, and no two of its events race.
+/// The log of a well-typed configuration meets the axioms of memory, no two of its events race, and each of its reads was an option of its
+/// past.
 pub fn logs_meet_the_axioms()
     ensures axioms { LogsMeetAxioms }
     ensures races { LogsAreRaceFree }
+    ensures reads { ReadsWereOffered }
 {}
 
 /// A step that goes on is counted and keeps the budget. It logs at most 66 events, and makes at most one object, one stack, and one frame

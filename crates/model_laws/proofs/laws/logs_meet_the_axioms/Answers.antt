@@ -1,4 +1,4 @@
-use Rattle.model_laws.proofs.Proved.{meets, race_free}
+use Rattle.model_laws.proofs.Proved.{meets, race_free, reads_offered}
 use Rattle.model_laws.proofs.laws.logs_meet_the_axioms.Goals as goal
 
 pub returns-clause-axioms : goal.returns-clause-axioms
@@ -6,3 +6,6 @@ returns-clause-axioms c = meets
 
 pub returns-clause-races : goal.returns-clause-races
 returns-clause-races c = race_free
+
+pub returns-clause-reads : goal.returns-clause-reads
+returns-clause-reads c = reads_offered
