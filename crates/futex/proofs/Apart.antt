@@ -1,5 +1,5 @@
 -- Waiters whose threads are apart.
-use Rattle.std.specs.Prelude.{◌≡◌, ℕ, ◌<◌, ◌≤◌, ◌+◌, Bool, true, false, ◌||◌, ◌==◌, not, List, [], ◌∷◌, ◌++◌, Option, Some, None, length, filter, if◌then◌else◌, refl}
+use Rattle.std.specs.Prelude.{◌≡◌, ℕ, ◌<◌, ◌≤◌, Bool, true, false, ◌||◌, ◌==◌, not, List, [], ◌∷◌, ◌++◌, Option, Some, None, length, filter, if◌then◌else◌, refl}
 use Rattle.std.proofs.Common.{◌∙◌, sym, ap, arith, eqb}
 use Rattle.std.specs.List.{list_any, find, IsDistinct, AllByRecursion}
 use Rattle.std.proofs.lemmas.List.{length-map}
@@ -76,14 +76,13 @@ one_is_without i ws w h = sym (ap (λ t. other_than (t ∷ []) ws) (found_is i w
 -- ---- how many there are
 
 none_same : (k : ℕ) (ws : List Waiter) → find (is_of k) ws ≡ None → AllByRecursion (λ y. eqb k y ≡ false) (threads_of ws)
-unfolding AllByRecursion
 none_same k [] h = tt
 none_same k (w ∷ ws) h = let p = none_found (w.thread == k) w (find (is_of k) ws) h in (flipped w.thread k p.0, none_same k ws p.1)
 
 distinct : (ws : List Waiter) → AreApart ws → IsDistinct eqb (threads_of ws)
 unfolding IsDistinct
 distinct [] a = tt
-distinct (w ∷ ws) (small, alone, rest) = (none_same w.thread ws alone, distinct ws rest)
+distinct (w ∷ ws) (small, alone, rest) = IsDistinct-cons eqb w.thread (threads_of ws) (none_same w.thread ws alone) (distinct ws rest)
 
 below_if : (q t : ℕ) (b : Bool) (others : Bool) → eqb q t ≡ b → (b || others) ≡ true → t < 64 → (others ≡ true → q < 64) → q < 64
 below_if q t true others e h small behind = let same : q ≡ t = grind arith in omega arith

@@ -1,7 +1,7 @@
 -- The oldest at a cell, one waiter further.
-use Rattle.std.specs.Prelude.{◌≡◌, ℕ, ◌+◌, ◌<◌, ◌≤◌, Bool, true, false, not, nat_lt, List, [], ◌∷◌, ◌++◌, length, filter, map, if◌then◌else◌, refl}
+use Rattle.std.specs.Prelude.{◌≡◌, ℕ, ◌+◌, ◌<◌, ◌≤◌, Bool, true, false, not, nat_lt, List, [], ◌∷◌, ◌++◌, length, filter, if◌then◌else◌, refl}
 use Rattle.std.proofs.Common.{◌∙◌, sym, ap, arith, get_or, take}
-use Rattle.std.proofs.lemmas.List.{take-append-le, length-take, length-take-le, length-map, map-append, append-nil, length_push, take_all}
+use Rattle.std.proofs.lemmas.List.{take-append-le, length-take, length-take-le, length-map, map-append, append-nil, length_push, take_all, get_or_default}
 use Rattle.std.proofs.lemmas.List.Elements.{filter_more}
 use Rattle.std.proofs.lemmas.List.Filters.{length-filter_both}
 use Rattle.heap_cells.specs.declared.cells.CellId.{CellId}
@@ -61,8 +61,10 @@ further_if cell count ws k w woken false c h e so_far p q =
     rw p (so_far ∙ sym (are_enough cell count ws k w h e (omega arith)))
 
 -- one waiter more
-pub one_further : (cell : CellId) (count : ℕ) (ws : List Waiter) (k : ℕ) (w : Waiter) (woken : List ℕ) → k < length ws → w ≡ get_or ws k w → woken ≡ threads_of (oldest_at cell count (take k ws)) →
-    with_next cell count w woken ≡ threads_of (oldest_at cell count (take (k + 1) ws))
-one_further cell count ws k w woken h e so_far = further_if cell count ws k w woken (nat_lt (length woken) count) (is_at cell w) h e so_far refl refl
+pub one_further : (cell : CellId) (count : ℕ) (ws : List Waiter) (k : ℕ) (d : Waiter) (woken : List ℕ) → k < length ws → woken ≡ threads_of (oldest_at cell count (take k ws)) →
+    with_next cell count (get_or ws k d) woken ≡ threads_of (oldest_at cell count (take (k + 1) ws))
+one_further cell count ws k d woken h so_far =
+    let w = get_or ws k d in
+    further_if cell count ws k w woken (nat_lt (length woken) count) (is_at cell w) h (get_or_default ws k d w h) so_far refl refl
 
 pub ruleset oldest = (one_further, at_most)
