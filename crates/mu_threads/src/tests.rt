@@ -1,7 +1,7 @@
 ghost use Rattle.std.specs.Prelude.{◌≡◌, [], ◌∷◌, ◌++◌, None, Some, IfOk, OnOk, IsSome};
 ghost use Rattle.mu_threads.specs.Threads.{stack_of};
 
-use crate::{AddFault, Threads};
+use crate::{AddFault, ScheduleFault, ScheduleKind, Threads, read_schedule};
 use frames::{Frame, Frames};
 use mu_base::{Ids, Types};
 use mu_values::{Passed, Slots};
@@ -95,5 +95,41 @@ fn drops_a_thread(rt: HostRuntime) -> Result<(), Fail> {
     let stack = bound_stack(rt.alloc(), 0)?;
     let mut threads = Threads::new(rt.alloc())?;
     add_and_drop(&rt, &mut threads, stack);
+    Ok(())
+}
+
+#[test]
+fn reads_a_schedule(rt: HostRuntime) -> Result<(), Fail> {
+    match read_schedule(rt.alloc(), b"12//x") {
+        Ok(mut schedule) => {
+            assert_eq!(rt; schedule.look(0, 5), 2);
+            assert_eq!(rt; schedule.pick(5), 2);
+            assert_eq!(rt; schedule.pick(5), 0);
+        }
+        Err(_fault) => assert!(rt; false),
+    }
+    Ok(())
+}
+
+#[test]
+fn refuses_schedules(rt: HostRuntime) -> Result<(), Fail> {
+    assert!(rt;
+        matches!(
+            read_schedule(rt.alloc(), b"0 x"),
+            Err(ScheduleFault::At {
+                kind: ScheduleKind::BadToken,
+                place: 2
+            })
+        )
+    );
+    assert!(rt;
+        matches!(
+            read_schedule(rt.alloc(), b"4294967296"),
+            Err(ScheduleFault::At {
+                kind: ScheduleKind::NumberTooLarge,
+                place: 0
+            })
+        )
+    );
     Ok(())
 }

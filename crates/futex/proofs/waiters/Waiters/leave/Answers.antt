@@ -1,0 +1,7 @@
+use Rattle.std.proofs.Common.{[], ◌∷◌, subst, sym}
+use Rattle.futex.specs.Kept.{AreApart}
+use Rattle.futex.proofs.Apart.{apart_kept}
+use Rattle.futex.proofs.waiters.Waiters.leave.Goals as goal
+
+pub invariant_of-self : goal.invariant_of-self
+invariant_of-self c = subst AreApart (sym c.keep_others.ensures) (apart_kept (c.args.thread ∷ []) c.self.inside.list.items c.self.invariant)

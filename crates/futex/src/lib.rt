@@ -1,0 +1,11 @@
+//! The threads that wait at cells, oldest first.
+#![tactic(auto)]
+
+mod waiters;
+mod woken;
+
+pub use waiters::{Waiter, Waiters};
+pub use woken::Woken;
+
+#[cfg(test)]
+mod tests;
