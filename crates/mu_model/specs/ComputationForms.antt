@@ -1,6 +1,6 @@
 -- To believe: instructions that compute a value from values. An operand is an option: where it has no value, or none of the kind that
 -- is wanted, there is no act.
-use Rattle.std.specs.Prelude.{ℕ, ◌+◌, Bool, true, false, List, [], ◌∷◌, ◌++◌, Option, Some, None, nat_eq, length, take, drop, slice_get, if◌then◌else◌}
+use Rattle.std.specs.Prelude.{ℕ, ◌+◌, Bool, true, false, List, [], ◌∷◌, ◌++◌, Option, Some, None, nat_eq, nat_le, length, take, drop, slice_get, if◌then◌else◌, ◌&&◌}
 use Rattle.ir_tree.specs.declared.computing.Computation.{Computation}
 use Rattle.ir_tree.specs.declared.computing.Computation.TheVariants as computations
 use Rattle.mu_values.specs.declared.scalars.Scalar.{Scalar}
@@ -8,6 +8,7 @@ use Rattle.mu_values.specs.declared.scalars.Scalar.TheVariants.{Int}
 use Rattle.mu_values.specs.declared.operators.BinOp.{BinOp}
 use Rattle.mu_values.specs.declared.operators.CmpOp.{CmpOp}
 use Rattle.mu_values.specs.declared.operators.ConvOp.{ConvOp}
+use Rattle.mu_values.specs.declared.operators.ConvOp.TheVariants as conversions
 use Rattle.mu_values.specs.Integers.{binary_value, converted}
 use Rattle.mu_values.specs.Comparisons.{compared}
 use Rattle.check_tables.specs.declared.tables.Tables.{Tables}
@@ -19,7 +20,7 @@ use Rattle.frames.specs.Activations.{Value}
 use Rattle.mu_model.specs.declared.endings.Case.TheVariants as cases
 use Rattle.mu_model.specs.Types.{type_graph, class_definition, class_width}
 use Rattle.mu_model.specs.Acts.{Act, Gives, Faults, Casts}
-use Rattle.mu_model.specs.Operands.{Scope, tables_in, class, value_named, scalar_in, bits_in}
+use Rattle.mu_model.specs.Operands.{Scope, tables_in, class, value_named, scalar_in, is_integer, bits_in}
 
 -- ---- BIN: a zero divisor is a fault
 
@@ -37,14 +38,27 @@ abbrev pub bit : Bool → ℕ
 bit true = 1
 bit false = 0
 
+-- integers are of one width
+abbrev pub are_comparable : Scalar → Scalar → Bool
+are_comparable (Int w m) (Int v n) = nat_eq w v && is_integer w m && is_integer v n
+are_comparable _ _ = true
+
 abbrev pub compare_act : CmpOp → Option Value → Option Value → Option Act
-compare_act op a b = with_some (scalar_in a) (λ x. with_some (scalar_in b) (λ y. Some (Gives ((Int 1 (bit (compared op x y)) ∷ []) ∷ []))))
+compare_act op a b =
+    with_some (scalar_in a) (λ x. with_some (scalar_in b) (λ y. if are_comparable x y then Some (Gives ((Int 1 (bit (compared op x y)) ∷ []) ∷ [])) else None))
 
 -- ---- TRUNC, ZEXT, SEXT
 
+-- TRUNC makes no integer wider, ZEXT and SEXT none narrower
+abbrev pub leads_to : ConvOp → ℕ → ℕ → Bool
+leads_to conversions.Trunc from to = nat_le 1 to && nat_le to from
+leads_to conversions.Zext from to = nat_le from to && nat_le to 128
+leads_to conversions.Sext from to = nat_le from to && nat_le to 128
+
 abbrev pub convert_act : Tables → ConvOp → ℕ → ℕ → Option Value → Option Act
 convert_act p op c d a =
-    with_some (class_width p c) (λ w. with_some (class_width p d) (λ v. with_some (bits_in (Some w) a) (λ n. Some (Gives ((Int v (converted op w v n) ∷ []) ∷ [])))))
+    with_some (class_width p c) (λ w. with_some (class_width p d) (λ v. with_some (bits_in (Some w) a) (λ n.
+    if leads_to op w v then Some (Gives ((Int v (converted op w v n) ∷ []) ∷ [])) else None)))
 
 -- ---- REFCAST, and whatever else is one act on one scalar
 

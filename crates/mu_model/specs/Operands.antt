@@ -1,5 +1,5 @@
 -- To believe: what the names and operands of an instruction stand for, in its block, with the values of the block's variables.
-use Rattle.std.specs.Prelude.{ℕ, suc, ◌+◌, List, [], ◌∷◌, ◌++◌, Option, Some, None, map, slice_get, nat_eq, zip, if◌then◌else◌}
+use Rattle.std.specs.Prelude.{ℕ, suc, ◌+◌, ◌^◌, Bool, List, [], ◌∷◌, ◌++◌, Option, Some, None, map, slice_get, nat_eq, nat_le, nat_lt, zip, if◌then◌else◌, ◌&&◌}
 use Rattle.demands.specs.Names.{Names, found}
 use Rattle.ir_lex.specs.declared.name.Name.{Name}
 use Rattle.ir_tree.specs.declared.operands.Operand.{Operand}
@@ -106,9 +106,13 @@ abbrev pub scalar_in : Option Value → Option Scalar
 scalar_in (Some (s ∷ [])) = Some s
 scalar_in _ = None
 
+-- the number is an integer of that many bits, of which there are 1 to 128
+abbrev pub is_integer : ℕ → ℕ → Bool
+is_integer w n = nat_le 1 w && nat_le w 128 && nat_lt n (2 ^ w)
+
 -- the bits of an integer of that width
 abbrev pub bits_of_width : Option ℕ → Option Scalar → Option ℕ
-bits_of_width (Some w) (Some (Int v n)) = if nat_eq w v then Some n else None
+bits_of_width (Some w) (Some (Int v n)) = if nat_eq w v && is_integer w n then Some n else None
 bits_of_width _ _ = None
 
 abbrev pub bits_in : Option ℕ → Option Value → Option ℕ
