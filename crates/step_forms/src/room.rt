@@ -1,0 +1,29 @@
+// Room for lists that one step hands on.
+ghost use Rattle.std.specs.Prelude.{◌≡◌, []};
+
+use mu_base::Types;
+use mu_values::Slots;
+use std::alloc::Global;
+
+/// Lists into which operands are read. A machine keeps one and lends it to each step, so that a step takes no memory once its lists
+/// are long enough. What they hold between steps means nothing.
+#[derive(Drop)]
+pub struct Room {
+    /// Values of operands.
+    pub values: Slots,
+    /// The classes of such values.
+    pub types: Types,
+}
+
+impl Room {
+    /// Empty lists. They take no memory yet.
+    pub fn new(alloc: Global) -> Room
+        ensures values { result.values.values ≡ [] }
+        ensures types { result.types.members ≡ [] }
+    {
+        Room {
+            values: Slots::new(alloc),
+            types: Types::new(alloc),
+        }
+    }
+}
