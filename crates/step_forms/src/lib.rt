@@ -5,14 +5,14 @@
 mod act;
 mod computing;
 mod control;
-mod decide;
+mod deciding;
 mod operands;
 mod parts;
 mod room;
 mod variables;
 
 pub use act::Act;
-pub use decide::{decide, form_is_built};
+pub use deciding::{decide, form_is_built};
 pub use operands::{push_value, read_classes, read_goal, read_kept, read_values, scalar};
 pub use room::Room;
 pub use variables::Variables;
