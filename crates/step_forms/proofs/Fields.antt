@@ -1,8 +1,8 @@
 -- The parts of a value about a field.
-use Rattle.std.proofs.Common.{◌≡◌, ℕ, zero, suc, ◌+◌, ◌-◌, ◌<◌, ◌≤◌, ◌++◌, List, [], ◌∷◌, Some, None, Option, length, take, drop, get_or, refl, sym, ◌∙◌, ap, subst, arith, min, length-drop}
+use Rattle.std.proofs.Common.{◌≡◌, ℕ, zero, suc, ◌+◌, ◌-◌, ◌<◌, ◌++◌, List, [], ◌∷◌, Some, length, take, drop, get_or, refl, ap, subst, arith, min, length-drop}
 use Rattle.std.specs.Prelude.{IsSome, slice_get}
 use Rattle.std.specs.List.{All, sum_by}
-use Rattle.std.proofs.lemmas.List.{take_more, drop-drop, take_all}
+use Rattle.std.proofs.lemmas.List.{take_more, drop-drop}
 use Rattle.std.proofs.lemmas.List.Sums.{sum_by-append}
 use Rattle.std.proofs.lemmas.List.Elements.{All-get_or, All-take}
 use Rattle.std.proofs.lemmas.Option.{slice_get_within, get_or_from_slice_get}
@@ -14,7 +14,7 @@ use Rattle.mu_values.specs.declared.scalars.Scalar.{Scalar}
 use Rattle.check_tables.specs.declared.tables.Tables.{Tables}
 use Rattle.check_tables.specs.TypeTests.{fields_of}
 use Rattle.typed_heap.specs.Objects.{leaf_classes}
-use Rattle.typed_heap.specs.Places.{leaves_together, with_some}
+use Rattle.typed_heap.specs.Places.{leaves_together}
 use Rattle.mu_model.specs.Types.{type_graph, class_definition}
 use Rattle.mu_model.specs.ComputationForms.{part_of}
 use Rattle.step_forms.specs.OperandLaws.{is_some_within, with_some_some}

@@ -3,8 +3,6 @@
 use Rattle.std.specs.Prelude.{Bool, true, false}
 use Rattle.code_check.specs.declared.code.ComputationForm.{ComputationForm}
 use Rattle.code_check.specs.declared.code.ComputationForm.TheVariants as computing
-use Rattle.code_check.specs.declared.code.ControlForm.{ControlForm}
-use Rattle.code_check.specs.declared.code.ControlForm.TheVariants as going
 use Rattle.code_check.specs.declared.code.Form.{Form}
 use Rattle.code_check.specs.declared.code.Form.TheVariants as forms
 

@@ -1,5 +1,5 @@
 -- Inner: the list of the values of a bundle's constants is no longer than that of their classes.
-use Rattle.std.specs.Prelude.{◌≡◌, ℕ, zero, suc, ◌<◌, ◌≤◌, List, [], ◌∷◌, IsSome, map, length, slice_get, refl}
+use Rattle.std.specs.Prelude.{◌≡◌, ℕ, zero, suc, ◌<◌, ◌≤◌, List, [], ◌∷◌, IsSome, length, slice_get, refl}
 use Rattle.std.proofs.Common.{arith, ap, subst, sym, ◌∙◌}
 use Rattle.std.proofs.lemmas.List.{length-map}
 use Rattle.ir_tree.specs.declared.items.Item.{Item}
@@ -13,7 +13,7 @@ use Rattle.bundle_names.specs.Globals.{globals_of}
 use Rattle.bundle_tables.specs.Entries.{tables_of, constant_entries}
 use Rattle.bundle_tables.specs.Graph.{table_of}
 use Rattle.bundle_constants.specs.declared.constants.Constant.{Constant}
-use Rattle.bundle_constants.specs.Values.{values_to, values_by, told}
+use Rattle.bundle_constants.specs.Values.{values_to, told}
 use Rattle.bundle_constants.specs.Bundle.{constants_of, constant_values}
 use Rattle.bundle_check.specs.Checking.{bundle_tables}
 use Rattle.step_forms.specs.OperandLaws.{is_some_within}
@@ -40,7 +40,7 @@ constant_within bundle n h =
     let within : n < length (constant_values p bundle) = is_some_within _ n h in
     let few : length (constant_values p bundle) ≤ length (constants_of p.globals bundle) = length-values_to _ _ _ in
     let even : length (constants_of p.globals bundle) ≡ length (bundle_tables bundle).constants =
-        entries_and_constants (table_of (globals_of bundle) bundle) (globals_of bundle) p.globals bundle ∙ ap length (sym (entries_are bundle)) in
+    entries_and_constants (table_of (globals_of bundle) bundle) (globals_of bundle) p.globals bundle ∙ ap length (sym (entries_are bundle)) in
     omega arith
 
 pub ruleset constants = (constant_within)

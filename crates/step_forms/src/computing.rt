@@ -99,7 +99,10 @@ pub fn convert(
     ensures { (vs : List Value) (cs : List ℕ) → convert_act (bundle_tables code.now) op from to (value_at code.now vars.now operand) ≡ Some (asked result vs cs) }
 {
     match scalar(code, vars, operand) {
-        Scalar::Int { width: before, bits } => {
+        Scalar::Int {
+            width: before,
+            bits,
+        } => {
             let after = width(code, to);
             Act::Gives(Scalar::Int {
                 width: after,

@@ -49,7 +49,10 @@ fn compute(
             right,
         } => Ok(binary(code, vars, *op, *class, *left, *right)),
         ComputationForm::Compare {
-            op, left, right, ..
+            op,
+            left,
+            right,
+            ..
         } => Ok(compare(code, vars, *op, *left, *right)),
         ComputationForm::Convert {
             op,
@@ -103,10 +106,14 @@ fn go_on(
             ..
         } => switch(code, vars, *operand, default, cases.as_slice(), room),
         ControlForm::Call {
-            callee, arguments, ..
+            callee,
+            arguments,
+            ..
         } => call(code, vars, *callee, arguments.as_slice(), room),
         ControlForm::Tailcall {
-            callee, arguments, ..
+            callee,
+            arguments,
+            ..
         } => tailcall(code, vars, *callee, arguments.as_slice(), room),
         ControlForm::Ret { values } => ret(code, types, vars, values.as_slice(), room),
         ControlForm::Throw { exception } => Ok(throw(code, vars, *exception)),

@@ -45,14 +45,22 @@ fn type_at(types: &[u32], n: usize) -> u32
 fn front(value: &[Scalar], many: usize) -> &[Scalar]
     ensures { result.now ≡ take many value.now }
 {
-    if many < value.len() { &value[..many] } else { value }
+    if many < value.len() {
+        &value[..many]
+    } else {
+        value
+    }
 }
 
 /// The scalars of a value without the first ones.
 fn back(value: &[Scalar], many: usize) -> &[Scalar]
     ensures { result.now ≡ drop many value.now }
 {
-    if many < value.len() { &value[many..] } else { &[] }
+    if many < value.len() {
+        &value[many..]
+    } else {
+        &[]
+    }
 }
 
 fn leaf_count(classes: &Classes, t: u32) -> usize
@@ -77,7 +85,12 @@ fn behind<'a>(classes: &Classes, types: &[u32], value: &'a [Scalar]) -> &'a [Sca
 
 /// The parts of a value about a field.
 #[tactic(auto, using(crate::proofs::Fields::parts))]
-pub(crate) fn divided<'a>(code: &Checked, class: u32, field: usize, value: &'a [Scalar]) -> Parts<'a>
+pub(crate) fn divided<'a>(
+    code: &Checked,
+    class: u32,
+    field: usize,
+    value: &'a [Scalar],
+) -> Parts<'a>
     requires { IsSome (part_of (bundle_tables code.now) class field) }
     ensures before { IsSomeAnd (part_of (bundle_tables code.now) class field) (λ q. result.before.now ≡ take q.before value.now) }
     ensures field { IsSomeAnd (part_of (bundle_tables code.now) class field) (λ q. result.field.now ≡ take q.size (drop q.before value.now)) }
