@@ -10,3 +10,4 @@ pub mod Functions
 pub mod Constants
 pub mod FirstBlocks
 pub mod Derived
+pub mod Classes

@@ -1,6 +1,6 @@
 -- Facts of every bundle that meets its demands.
 use Rattle.std.specs.Prelude.{◌≡◌, ℕ, ◌<◌, ◌≤◌, true, List, [], ◌∷◌, Some, None, IsSomeAnd, is_some, length, map, slice_get}
-use Rattle.std.specs.List.{flat_map}
+use Rattle.std.specs.List.{flat_map, All}
 use Rattle.ir_tree.specs.declared.items.Item.{Item}
 use Rattle.ir_tree.specs.declared.items.Item.TheVariants as items
 use Rattle.type_laws.specs.declared.definition.TypeDef.{TypeDef}
@@ -24,6 +24,7 @@ use Rattle.bundle_check.specs.Functions.{body_of}
 use Rattle.bundle_check.specs.Checking.{bundle_tables, bundle_functions, bundle_blocks}
 use Rattle.bundle_laws.specs.Accepted.{CodeOf, head_classes}
 use Rattle.typed_heap.specs.Objects.{HeapObject, leaf_classes, zeros}
+use Rattle.typed_heap.specs.Heap.{AreNarrow}
 use Rattle.typed_heap.specs.Fits.{World, ScalarFits, ScalarsFit, ValueFits, fits, place_fits}
 use Rattle.mu_model.specs.Types.{type_graph, class_definition, signature_of, classes_taken, classes_given, signature_classes}
 use Rattle.model_laws.specs.Places.{HasTypes}
@@ -34,6 +35,14 @@ use Rattle.model_numbers.specs.Laws.{OfAccepted}
 -- every int of the graph has an allowed width
 abbrev pub WidthsAreAllowed : Type 0
 WidthsAreAllowed = OfAccepted (λ bundle. (c w : ℕ) → width_of (class_definition (bundle_tables bundle) c) ≡ Some w → (1 ≤ w) × (w ≤ 128))
+
+-- so widths are numbers of 32 bits
+abbrev pub WidthsAreNarrow : Type 0
+WidthsAreNarrow = OfAccepted (λ bundle. AreNarrow (type_graph (bundle_tables bundle)))
+
+-- the class of each global is in the graph
+abbrev pub GlobalsAreTypes : Type 0
+GlobalsAreTypes = OfAccepted (λ bundle. All (λ c. c < length (type_graph (bundle_tables bundle))) (bundle_tables bundle).global_cells)
 
 -- ---- classes
 

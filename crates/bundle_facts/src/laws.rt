@@ -1,5 +1,5 @@
 // Facts of checked bundles: each function is proved, and does nothing.
-ghost use Rattle.bundle_facts.specs.Facts.{WidthsAreAllowed, ClassesAreDefined, HaveOneShape, PartsHaveClasses, ClassesDecideFits, LeavesOfClasses, RefsAreDefined, IrefsAreDefined, FuncrefsAreDefined, TypesAreThere, ZerosFit, SignaturesAreDefined, ClassesDecideSignatures, FuncrefsDecideSignatures, FunctionsHaveSignatures, FunctionsAreThere, FunctionValuesFit, FunctionsOfClassFit, CalledFunctionsFit, ConstantValuesFit, ConstantsHaveClasses, IntConstantsAreScalars, FirstBlocksFit};
+ghost use Rattle.bundle_facts.specs.Facts.{WidthsAreAllowed, WidthsAreNarrow, GlobalsAreTypes, ClassesAreDefined, HaveOneShape, PartsHaveClasses, ClassesDecideFits, LeavesOfClasses, RefsAreDefined, IrefsAreDefined, FuncrefsAreDefined, TypesAreThere, ZerosFit, SignaturesAreDefined, ClassesDecideSignatures, FuncrefsDecideSignatures, FunctionsHaveSignatures, FunctionsAreThere, FunctionValuesFit, FunctionsOfClassFit, CalledFunctionsFit, ConstantValuesFit, ConstantsHaveClasses, IntConstantsAreScalars, FirstBlocksFit};
 ghost use Rattle.bundle_facts.specs.Texts.{DerivedHaveBlocks};
 
 /// Every int type has an allowed width.
@@ -120,4 +120,14 @@ pub fn first_blocks_fit()
 /// Each function that is defined in a bundle that the grammar derives has a block, so the law of first blocks holds of all bundles that are read.
 pub fn derived_have_blocks()
     ensures { DerivedHaveBlocks }
+{}
+
+/// The widths of ints are numbers of 32 bits.
+pub fn widths_are_narrow()
+    ensures { WidthsAreNarrow }
+{}
+
+/// The class of each global is in the graph.
+pub fn globals_are_types()
+    ensures { GlobalsAreTypes }
 {}
