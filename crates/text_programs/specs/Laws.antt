@@ -1,10 +1,11 @@
 -- To believe: what holds of every text that is read and accepted.
-use Rattle.std.specs.Prelude.{◌≡◌, ◌≢◌, ℕ, List, [], None, Some, Ok}
+use Rattle.std.specs.Prelude.{◌≡◌, ◌≢◌, ℕ, List, [], None, Some, Ok, IsSome}
 use Rattle.demands.specs.Demands.{first_unmet}
 use Rattle.ir_tree.specs.declared.items.Item.{Item}
 use Rattle.ir_text.specs.TextAnswers.{IsAnswer}
 use Rattle.bundle_names.specs.Naming.{name_demands}
 use Rattle.bundle_check.specs.Checking.{bundle_tables, check_demands}
+use Rattle.bundle_check.specs.Answers.{entry}
 use Rattle.mu_model.specs.Types.{classes_taken}
 use Rattle.mu_model.specs.Configuration.{Configuration}
 use Rattle.mu_model.specs.Programs.{named}
@@ -36,3 +37,8 @@ RunsOfTextsHaveAnEnding = OfAcceptedTexts (λ bundle. (s : Setting) (function : 
 abbrev pub RunsOfTextsNeverBreak : Type 0
 RunsOfTextsNeverBreak = OfAcceptedTexts (λ bundle. (s : Setting) (function : ℕ) (c : Configuration) → IsPlain bundle s → classes_taken (bundle_tables bundle) function ≡ [] →
     first_configuration (named bundle) s function ≡ Some c → program_run (named bundle) s function ≢ Breaks)
+
+-- a plain run of a function that may be entered begins, and has an ending
+abbrev pub EnteredRunsHaveAnEnding : Type 0
+EnteredRunsHaveAnEnding = OfAcceptedTexts (λ bundle. (s : Setting) (name : List ℕ) (function : ℕ) → IsPlain bundle s → entry bundle name ≡ Ok function →
+    IsSome (first_configuration (named bundle) s function) × HasEnding (program_run (named bundle) s function))

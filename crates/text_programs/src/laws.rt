@@ -1,5 +1,5 @@
 // What holds of every text that is read and accepted.
-ghost use Rattle.text_programs.specs.Laws.{BundlesThatAreReadHaveBlocks, TextsAreTyped, RunsOfTextsHaveAnEnding, RunsOfTextsNeverBreak};
+ghost use Rattle.text_programs.specs.Laws.{BundlesThatAreReadHaveBlocks, TextsAreTyped, RunsOfTextsHaveAnEnding, RunsOfTextsNeverBreak, EnteredRunsHaveAnEnding};
 
 /// Each function that is defined in a bundle that is read has a block.
 pub fn bundles_that_are_read_have_blocks()
@@ -12,4 +12,9 @@ pub fn texts_never_break()
     ensures typed { TextsAreTyped }
     ensures endings { RunsOfTextsHaveAnEnding }
     ensures breaks { RunsOfTextsNeverBreak }
+{}
+
+/// The plain run of a function that may be entered begins, and has an ending.
+pub fn entered_runs_have_an_ending()
+    ensures { EnteredRunsHaveAnEnding }
 {}
