@@ -1,5 +1,5 @@
 -- A function has one name: by the items of the bundle as they are written, and by its number.
-use Rattle.std.proofs.Common.{◌≡◌, ℕ, zero, suc, ◌+◌, ◌<◌, ◌≤◌, Bool, true, false, List, [], ◌∷◌, ◌++◌, ◌⊎◌, inl, inr, Option, Some, None, length, slice_get, nat_eq, is_some, if◌then◌else◌, refl, sym, ◌∙◌, ap, subst, arith}
+use Rattle.std.proofs.Common.{◌≡◌, ℕ, zero, suc, ◌+◌, ◌<◌, ◌≤◌, Bool, true, false, List, [], ◌∷◌, ◌++◌, inl, inr, Option, Some, None, length, slice_get, nat_eq, is_some, if◌then◌else◌, refl, sym, ◌∙◌, ap, subst, arith}
 use Rattle.std.specs.Str.{bytes_eq}
 use Rattle.std.proofs.lemmas.Slice.Eq.{bytes_eq-Decides}
 use Rattle.demands.specs.Names.{Names, found, added}
@@ -9,9 +9,9 @@ use Rattle.ir_tree.specs.declared.items.Item.TheVariants as items
 use Rattle.bundle_names.specs.declared.globals.Sort.{Sort}
 use Rattle.bundle_names.specs.declared.globals.Sort.TheVariants as sorts
 use Rattle.bundle_names.specs.declared.globals.Globals.{Globals}
-use Rattle.bundle_names.specs.Globals.{with_function, with_item, with_items, no_globals, globals_of}
+use Rattle.bundle_names.specs.Globals.{with_item, with_items, no_globals, globals_of}
 use Rattle.check_tables.specs.declared.tables.Tables.{Tables}
-use Rattle.bundle_laws.proofs.Bodies.{some_is, found_added}
+use Rattle.bundle_laws.proofs.Bodies.{found_added}
 use Rattle.bundle_tables.specs.Entries.{is_function, tables_of}
 use Rattle.bundle_check.specs.declared.code.Function.{Function}
 use Rattle.bundle_check.specs.Functions.{first_blocks, function_named, functions_behind, functions_from}

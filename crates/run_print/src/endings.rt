@@ -4,8 +4,8 @@ ghost use Rattle.mu_base.specs.Files.{IsPrefix};
 ghost use Rattle.run_texts.specs.EventTexts.{place_text};
 ghost use Rattle.run_texts.specs.Texts.{case_text, race_text, ending_text, ending_status};
 
-use crate::events::kind_text;
-use crate::numbers::{numbered, threads_text, wide_text};
+use crate::events::spaced_kind;
+use crate::numbers::{numbered, wide_numbered, worded_threads};
 use crate::records::placed;
 use bundle_check::Checked;
 use mu_base::Status;
@@ -41,34 +41,57 @@ fn race_text(code: &Checked, race: Option<Raced>, out: &mut Vec<u8>) -> Result<(
     match race {
         None => Ok(()),
         Some(raced) => {
-            out.extend_from_slice(b" ")?;
-            kind_text(code, &raced.event.kind, out)?;
+            spaced_kind(code, &raced.event.kind, out)?;
             numbered(b" with ", raced.earlier, out)
         }
     }
 }
 
-// Appends an undefined case of a thread at a place. Where no memory is found a part of it may have been appended.
+// Appends the name of an undefined case. Where no memory is found a part of it may have been appended.
 #[tactic(auto, using(bundle_check::proofs::Prefixes::prefix_self, bundle_check::proofs::Prefixes::prefix_longer, bundle_check::proofs::Prefixes::prefix_again))]
-fn undefined_case(code: &Checked, case: Case, thread: u32, block: u32, at: u32, out: &mut Vec<u8>) -> Result<(), AllocError>
-    ensures appended { OnOk result (out.new.items ≡ out.old.items ++ codes "undefined " ++ case_text case ++ codes " t" ++ decimal thread ++ codes " " ++ place_text code.now block at) }
+fn case_words(case: Case, out: &mut Vec<u8>) -> Result<(), AllocError>
+    ensures appended { OnOk result (out.new.items ≡ out.old.items ++ (codes "undefined " ++ case_text case)) }
     ensures begins { OnErr result (IsPrefix out.old.items out.new.items) }
 {
     out.extend_from_slice(b"undefined ")?;
-    out.extend_from_slice(case_name(case).as_bytes())?;
+    out.extend_from_slice(case_name(case).as_bytes())
+}
+
+// Appends an undefined case of a thread at a place. Where no memory is found a part of it may have been appended.
+#[tactic(auto, using(bundle_check::proofs::Prefixes::prefix_self, bundle_check::proofs::Prefixes::prefix_longer, bundle_check::proofs::Prefixes::prefix_again))]
+fn undefined_case(
+    code: &Checked,
+    case: Case,
+    thread: u32,
+    block: u32,
+    at: u32,
+    out: &mut Vec<u8>,
+) -> Result<(), AllocError>
+    ensures appended { OnOk result (out.new.items ≡ out.old.items ++ (codes "undefined " ++ case_text case ++ codes " t" ++ decimal thread ++ codes " " ++ place_text code.now block at)) }
+    ensures begins { OnErr result (IsPrefix out.old.items out.new.items) }
+{
+    case_words(case, out)?;
     placed(code, b" t", thread, block, at, out)
 }
 
-// Appends what a thread asked for and what is left. Where no memory is found a part of it may have been appended.
+// Appends what was asked for and what is left. Where no memory is found a part of it may have been appended.
+#[tactic(auto, using(bundle_check::proofs::Prefixes::prefix_self, bundle_check::proofs::Prefixes::prefix_longer, bundle_check::proofs::Prefixes::prefix_again))]
+fn asked_and_left(asked: u128, left: u32, out: &mut Vec<u8>) -> Result<(), AllocError>
+    ensures appended { OnOk result (out.new.items ≡ out.old.items ++ (codes " asked " ++ decimal asked ++ codes " left " ++ decimal left)) }
+    ensures begins { OnErr result (IsPrefix out.old.items out.new.items) }
+{
+    wide_numbered(b" asked ", asked, out)?;
+    numbered(b" left ", left, out)
+}
+
+// Appends that the heap is full. Where no memory is found a part of it may have been appended.
 #[tactic(auto, using(bundle_check::proofs::Prefixes::prefix_self, bundle_check::proofs::Prefixes::prefix_longer, bundle_check::proofs::Prefixes::prefix_again))]
 fn heap_full(thread: u32, asked: u128, left: u32, out: &mut Vec<u8>) -> Result<(), AllocError>
-    ensures appended { OnOk result (out.new.items ≡ out.old.items ++ codes "heap full t" ++ decimal thread ++ codes " asked " ++ decimal asked ++ codes " left " ++ decimal left) }
+    ensures appended { OnOk result (out.new.items ≡ out.old.items ++ (codes "heap full t" ++ decimal thread ++ (codes " asked " ++ decimal asked ++ codes " left " ++ decimal left))) }
     ensures begins { OnErr result (IsPrefix out.old.items out.new.items) }
 {
     numbered(b"heap full t", thread, out)?;
-    out.extend_from_slice(b" asked ")?;
-    wide_text(asked, out)?;
-    numbered(b" left ", left, out)
+    asked_and_left(asked, left, out)
 }
 
 // Appends an ending, without its line feed. Where no memory is found a part of it may have been appended.
@@ -96,10 +119,7 @@ fn ending_words(code: &Checked, ending: &Ending, out: &mut Vec<u8>) -> Result<()
             left,
         } => heap_full(*thread, *asked, *left, out),
         Ending::ThreadsFull { thread } => numbered(b"threads full t", *thread, out),
-        Ending::AllWaiting { threads } => {
-            out.extend_from_slice(b"all waiting")?;
-            threads_text(threads.as_slice(), out)
-        }
+        Ending::AllWaiting { threads } => worded_threads(b"all waiting", threads.as_slice(), out),
         Ending::Budget { steps } => numbered(b"budget ", *steps, out),
     }
 }

@@ -4,8 +4,8 @@ ghost use Rattle.mu_base.specs.Files.{IsPrefix};
 ghost use Rattle.mem_axioms.specs.declared.types.Kind.TheVariants as kinds;
 ghost use Rattle.run_texts.specs.EventTexts.{order_text, mode_text, kind_text, cell_text, scalar_text, thread_text};
 
-use crate::numbers::{cell_text, numbered};
-use crate::values::scalar_text;
+use crate::numbers::{number_text, numbered, worded_cell};
+use crate::values::spaced_scalar;
 use bundle_check::Checked;
 use heap_cells::CellId;
 use mem_axioms::{Event, Kind, Mode};
@@ -42,7 +42,7 @@ fn mode_name(mode: Mode) -> &'static str
 // Appends words, and a memory order behind them. Where no memory is found a part of it may have been appended.
 #[tactic(auto, using(bundle_check::proofs::Prefixes::prefix_self, bundle_check::proofs::Prefixes::prefix_longer))]
 fn ordered(words: &[u8], order: Order, out: &mut Vec<u8>) -> Result<(), AllocError>
-    ensures appended { OnOk result (out.new.items ≡ out.old.items ++ words.now ++ order_text order) }
+    ensures appended { OnOk result (out.new.items ≡ out.old.items ++ (words.now ++ order_text order)) }
     ensures begins { OnErr result (IsPrefix out.old.items out.new.items) }
 {
     out.extend_from_slice(words)?;
@@ -52,11 +52,10 @@ fn ordered(words: &[u8], order: Order, out: &mut Vec<u8>) -> Result<(), AllocErr
 // Appends words, a cell and a number. Where no memory is found a part of it may have been appended.
 #[tactic(auto, using(bundle_check::proofs::Prefixes::prefix_self, bundle_check::proofs::Prefixes::prefix_longer, bundle_check::proofs::Prefixes::prefix_again))]
 fn counted_cell(words: &[u8], cell: CellId, n: u32, out: &mut Vec<u8>) -> Result<(), AllocError>
-    ensures appended { OnOk result (out.new.items ≡ out.old.items ++ words.now ++ cell_text cell ++ codes " " ++ decimal n) }
+    ensures appended { OnOk result (out.new.items ≡ out.old.items ++ (words.now ++ cell_text cell ++ codes " " ++ decimal n)) }
     ensures begins { OnErr result (IsPrefix out.old.items out.new.items) }
 {
-    out.extend_from_slice(words)?;
-    cell_text(cell, out)?;
+    worded_cell(words, cell, out)?;
     numbered(b" ", n, out)
 }
 
@@ -69,17 +68,16 @@ fn accessed(
     value: &Scalar,
     out: &mut Vec<u8>,
 ) -> Result<(), AllocError>
-    ensures appended { OnOk result (out.new.items ≡ out.old.items ++ codes " " ++ cell_text cell ++ codes " " ++ decimal position ++ codes " " ++ scalar_text code.now value.now) }
+    ensures appended { OnOk result (out.new.items ≡ out.old.items ++ (codes " " ++ cell_text cell ++ codes " " ++ decimal position ++ codes " " ++ scalar_text code.now value.now)) }
     ensures begins { OnErr result (IsPrefix out.old.items out.new.items) }
 {
     counted_cell(b" ", cell, position, out)?;
-    out.extend_from_slice(b" ")?;
-    scalar_text(code, value, out)
+    spaced_scalar(code, value, out)
 }
 
-/// Appends what happened. Where no memory is found a part of it may have been appended.
+// Appends what happened. Where no memory is found a part of it may have been appended.
 #[tactic(auto, using(bundle_check::proofs::Prefixes::prefix_self, bundle_check::proofs::Prefixes::prefix_longer, bundle_check::proofs::Prefixes::prefix_again))]
-pub fn kind_text(code: &Checked, kind: &Kind, out: &mut Vec<u8>) -> Result<(), AllocError>
+fn kind_text(code: &Checked, kind: &Kind, out: &mut Vec<u8>) -> Result<(), AllocError>
     ensures appended { OnOk result (out.new.items ≡ out.old.items ++ kind_text code.now kind.now) }
     ensures begins { OnErr result (IsPrefix out.old.items out.new.items) }
 {
@@ -104,14 +102,37 @@ pub fn kind_text(code: &Checked, kind: &Kind, out: &mut Vec<u8>) -> Result<(), A
     }
 }
 
-/// Appends an event behind its number, without its line feed. Where no memory is found a part of it may have been appended.
+/// Appends what happened behind a space. Where no memory is found a part of it may have been appended.
 #[tactic(auto, using(bundle_check::proofs::Prefixes::prefix_self, bundle_check::proofs::Prefixes::prefix_longer, bundle_check::proofs::Prefixes::prefix_again))]
-pub fn event_text(code: &Checked, number: u32, event: &Event, out: &mut Vec<u8>) -> Result<(), AllocError>
-    ensures appended { OnOk result (out.new.items ≡ out.old.items ++ decimal number ++ codes " " ++ thread_text event.now.thread ++ codes " " ++ kind_text code.now event.now.kind) }
+pub fn spaced_kind(code: &Checked, kind: &Kind, out: &mut Vec<u8>) -> Result<(), AllocError>
+    ensures appended { OnOk result (out.new.items ≡ out.old.items ++ (codes " " ++ kind_text code.now kind.now)) }
     ensures begins { OnErr result (IsPrefix out.old.items out.new.items) }
 {
-    numbered(b"", number, out)?;
-    numbered(b" t", event.thread, out)?;
     out.extend_from_slice(b" ")?;
-    kind_text(code, &event.kind, out)
+    kind_text(code, kind, out)
+}
+
+// Appends the number of an event and its thread. Where no memory is found a part of it may have been appended.
+#[tactic(auto, using(bundle_check::proofs::Prefixes::prefix_self, bundle_check::proofs::Prefixes::prefix_longer, bundle_check::proofs::Prefixes::prefix_again))]
+fn event_head(number: u32, thread: u32, out: &mut Vec<u8>) -> Result<(), AllocError>
+    ensures appended { OnOk result (out.new.items ≡ out.old.items ++ (decimal number ++ codes " " ++ thread_text thread)) }
+    ensures begins { OnErr result (IsPrefix out.old.items out.new.items) }
+{
+    number_text(number, out)?;
+    numbered(b" t", thread, out)
+}
+
+/// Appends an event behind its number, without its line feed. Where no memory is found a part of it may have been appended.
+#[tactic(auto, using(bundle_check::proofs::Prefixes::prefix_self, bundle_check::proofs::Prefixes::prefix_longer, bundle_check::proofs::Prefixes::prefix_again))]
+pub fn event_text(
+    code: &Checked,
+    number: u32,
+    event: &Event,
+    out: &mut Vec<u8>,
+) -> Result<(), AllocError>
+    ensures appended { OnOk result (out.new.items ≡ out.old.items ++ (decimal number ++ codes " " ++ thread_text event.now.thread ++ codes " " ++ kind_text code.now event.now.kind)) }
+    ensures begins { OnErr result (IsPrefix out.old.items out.new.items) }
+{
+    event_head(number, event.thread, out)?;
+    spaced_kind(code, &event.kind, out)
 }

@@ -14,9 +14,9 @@ use mu_types::TypeDef;
 use mu_values::{Passed, Scalar};
 use std::alloc::AllocError;
 
-/// Appends a scalar. Where no memory is found a part of it may have been appended.
+// Appends a scalar. Where no memory is found a part of it may have been appended.
 #[tactic(auto, using(bundle_check::proofs::Prefixes::prefix_self))]
-pub fn scalar_text(code: &Checked, scalar: &Scalar, out: &mut Vec<u8>) -> Result<(), AllocError>
+fn scalar_text(code: &Checked, scalar: &Scalar, out: &mut Vec<u8>) -> Result<(), AllocError>
     ensures appended { OnOk result (out.new.items ≡ out.old.items ++ scalar_text code.now scalar.now) }
     ensures begins { OnErr result (IsPrefix out.old.items out.new.items) }
 {
@@ -31,6 +31,16 @@ pub fn scalar_text(code: &Checked, scalar: &Scalar, out: &mut Vec<u8>) -> Result
     }
 }
 
+/// Appends a scalar behind a space. Where no memory is found a part of it may have been appended.
+#[tactic(auto, using(bundle_check::proofs::Prefixes::prefix_self, bundle_check::proofs::Prefixes::prefix_longer, bundle_check::proofs::Prefixes::prefix_again))]
+pub fn spaced_scalar(code: &Checked, scalar: &Scalar, out: &mut Vec<u8>) -> Result<(), AllocError>
+    ensures appended { OnOk result (out.new.items ≡ out.old.items ++ (codes " " ++ scalar_text code.now scalar.now)) }
+    ensures begins { OnErr result (IsPrefix out.old.items out.new.items) }
+{
+    out.extend_from_slice(b" ")?;
+    scalar_text(code, scalar, out)
+}
+
 // Appends scalars, each behind a space. Where no memory is found some of them may have been appended.
 #[tactic(auto, using(bundle_check::proofs::Prefixes::prefix_self, bundle_check::proofs::Prefixes::prefix_longer, bundle_check::proofs::Prefixes::prefix_again, crate::proofs::Spaces::spaced_is))]
 fn more_scalars(code: &Checked, scalars: &[Scalar], out: &mut Vec<u8>) -> Result<(), AllocError>
@@ -38,8 +48,7 @@ fn more_scalars(code: &Checked, scalars: &[Scalar], out: &mut Vec<u8>) -> Result
     ensures begins { OnErr result (IsPrefix out.old.items out.new.items) }
 {
     for scalar in scalars {
-        out.extend_from_slice(b" ")?;
-        scalar_text(code, scalar, out)?;
+        spaced_scalar(code, scalar, out)?;
     }
     Ok(())
 }
@@ -82,7 +91,12 @@ fn braced(code: &Checked, scalars: &[Scalar], out: &mut Vec<u8>) -> Result<(), A
 }
 
 // Appends a value of a class. Where no memory is found a part of it may have been appended.
-fn value_text(code: &Checked, class: u32, value: &[Scalar], out: &mut Vec<u8>) -> Result<(), AllocError>
+fn value_text(
+    code: &Checked,
+    class: u32,
+    value: &[Scalar],
+    out: &mut Vec<u8>,
+) -> Result<(), AllocError>
     ensures appended { OnOk result (out.new.items ≡ out.old.items ++ value_text code.now (class, value.now)) }
     ensures begins { OnErr result (IsPrefix out.old.items out.new.items) }
 {
@@ -93,6 +107,21 @@ fn value_text(code: &Checked, class: u32, value: &[Scalar], out: &mut Vec<u8>) -
     }
 }
 
+// Appends a value of a class behind a space. Where no memory is found a part of it may have been appended.
+#[tactic(auto, using(bundle_check::proofs::Prefixes::prefix_self, bundle_check::proofs::Prefixes::prefix_longer, bundle_check::proofs::Prefixes::prefix_again))]
+fn spaced_value(
+    code: &Checked,
+    class: u32,
+    value: &[Scalar],
+    out: &mut Vec<u8>,
+) -> Result<(), AllocError>
+    ensures appended { OnOk result (out.new.items ≡ out.old.items ++ (codes " " ++ value_text code.now (class, value.now))) }
+    ensures begins { OnErr result (IsPrefix out.old.items out.new.items) }
+{
+    out.extend_from_slice(b" ")?;
+    value_text(code, class, value, out)
+}
+
 /// Appends values, each behind a space. Where no memory is found some of them may have been appended.
 #[tactic(auto, using(bundle_check::proofs::Prefixes::prefix_self, bundle_check::proofs::Prefixes::prefix_longer, bundle_check::proofs::Prefixes::prefix_again))]
 pub fn values_text(code: &Checked, values: &Passed, out: &mut Vec<u8>) -> Result<(), AllocError>
@@ -100,8 +129,7 @@ pub fn values_text(code: &Checked, values: &Passed, out: &mut Vec<u8>) -> Result
     ensures begins { OnErr result (IsPrefix out.old.items out.new.items) }
 {
     for n in 0..values.values().len() {
-        out.extend_from_slice(b" ")?;
-        value_text(code, values.types().at(n), values.values().at(n), out)?;
+        spaced_value(code, values.types().at(n), values.values().at(n), out)?;
     }
     Ok(())
 }
