@@ -40,7 +40,7 @@ makes_hybrid p c u t many =
 
 -- an object of the frame
 abbrev pub owning : Turn → ℕ → Turn
-owning u n = record u { top = record u.top { objects = n ∷ u.top.objects } }
+owning u n = record u { top = record u.top { objects = u.top.objects ++ n ∷ [] } }
 
 abbrev pub makes_own : Program → Configuration → Turn → ℕ → Outcome
 makes_own p c u t =
