@@ -8,5 +8,6 @@ pub mod Machines
 pub mod OneThread
 pub mod Outcome
 pub mod Plain
+pub mod Starting
 pub mod StepLaws
 pub mod Unwinding

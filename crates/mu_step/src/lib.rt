@@ -6,6 +6,7 @@ mod built;
 mod calls;
 mod exceptions;
 mod flow;
+mod globals;
 mod machine;
 mod objects;
 mod results;

@@ -1,5 +1,6 @@
 // The machine.
-ghost use Rattle.std.specs.Prelude.{◌≡◌, ◌≢◌, IsSome, Some, IfOk, OnErr, [], ◌∷◌, true};
+ghost use Rattle.std.specs.Prelude.{◌≡◌, ◌≢◌, ◌<◌, IsSome, Some, IfOk, OnErr, length};
+ghost use Rattle.std.specs.List.{All};
 ghost use Rattle.bundle_check.specs.Checking.{bundle_tables};
 ghost use Rattle.typed_heap.specs.Heap.{AreNarrow};
 ghost use Rattle.mu_model.specs.Programs.{named};
@@ -40,6 +41,33 @@ impl<'a> Model for Machine<'a> {
 }
 
 impl<'a> Machine<'a> {
+    /// A machine at the beginning of the run of a function: thread 0 stands on stack 0, where the function's first block begins.
+    #[tactic(auto, using(crate::specs::Starting::begins))]
+    pub fn new(
+        alloc: Global,
+        code: &'a Checked,
+        entry: u32,
+        cells: u32,
+        budget: u32,
+    ) -> Result<Machine<'a>, AllocError>
+        requires narrow { AreNarrow (bundle_tables code.now).types.definitions }
+        requires globals { All (λ c. c < length (bundle_tables code.now).types.definitions) (bundle_tables code.now).global_cells }
+        requires there { IsSome (first_configuration (named code.now) (plain_setting (bundle_tables code.now) cells budget) entry) }
+        ensures bundle { IfOk result (λ m. m.bundle ≡ code.now) }
+        ensures first { IfOk result (λ m. first_configuration (named code.now) (plain_setting (bundle_tables code.now) cells budget) entry ≡ Some m.configuration) }
+    {
+        let _items = code.items();
+        programs_are_same();
+        let state = State::start(alloc, code, entry, cells, budget)?;
+        Ok(Machine {
+            alloc,
+            code,
+            state,
+            room: Room::new(alloc),
+            spare: Slots::new(alloc),
+        })
+    }
+
     /// One step of the run. Where no memory is found nothing changes.
     #[tactic(auto, using(crate::specs::Machines::machines))]
     pub fn step(&mut self) -> Result<StepEnd, AllocError>

@@ -18,13 +18,13 @@ use step_forms::{Variables, read_goal, read_kept};
 
 /// What a frame waits for: the classes of what it is to be given, where an exception goes that comes, and what a client sees of it.
 #[derive(Drop)]
-pub(crate) struct Waiting {
+pub(crate) struct Wait {
     waits: Types,
     handler: Option<Handler>,
     kept: Passed,
 }
 
-impl Model for Waiting {
+impl Model for Wait {
     ghost use Rattle.std.specs.Prelude.{option_map};
     ghost use Rattle.frames.specs.FrameOf.{goal_of};
     ghost use Rattle.mu_step.specs.Acting.{Awaited};
@@ -104,7 +104,7 @@ pub(crate) fn waiting(
     code: &Checked,
     frame: &Frame,
     function: u32,
-) -> Result<Waiting, AllocError>
+) -> Result<Wait, AllocError>
     requires { IsSome (awaited code.now (frame_of frame.now) function) }
     ensures { IfOk result (λ w. awaited code.now (frame_of frame.now) function ≡ Some w) }
 {
@@ -119,7 +119,7 @@ pub(crate) fn waiting(
         &frame.slots,
         instruction.keepalive.as_slice(),
     )?;
-    Ok(Waiting {
+    Ok(Wait {
         waits,
         handler,
         kept,
@@ -143,7 +143,7 @@ pub(crate) fn entered(alloc: Global, block: u32, slots: Slots) -> Frame
 }
 
 /// The frame waits so, and what it waited for before is handed back.
-fn exchange(frame: &mut Frame, waiting: &mut Waiting)
+fn exchange(frame: &mut Frame, waiting: &mut Wait)
     ensures frame { frame_of frame.new ≡ with_awaited (frame_of frame.old) waiting.old }
     ensures before { with_awaited (frame_of frame.new) waiting.new ≡ frame_of frame.old }
 {
@@ -153,7 +153,7 @@ fn exchange(frame: &mut Frame, waiting: &mut Waiting)
 }
 
 /// The same of the top frame.
-fn exchange_on_top(frames: &mut Frames, waiting: &mut Waiting)
+fn exchange_on_top(frames: &mut Frames, waiting: &mut Wait)
     ensures frames { frames.new ≡ record frames.old { top = with_awaited frames.old.top waiting.old } }
     ensures before { record frames.new { top = with_awaited frames.new.top waiting.new } ≡ frames.old }
 {
@@ -164,7 +164,7 @@ fn exchange_on_top(frames: &mut Frames, waiting: &mut Waiting)
 pub(crate) fn enter(
     frames: &mut Frames,
     frame: Frame,
-    mut waiting: Waiting,
+    mut waiting: Wait,
 ) -> Result<(), AllocError>
     ensures ok { OnOk result (frames.new ≡ entered_above frames.old (frame_of frame) waiting) }
     ensures err { OnErr result (frames.new ≡ frames.old) }
