@@ -578,7 +578,7 @@ throw_there bundle s e n h first =
     let r = caught_there bundle s e n h first in
     (r.0.frame, r.0.goal, r.0.there, r.0.handler, some_there (gets bundle r.0.frame r.0.goal e) r.1 r.2, get_below (frames_of s.frames) n r.0.frame r.0.there)
 
-drop_at : (fs : List Activation) (n : ℕ) (f t : Activation) (bs : List Activation) → slice_get fs n ≡ Some f → t ∷ bs ≡ drop n fs → (t ≡ f) × (bs ≡ drop (suc n) fs)
+pub drop_at : (fs : List Activation) (n : ℕ) (f t : Activation) (bs : List Activation) → slice_get fs n ≡ Some f → t ∷ bs ≡ drop n fs → (t ≡ f) × (bs ≡ drop (suc n) fs)
 drop_at [] n f t bs h e = cc
 drop_at (x ∷ fs) zero f t bs h e = let same : t ≡ x = cc in let rest : bs ≡ fs = cc in (same ∙ (let is : x ≡ f = cc in is), rest)
 drop_at (x ∷ fs) (suc n) f t bs h e = drop_at fs n f t bs h e

@@ -1,10 +1,11 @@
 -- Laws of lists that are gone through from the front.
-use Rattle.std.specs.Prelude.{◌≡◌, ℕ, zero, suc, ◌+◌, ◌<◌, ◌≤◌, Bool, List, [], ◌∷◌, ◌++◌, Option, Some, None, IfSome, length, slice_get, slice_set, take, drop, fold, flat_map, refl}
+use Rattle.std.specs.Prelude.{◌≡◌, ℕ, zero, suc, ◌+◌, ◌<◌, ◌≤◌, Bool, List, [], ◌∷◌, ◌++◌, Option, Some, None, IfSome, length, slice_get, slice_index_or, slice_set, take, drop, fold, flat_map, refl}
 use Rattle.std.proofs.Common.{sym, ◌∙◌, ap, append_assoc, subst, arith, add-one}
 use Rattle.std.proofs.lemmas.List.{append-nil}
+use Rattle.std.proofs.Math.Seq.{take-suc}
 use Rattle.std.proofs.Common.{length-drop}
 use Rattle.typed_heap.specs.Objects.{HeapObject, killed}
-use Rattle.frames.specs.Activations.{Activation}
+use Rattle.frames.specs.Activations.{Value, Activation}
 use Rattle.frames.specs.Chains.{Chain, frames_of}
 use Rattle.mu_model.specs.Changes.{changed}
 use Rattle.mu_step.specs.Acting.{objects_end}
@@ -22,6 +23,11 @@ get_there : {A : Type 0} (xs : List A) (n : ℕ) → n < length xs → (x : A) �
 get_there [] n h = absurd (omega arith)
 get_there (y ∷ ys) zero h = (y, refl)
 get_there (y ∷ ys) (suc n) h = get_there ys n (omega arith)
+
+-- the values once one more is added
+pub append_next : (from start before after : List Value) (n : ℕ) (x : Value) → before ≡ start ++ take n from → slice_get from n ≡ Some x → after ≡ before ++ x ∷ [] → after ≡ start ++ take (n + 1) from
+append_next from start before after n x was there is =
+    is ∙ ap (λ vs. vs ++ x ∷ []) was ∙ append_assoc start (take n from) (x ∷ []) ∙ ap (λ vs. start ++ vs) (sym (take_next from n x there))
 
 -- ---- objects that end one by one
 
@@ -88,10 +94,12 @@ end_one fs n c start before after h was is =
     ∙ ap (objects_end start) (sym (flat_behind (take n fs) (c.top ∷ []))) ∙ ap (λ xs. objects_end start (flat xs)) (sym step)
 
 -- one more object has ended
-pub end_next : (ns : List ℕ) (i n : ℕ) (start before after : List HeapObject) → slice_get ns i ≡ Some n → before ≡ objects_end start (take i ns) → after ≡ changed killed n before
+pub end_next : (ns : List ℕ) (i d : ℕ) (start before after : List HeapObject) → i < length ns → before ≡ objects_end start (take i ns) → after ≡ changed killed (slice_index_or ns i d) before
     → after ≡ objects_end start (take (i + 1) ns)
-end_next ns i n start before after h was is =
-    is ∙ ap (changed killed n) was ∙ sym (ends_one (objects_end start (take i ns)) n) ∙ sym (ends_behind start (take i ns) (n ∷ [])) ∙ ap (objects_end start) (sym (take_next ns i n h))
+end_next ns i d start before after h was is =
+    let n = slice_index_or ns i d in
+    let step : take (i + 1) ns ≡ take i ns ++ n ∷ [] = rw add-one (take-suc ns i d h) in
+    is ∙ ap (changed killed n) was ∙ sym (ends_one (objects_end start (take i ns)) n) ∙ sym (ends_behind start (take i ns) (n ∷ [])) ∙ ap (objects_end start) (sym step)
 
 -- a frame is left below those that are left so far
 pub enough_left : (fs : List Activation) (i n : ℕ) (c : Chain) → frames_of c ≡ drop i fs → i < n → n < length fs → 1 < length (frames_of c)

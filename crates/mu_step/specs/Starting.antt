@@ -1,12 +1,15 @@
 -- Inner: nothing that a reader believes of a run rests on this. It is the first configuration of a run, by the numbers of the code.
-use Rattle.std.specs.Prelude.{◌≡◌, ℕ, zero, suc, ◌+◌, ◌-◌, ◌<◌, true, List, [], ◌∷◌, ◌++◌, Option, Some, None, IsSome, length, map, take, drop, slice_get, sum_by, refl}
-use Rattle.std.proofs.Common.{sym, ◌∙◌, ap, subst, arith, sub-zero, add-one}
+use Rattle.std.specs.Prelude.{◌≡◌, ℕ, zero, suc, ◌+◌, ◌-◌, ◌<◌, true, List, [], ◌∷◌, ◌++◌, Option, Some, None, IsSome, length, map, take, drop, slice_get, slice_index_or, sum_by, refl}
+use Rattle.std.proofs.Common.{sym, ◌∙◌, ap, subst, arith, add-one}
+use Rattle.std.proofs.Math.Nat.{sub-zero}
+use Rattle.std.proofs.Math.Seq.{take-suc}
 use Rattle.std.specs.List.{All}
 use Rattle.ir_tree.specs.declared.items.Item.{Item}
 use Rattle.type_laws.specs.declared.definition.TypeDef.{TypeDef}
 use Rattle.type_laws.specs.declared.definition.TypeDef.TheVariants.{Iref}
 use Rattle.type_laws.specs.declared.definition.TypeDef.TheVariants as types
-use Rattle.type_laws.specs.Same.{IsGraph, arguments}
+use Rattle.type_laws.specs.Definition.{arguments}
+use Rattle.type_laws.specs.Same.{IsGraph}
 use Rattle.demands.specs.Demands.{first_unmet}
 use Rattle.bundle_names.specs.Naming.{name_demands}
 use Rattle.check_tables.specs.declared.tables.Tables.{Tables}
@@ -25,7 +28,6 @@ use Rattle.mu_step.specs.Plain.{plain_setting}
 use Rattle.mu_step.specs.OneThread.{OneThread, configuration}
 use Rattle.mu_step.specs.Acting.{entered}
 use Rattle.mu_step.specs.StepLaws.{some_of, with_there, with_is, get_below}
-use Rattle.mu_step.specs.Lists.{take_next}
 
 unfoldable pub starting : List Item → ℕ → ℕ → ℕ → Option Configuration
 starting bundle cells budget f = first_configuration (numbered bundle) (plain_setting (bundle_tables bundle) cells budget) f
@@ -40,13 +42,16 @@ leaves_of graph _ = []
 unfoldable pub global_object : List TypeDef → ℕ → HeapObject
 global_object graph c = object_of graph (leaves_of graph (slice_get graph c))
 
+index_is : {A : Type 0} (xs : List A) (n : ℕ) (d x : A) → slice_get xs n ≡ Some x → slice_index_or xs n d ≡ x
+index_is [] n d x e = cc
+index_is (y ∷ ys) zero d x e = cc
+index_is (y ∷ ys) (suc n) d x e = index_is ys n d x e
+
 all_at : {A : Type 0} (P : A → Type 0) (xs : List A) (n : ℕ) (x : A) → All P xs → slice_get xs n ≡ Some x → P x
-all_at P [] n x h e = cc
-all_at P (y ∷ ys) zero x h e = let same : y ≡ x = cc in subst P same h.0
-all_at P (y ∷ ys) (suc n) x h e = all_at P ys n x h.1 e
+all_at P xs n x h e = subst P (index_is xs n x x e) (h n x (get_below xs n x e))
 
 pub iref_within : (graph : List TypeDef) (c t : ℕ) → IsGraph graph → slice_get graph c ≡ Some (Iref t) → t < length graph
-iref_within graph c t h e = (all_at (λ d. All (λ y. y < length graph) (arguments d)) graph c (Iref t) h e).0
+iref_within graph c t h e = all_at (λ d. All (λ y. y < length graph) (arguments d)) graph c (Iref t) h e 0 0 (omega arith)
 
 pub iref_object : (graph : List TypeDef) (c t : ℕ) → slice_get graph c ≡ Some (Iref t) → global_object graph c ≡ object_of graph (leaf_classes graph t)
 unfolding global_object
@@ -88,9 +93,12 @@ map_behind : (f : ℕ → HeapObject) (xs ys : List ℕ) → map f (xs ++ ys) �
 map_behind f [] ys = refl
 map_behind f (x ∷ xs) ys = ap (λ zs. f x ∷ zs) (map_behind f xs ys)
 
-pub one_more : (p : Tables) (n c : ℕ) → slice_get p.global_cells n ≡ Some c → objects_so_far p (n + 1) ≡ objects_so_far p n ++ global_object p.types.definitions c ∷ []
+pub one_more : (p : Tables) (n d : ℕ) → n < length p.global_cells → objects_so_far p (n + 1) ≡ objects_so_far p n ++ global_object p.types.definitions (slice_index_or p.global_cells n d) ∷ []
 unfolding objects_so_far
-one_more p n c h = ap (map (global_object p.types.definitions)) (take_next p.global_cells n c h) ∙ map_behind (global_object p.types.definitions) (take n p.global_cells) (c ∷ [])
+one_more p n d h =
+    let c = slice_index_or p.global_cells n d in
+    let step : take (n + 1) p.global_cells ≡ take n p.global_cells ++ c ∷ [] = rw add-one (take-suc p.global_cells n d h) in
+    ap (map (global_object p.types.definitions)) step ∙ map_behind (global_object p.types.definitions) (take n p.global_cells) (c ∷ [])
 
 take_all : (xs : List ℕ) → take (length xs) xs ≡ xs
 take_all [] = refl
@@ -100,10 +108,7 @@ pub all_so_far : (p : Tables) (n : ℕ) → n ≡ length p.global_cells → obje
 unfolding objects_so_far
 all_so_far p n e = ap (λ m. map (global_object p.types.definitions) (take m p.global_cells)) e ∙ ap (map (global_object p.types.definitions)) (take_all p.global_cells) ∙ sym (objects_same p p.global_cells)
 
-pub class_within : (n c many : ℕ) (cs : List ℕ) → All (λ c. c < many) cs → slice_get cs n ≡ Some c → c < many
-class_within n c many cs h e = all_at (λ c. c < many) cs n c h e
-
-pub ruleset globals = (none_so_far, one_more, all_so_far, class_within)
+pub ruleset globals = (none_so_far, one_more, all_so_far)
 
 -- ---- the first configuration
 
@@ -129,6 +134,16 @@ none_taken p cells =
 
 abbrev pub first_state : Tables → ℕ → ℕ → ℕ → OneThread
 first_state p cells budget block = record { frames = record { top = entered block []; below = [] }; left = true; objects = global_objects p; cells = cells; steps = 0; budget = budget }
+
+abbrev pub state_of : Chain → List HeapObject → ℕ → ℕ → OneThread
+state_of fr os cs budget = record { frames = fr; left = true; objects = os; cells = cs; steps = 0; budget = budget }
+
+pub state_first : (p : Tables) (cells budget block : ℕ) (fr : Chain) (os : List HeapObject) (cs : ℕ) → fr.top ≡ entered block [] → fr.below ≡ [] → os ≡ global_objects p → cs ≡ cells
+    → state_of fr os cs budget ≡ first_state p cells budget block
+state_first p cells budget block fr os cs top below objects left =
+    let state : Chain → List HeapObject → ℕ → OneThread = λ fr os cs. record { frames = fr; left = true; objects = os; cells = cs; steps = 0; budget = budget } in
+    ap (λ t. state (record { top = t; below = fr.below }) os cs) top ∙ ap (λ bs. state (record { top = entered block []; below = bs }) os cs) below
+    ∙ ap (λ os. state (record { top = entered block []; below = [] }) os cs) objects ∙ ap (λ cs. state (record { top = entered block []; below = [] }) (global_objects p) cs) left
 
 pub start_is : (bundle : List Item) (cells budget f block : ℕ) (function : Function) (s : OneThread) → slice_get (bundle_functions bundle) f ≡ Some function → function.first ≡ Some block
     → s ≡ first_state (bundle_tables bundle) cells budget block → starting bundle cells budget f ≡ Some (configuration s)

@@ -1,5 +1,5 @@
 // What one thread does.
-ghost use Rattle.std.specs.Prelude.{◌≡◌, ◌≢◌, ◌<◌, [], ◌∷◌, ◌++◌, IsSome, Some, IfOk, OnErr, true};
+ghost use Rattle.std.specs.Prelude.{◌≡◌, ◌≢◌, ◌+◌, ◌<◌, [], ◌∷◌, ◌++◌, IsSome, Some, IfOk, OnErr, true};
 ghost use Rattle.frames.specs.Activations.{Value};
 ghost use Rattle.frames.specs.Chains.{stands};
 ghost use Rattle.mu_model.specs.Outcomes.{Stuck};
@@ -134,8 +134,28 @@ impl State {
         }
     }
 
-    /// The thread does its next instruction.
+    /// What the thread's next instruction asks, with values and classes in the room.
     #[tactic(auto, using(crate::specs::StepLaws::running))]
+    fn asks(&self, code: &Checked, room: &mut Room) -> Result<Act, AllocError>
+        requires built { IsBuilt code.now }
+        requires left { self.now.left ≡ true }
+        requires room { self.now.steps < self.now.budget }
+        requires there { stepping code.now self.now ≢ Stuck }
+        ensures { IfOk result (λ act. stepping code.now self.now ≡ acting code.now self.now (asked act room.new.values.values room.new.types.members)) }
+    {
+        let top = self.frames.top();
+        let block = code.block(top.block);
+        let form = &block.code.as_slice()[top.at as usize].form;
+        decide(
+            code,
+            block.classes.as_slice(),
+            &Variables::of(&top.slots),
+            form,
+            room,
+        )
+    }
+
+    /// The thread does its next instruction.
     fn run(
         &mut self,
         alloc: Global,
@@ -150,16 +170,7 @@ impl State {
         ensures ok { IfOk result (λ end. answers end self.new ≡ stepping code.now self.old) }
         ensures err { OnErr result (self.new ≡ self.old) }
     {
-        let top = self.frames.top();
-        let block = code.block(top.block);
-        let form = &block.code.as_slice()[top.at as usize].form;
-        let act = decide(
-            code,
-            block.classes.as_slice(),
-            &Variables::of(&top.slots),
-            form,
-            room,
-        )?;
+        let act = self.asks(code, room)?;
         self.perform(alloc, code, act, room, out)
     }
 

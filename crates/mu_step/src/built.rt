@@ -93,7 +93,10 @@ fn blocks_are_built(code: &Checked) -> Result<(), RunFault>
         return Err(RunFault::Memory);
     };
     for n in 0..many {
-        block_is_built(code, code.block(n))?;
+        match block_is_built(code, code.block(n)) {
+            Ok(()) => {}
+            Err(fault) => return Err(fault),
+        }
     }
     Ok(())
 }

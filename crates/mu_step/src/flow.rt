@@ -20,7 +20,7 @@ pub(crate) struct Place {
 }
 
 /// Adds values at the end of a list.
-#[tactic(auto, using(crate::specs::Lists::take_next))]
+#[tactic(auto, using(crate::specs::Lists::append_next))]
 fn append(from: &Slots, to: &mut Slots) -> Result<(), AllocError>
     ensures { OnOk result (to.new.values ≡ to.old.values ++ from.now.values) }
 {

@@ -1,5 +1,5 @@
 // What a frame waits for while a function that it called stands above it.
-ghost use Rattle.std.specs.Prelude.{◌≡◌, ◌∷◌, [], IsSome, Some, IfOk, OnOk, OnErr, length, option_map, option_copied};
+ghost use Rattle.std.specs.Prelude.{◌≡◌, ◌∷◌, [], IsSome, Some, IfOk, OnOk, OnErr, length, option_map};
 ghost use Rattle.bundle_check.specs.Checking.{bundle_tables};
 ghost use Rattle.frames.specs.FrameOf.{frame_of, goal_of};
 ghost use Rattle.mu_model.specs.Types.{classes_given};
@@ -54,10 +54,10 @@ fn handler(
     alloc: Global,
     code: &Checked,
     own: &Slots,
-    exceptional: Option<&Target>,
+    exceptional: &Option<Target>,
 ) -> Result<Option<Handler>, AllocError>
-    requires { IsSome (optional_goal_at code.now own.now.values (option_copied exceptional)) }
-    ensures { IfOk result (λ handler. optional_goal_at code.now own.now.values (option_copied exceptional.entry) ≡ Some (option_map goal_of handler)) }
+    requires { IsSome (optional_goal_at code.now own.now.values exceptional.now) }
+    ensures { IfOk result (λ handler. optional_goal_at code.now own.now.values exceptional.now ≡ Some (option_map goal_of handler)) }
 {
     match exceptional {
         None => Ok(None),
@@ -111,7 +111,7 @@ pub(crate) fn waiting(
     let block = code.block(frame.block);
     let instruction = &block.code.as_slice()[frame.at as usize];
     let waits = classes_given(alloc, code, function)?;
-    let handler = handler(alloc, code, &frame.slots, instruction.exceptional.as_ref())?;
+    let handler = handler(alloc, code, &frame.slots, &instruction.exceptional)?;
     let kept = kept(
         alloc,
         code,
