@@ -1,1 +1,7 @@
 pub mod Asked
+pub mod Built
+pub mod ConstantLaws
+pub mod OperandLaws
+pub mod OperandLists
+pub mod Reading
+pub mod VariableLists

@@ -3,7 +3,16 @@
 #![tactic(auto)]
 
 mod act;
+mod computing;
+mod control;
+mod deciding;
+mod operands;
+mod parts;
 mod room;
+mod variables;
 
 pub use act::Act;
+pub use deciding::{decide, form_is_built};
+pub use operands::{push_value, read_classes, read_goal, read_kept, read_values, scalar};
 pub use room::Room;
+pub use variables::Variables;

@@ -2,7 +2,7 @@
 ghost use Rattle.std.specs.Prelude.{◌≡◌, []};
 
 use mu_base::Types;
-use mu_values::Slots;
+use mu_values::{Scalar, Slots};
 use std::alloc::Global;
 
 /// Lists into which operands are read. A machine keeps one and lends it to each step, so that a step takes no memory once its lists
@@ -13,6 +13,8 @@ pub struct Room {
     pub values: Slots,
     /// The classes of such values.
     pub types: Types,
+    /// The scalars of a value that is put together.
+    pub scalars: Vec<Scalar>,
 }
 
 impl Room {
@@ -24,6 +26,7 @@ impl Room {
         Room {
             values: Slots::new(alloc),
             types: Types::new(alloc),
+            scalars: Vec::new(alloc),
         }
     }
 }

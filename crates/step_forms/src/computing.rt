@@ -1,0 +1,196 @@
+// Computations.
+ghost use Rattle.std.specs.Prelude.{◌≡◌, ℕ, ◌≤◌, [], ◌∷◌, List, Some, IsSome, IfOk};
+ghost use Rattle.bundle_check.specs.Checking.{bundle_tables};
+ghost use Rattle.frames.specs.Activations.{Value};
+ghost use Rattle.typed_heap.specs.Places.{with_some};
+ghost use Rattle.mu_model.specs.Acts as acts;
+ghost use Rattle.mu_model.specs.Types.{class_width};
+ghost use Rattle.mu_model.specs.ComputationForms.{result_or_fault, bit, binary_act, compare_act, convert_act, select_act, extractvalue_act, insertvalue_act};
+ghost use Rattle.model_numbers.specs.Sources.{value_at};
+ghost use Rattle.step_forms.specs.Asked.{asked};
+
+use crate::act::Act;
+use crate::operands::{is_one, push_value, read, scalar, scalars};
+use crate::parts::divided;
+use crate::room::Room;
+use crate::variables::Variables;
+use bundle_check::Checked;
+use code_check::Source;
+use mu_model::Case;
+use mu_types::TypeDef;
+use mu_values::{BinOp, CmpOp, ConvOp, Scalar};
+use std::alloc::AllocError;
+
+fn result_or_fault(width: u32, computed: Option<u128>) -> Act
+    ensures { (vs : List Value) (cs : List ℕ) → asked result vs cs ≡ result_or_fault width computed }
+{
+    match computed {
+        Some(bits) => Act::Gives(Scalar::Int { width, bits }),
+        None => Act::Faults(Case::DivideByZero),
+    }
+}
+
+/// ADD and its like. The width is that of the operands.
+#[tactic(auto, using(crate::specs::OperandLaws::operands))]
+pub fn binary(
+    code: &Checked,
+    vars: &Variables,
+    op: BinOp,
+    class: u32,
+    left: Source,
+    right: Source,
+) -> Act
+    requires { IsSome (binary_act (bundle_tables code.now) op class (value_at code.now vars.now left) (value_at code.now vars.now right)) }
+    ensures { (vs : List Value) (cs : List ℕ) → binary_act (bundle_tables code.now) op class (value_at code.now vars.now left) (value_at code.now vars.now right) ≡ Some (asked result vs cs) }
+{
+    let a = scalar(code, vars, left);
+    let b = scalar(code, vars, right);
+    match (a, b) {
+        (Scalar::Int { width, bits: a }, Scalar::Int { bits: b, .. }) => result_or_fault(
+            width,
+            mu_values::binary(op, width, a, b),
+        ),
+        _ => unreachable!(),
+    }
+}
+
+fn bit(holds: bool) -> u128
+    ensures { result ≡ bit holds }
+{
+    if holds { 1 } else { 0 }
+}
+
+/// EQ and its like.
+#[tactic(auto, using(crate::specs::OperandLaws::comparisons))]
+pub fn compare(code: &Checked, vars: &Variables, op: CmpOp, left: Source, right: Source) -> Act
+    requires { IsSome (compare_act op (value_at code.now vars.now left) (value_at code.now vars.now right)) }
+    ensures { (vs : List Value) (cs : List ℕ) → compare_act op (value_at code.now vars.now left) (value_at code.now vars.now right) ≡ Some (asked result vs cs) }
+{
+    let a = scalar(code, vars, left);
+    let b = scalar(code, vars, right);
+    let bits = bit(mu_values::compare(op, &a, &b));
+    Act::Gives(Scalar::Int { width: 1, bits })
+}
+
+/// The width of the ints of a class.
+#[tactic(auto, using(crate::specs::OperandLaws::widths))]
+fn width(code: &Checked, class: u32) -> u32
+    requires there { IsSome (class_width (bundle_tables code.now) class) }
+    requires few { (w : ℕ) → class_width (bundle_tables code.now) class ≡ Some w → w ≤ 128 }
+    ensures { class_width (bundle_tables code.now) class ≡ Some result }
+{
+    match code.classes().definition(class) {
+        TypeDef::Int { width } => *width as u32,
+        _ => unreachable!(),
+    }
+}
+
+/// TRUNC, ZEXT and SEXT. The width before is that of the operand.
+#[tactic(auto, using(crate::specs::OperandLaws::conversions_there))]
+pub fn convert(
+    code: &Checked,
+    vars: &Variables,
+    op: ConvOp,
+    from: u32,
+    to: u32,
+    operand: Source,
+) -> Act
+    requires { IsSome (convert_act (bundle_tables code.now) op from to (value_at code.now vars.now operand)) }
+    ensures { (vs : List Value) (cs : List ℕ) → convert_act (bundle_tables code.now) op from to (value_at code.now vars.now operand) ≡ Some (asked result vs cs) }
+{
+    match scalar(code, vars, operand) {
+        Scalar::Int {
+            width: before,
+            bits,
+        } => {
+            let after = width(code, to);
+            Act::Gives(Scalar::Int {
+                width: after,
+                bits: mu_values::convert(op, before, after, bits),
+            })
+        }
+        _ => unreachable!(),
+    }
+}
+
+/// The value of an operand is given.
+#[tactic(auto, using(crate::specs::OperandLaws::operands))]
+fn give(
+    code: &Checked,
+    vars: &Variables,
+    source: Source,
+    room: &mut Room,
+) -> Result<Act, AllocError>
+    requires { IsSome (value_at code.now vars.now source) }
+    ensures { IfOk result (λ act. with_some (value_at code.now vars.now source) (λ v. Some (acts.Gives (v ∷ []))) ≡ Some (asked act room.new.values.values room.new.types.members)) }
+{
+    room.values.clear();
+    push_value(code, vars, source, &mut room.values)?;
+    Ok(Act::GivesValues)
+}
+
+/// SELECT
+#[tactic(auto, using(crate::specs::OperandLaws::operands))]
+pub fn select(
+    code: &Checked,
+    vars: &Variables,
+    condition: Source,
+    if_one: Source,
+    if_zero: Source,
+    room: &mut Room,
+) -> Result<Act, AllocError>
+    requires { IsSome (select_act (value_at code.now vars.now condition) (value_at code.now vars.now if_one) (value_at code.now vars.now if_zero)) }
+    ensures { IfOk result (λ act. select_act (value_at code.now vars.now condition) (value_at code.now vars.now if_one) (value_at code.now vars.now if_zero) ≡ Some (asked act room.new.values.values room.new.types.members)) }
+{
+    if is_one(code, vars, condition) {
+        give(code, vars, if_one, room)
+    } else {
+        give(code, vars, if_zero, room)
+    }
+}
+
+/// EXTRACTVALUE
+#[tactic(auto, using(crate::specs::OperandLaws::operands))]
+pub fn extractvalue(
+    code: &Checked,
+    vars: &Variables,
+    class: u32,
+    field: usize,
+    operand: Source,
+    room: &mut Room,
+) -> Result<Act, AllocError>
+    requires { IsSome (extractvalue_act (bundle_tables code.now) class field (value_at code.now vars.now operand)) }
+    ensures { IfOk result (λ act. extractvalue_act (bundle_tables code.now) class field (value_at code.now vars.now operand) ≡ Some (asked act room.new.values.values room.new.types.members)) }
+{
+    let value = read(code, vars, operand);
+    let parts = divided(code, class, field, scalars(&value));
+    room.values.clear();
+    room.values.push_slice(parts.field)?;
+    Ok(Act::GivesValues)
+}
+
+/// INSERTVALUE
+#[tactic(auto, using(crate::specs::OperandLaws::operands))]
+pub fn insertvalue(
+    code: &Checked,
+    vars: &Variables,
+    class: u32,
+    field: usize,
+    operand: Source,
+    value: Source,
+    room: &mut Room,
+) -> Result<Act, AllocError>
+    requires { IsSome (insertvalue_act (bundle_tables code.now) class field (value_at code.now vars.now operand) (value_at code.now vars.now value)) }
+    ensures { IfOk result (λ act. insertvalue_act (bundle_tables code.now) class field (value_at code.now vars.now operand) (value_at code.now vars.now value) ≡ Some (asked act room.new.values.values room.new.types.members)) }
+{
+    let operand = read(code, vars, operand);
+    let value = read(code, vars, value);
+    let parts = divided(code, class, field, scalars(&operand));
+    room.scalars.clear();
+    room.scalars.extend_from_slice(parts.before)?;
+    room.scalars.extend_from_slice(scalars(&value))?;
+    room.scalars.extend_from_slice(parts.behind)?;
+    room.values.clear();
+    room.values.push_slice(room.scalars.as_slice())?;
+    Ok(Act::GivesValues)
+}

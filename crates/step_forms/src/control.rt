@@ -1,0 +1,156 @@
+// Instructions that say where the function goes on, or that enter or leave one.
+ghost use Rattle.std.specs.Prelude.{◌≡◌, ℕ, List, map, Some, IsSome, IfOk};
+ghost use Rattle.mu_values.specs.SameScalar.{same_scalar};
+ghost use Rattle.bundle_check.specs.Checking.{bundle_tables};
+ghost use Rattle.frames.specs.Activations.{Value};
+ghost use Rattle.typed_heap.specs.Places.{with_some};
+ghost use Rattle.mu_model.specs.Acts as acts;
+ghost use Rattle.mu_model.specs.ComputationForms.{scalar_act};
+ghost use Rattle.mu_model.specs.ControlForms.{branch_act, branch2_act, switch_act, call_act, ret_act};
+ghost use Rattle.model_numbers.specs.Sources.{value_at, values_at, classes_at, goal_at};
+ghost use Rattle.model_numbers.specs.Forms.{arm_at};
+ghost use Rattle.step_forms.specs.Asked.{asked};
+
+use crate::act::Act;
+use crate::operands::{constant, is_one, only, read_classes, read_goal, read_values, scalar};
+use crate::room::Room;
+use crate::variables::Variables;
+use bundle_check::Checked;
+use code_check::{CaseForm, Source, Target};
+use mu_model::Case;
+use mu_values::Scalar;
+use std::alloc::AllocError;
+
+/// BRANCH
+#[tactic(auto, using(crate::specs::OperandLaws::operands))]
+pub fn branch(
+    code: &Checked,
+    vars: &Variables,
+    target: &Target,
+    room: &mut Room,
+) -> Result<Act, AllocError>
+    requires { IsSome (branch_act (goal_at code.now vars.now target.now)) }
+    ensures { IfOk result (λ act. branch_act (goal_at code.now vars.now target.now) ≡ Some (asked act room.new.values.values room.new.types.members)) }
+{
+    read_goal(code, vars, target, &mut room.values)?;
+    Ok(Act::Goes {
+        block: target.block,
+    })
+}
+
+/// BRANCH2
+#[tactic(auto, using(crate::specs::OperandLaws::operands))]
+pub fn branch2(
+    code: &Checked,
+    vars: &Variables,
+    condition: Source,
+    if_one: &Target,
+    if_zero: &Target,
+    room: &mut Room,
+) -> Result<Act, AllocError>
+    requires { IsSome (branch2_act (value_at code.now vars.now condition) (goal_at code.now vars.now if_one.now) (goal_at code.now vars.now if_zero.now)) }
+    ensures { IfOk result (λ act. branch2_act (value_at code.now vars.now condition) (goal_at code.now vars.now if_one.now) (goal_at code.now vars.now if_zero.now) ≡ Some (asked act room.new.values.values room.new.types.members)) }
+{
+    if is_one(code, vars, condition) {
+        branch(code, vars, if_one, room)
+    } else {
+        branch(code, vars, if_zero, room)
+    }
+}
+
+#[tactic(auto, using(crate::specs::OperandLaws::same_told))]
+fn is_same(a: Scalar, b: Scalar) -> bool
+    ensures { result ≡ same_scalar a b }
+{
+    a == b
+}
+
+/// SWITCH. It looks at the cases in order, up to the first that is equal.
+#[tactic(auto, using(crate::specs::OperandLaws::operands))]
+pub fn switch(
+    code: &Checked,
+    vars: &Variables,
+    operand: Source,
+    default: &Target,
+    cases: &[CaseForm],
+    room: &mut Room,
+) -> Result<Act, AllocError>
+    requires { IsSome (switch_act (value_at code.now vars.now operand) (goal_at code.now vars.now default.now) (map (arm_at code.now vars.now) cases.now)) }
+    ensures { IfOk result (λ act. switch_act (value_at code.now vars.now operand) (goal_at code.now vars.now default.now) (map (arm_at code.now vars.now) cases.now) ≡ Some (asked act room.new.values.values room.new.types.members)) }
+{
+    let wanted = scalar(code, vars, operand);
+    let mut left = cases;
+    'cases: while let [case, more @ ..] = left {
+        if is_same(wanted, only(constant(code, case.constant))) {
+            return branch(code, vars, &case.target, room);
+        }
+        left = more;
+    }
+    branch(code, vars, default, room)
+}
+
+/// CALL
+#[tactic(auto, using(crate::specs::OperandLaws::functions))]
+pub fn call(
+    code: &Checked,
+    vars: &Variables,
+    callee: Source,
+    arguments: &[Source],
+    room: &mut Room,
+) -> Result<Act, AllocError>
+    requires { IsSome (call_act acts.Calls (value_at code.now vars.now callee) (values_at code.now vars.now arguments.now)) }
+    ensures { IfOk result (λ act. call_act acts.Calls (value_at code.now vars.now callee) (values_at code.now vars.now arguments.now) ≡ Some (asked act room.new.values.values room.new.types.members)) }
+{
+    read_values(code, vars, arguments, &mut room.values)?;
+    match scalar(code, vars, callee) {
+        Scalar::Func(function) => Ok(Act::Calls { function }),
+        Scalar::Null => Ok(Act::Faults(Case::NullCall)),
+        _ => unreachable!(),
+    }
+}
+
+/// TAILCALL
+#[tactic(auto, using(crate::specs::OperandLaws::functions))]
+pub fn tailcall(
+    code: &Checked,
+    vars: &Variables,
+    callee: Source,
+    arguments: &[Source],
+    room: &mut Room,
+) -> Result<Act, AllocError>
+    requires { IsSome (call_act acts.Replaces (value_at code.now vars.now callee) (values_at code.now vars.now arguments.now)) }
+    ensures { IfOk result (λ act. call_act acts.Replaces (value_at code.now vars.now callee) (values_at code.now vars.now arguments.now) ≡ Some (asked act room.new.values.values room.new.types.members)) }
+{
+    read_values(code, vars, arguments, &mut room.values)?;
+    match scalar(code, vars, callee) {
+        Scalar::Func(function) => Ok(Act::Replaces { function }),
+        Scalar::Null => Ok(Act::Faults(Case::NullCall)),
+        _ => unreachable!(),
+    }
+}
+
+/// RET
+#[tactic(auto, using(crate::specs::OperandLaws::operands))]
+pub fn ret(
+    code: &Checked,
+    types: &[u32],
+    vars: &Variables,
+    values: &[Source],
+    room: &mut Room,
+) -> Result<Act, AllocError>
+    requires { IsSome (with_some (classes_at (bundle_tables code.now) types.now values.now) (λ cs. ret_act cs (values_at code.now vars.now values.now))) }
+    ensures { IfOk result (λ act. with_some (classes_at (bundle_tables code.now) types.now values.now) (λ cs. ret_act cs (values_at code.now vars.now values.now)) ≡ Some (asked act room.new.values.values room.new.types.members)) }
+{
+    read_classes(code, types, values, &mut room.types)?;
+    read_values(code, vars, values, &mut room.values)?;
+    Ok(Act::Returns)
+}
+
+/// THROW
+#[tactic(auto, using(crate::specs::OperandLaws::operands))]
+pub fn throw(code: &Checked, vars: &Variables, exception: Source) -> Act
+    requires { IsSome (scalar_act acts.Throws (value_at code.now vars.now exception)) }
+    ensures { (vs : List Value) (cs : List ℕ) → scalar_act acts.Throws (value_at code.now vars.now exception) ≡ Some (asked result vs cs) }
+{
+    Act::Throws(scalar(code, vars, exception))
+}
