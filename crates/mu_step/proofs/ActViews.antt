@@ -44,7 +44,7 @@ pub gave : (bundle : List Item) (s v : OneThread) (vs out : List Value) (f : Act
 gave bundle s v vs out f block at fr o view h e way same is =
     let top : goes_on bundle v.frames.top vs ≡ Some (stands v.frames.top block at out) = subst (λ f. goes_on bundle f vs ≡ Some (stands f block at out)) e way in
     let main : acting bundle v (Gives vs) ≢ Stuck → o ≡ acting bundle v (Gives vs) =
-      λ k. is ∙ ap (λ fr. went_on (record v { frames = fr })) same ∙ sym (given_is bundle v vs (stands v.frames.top block at out) k top) in
+    λ k. is ∙ ap (λ fr. went_on (record v { frames = fr })) same ∙ sym (given_is bundle v vs (stands v.frames.top block at out) k top) in
     subst (λ s. acting bundle s (Gives vs) ≢ Stuck → o ≡ acting bundle s (Gives vs)) view main h
 
 -- ---- calls
@@ -139,7 +139,7 @@ fault_within bundle s v k f i t vs out view e h code way vars goal =
     let at : s.frames.top ≡ f = sym (e ∙ ap (λ (x : OneThread). x.frames.top) view) in
     let aim : goal_at bundle f.vars t ≡ Some g = ap (λ vs. goal_at bundle vs t) (sym vars) ∙ goal in
     subst (λ f. code_at bundle f.block f.at ≡ Some i → goal_at bundle f.vars t ≡ Some g → t.block < length (bundle_blocks bundle)) at
-      (λ code aim. gets_there bundle s.frames.top g Null (fault_gets bundle s k i t g h code way aim)) code aim
+    (λ code aim. gets_there bundle s.frames.top g Null (fault_gets bundle s k i t g h code way aim)) code aim
 
 pub fault_so : (bundle : List Item) (s v : OneThread) (k : Case) (f : Activation) (i : Code) (t : Target) (vs out left : List Value) (o : Outcome) → v ≡ s → f ≡ v.frames.top → faulting bundle s k ≢ Stuck → code_at bundle f.block f.at ≡ Some i
     → i.exceptional ≡ Some t → vs ≡ f.vars → goal_at bundle vs t ≡ Some (record { block = t.block; values = out })
@@ -150,7 +150,7 @@ fault_so bundle s v k f i t vs out left o view e h code way vars goal got is =
     let at : s.frames.top ≡ f = sym (e ∙ ap (λ (x : OneThread). x.frames.top) view) in
     let aim : goal_at bundle f.vars t ≡ Some g = ap (λ vs. goal_at bundle vs t) (sym vars) ∙ goal in
     subst (λ f. code_at bundle f.block f.at ≡ Some i → goal_at bundle f.vars t ≡ Some g → o ≡ faulting bundle s k) at
-      (λ code aim. is ∙ sym (fault_goes bundle s k i t g (stands s.frames.top t.block 0 left) h code way aim (got s.frames.top))) code aim
+    (λ code aim. is ∙ sym (fault_goes bundle s k i t g (stands s.frames.top t.block 0 left) h code way aim (got s.frames.top))) code aim
 
 -- ---- returns
 
@@ -164,10 +164,10 @@ returned_so bundle s v vs out f block at left fr os cs ns o view h second way re
     let top : f ≡ left.top = let there : slice_get (frames_of left) 0 ≡ Some f = ap (λ bs. slice_get bs 0) rest ∙ second in cc in
     let on : goes_on bundle left.top vs.values ≡ Some (stands left.top block at out) = subst (λ f. goes_on bundle f vs.values ≡ Some (stands f block at out)) top way in
     let main : acting bundle v (Returns vs) ≢ Stuck → o ≡ acting bundle v (Returns vs) =
-      λ k. is ∙ ap (λ fr. went_on (record v { frames = fr; objects = os; cells = cs })) same
-        ∙ ap (λ os. went_on (record v { frames = record left { top = stands left.top block at out }; objects = os; cells = cs })) (ended ∙ ap (objects_end v.objects) names)
-        ∙ ap (λ n. went_on (record v { frames = record left { top = stands left.top block at out }; objects = objects_end v.objects v.frames.top.objects; cells = n })) cells
-        ∙ sym (return_is bundle v vs left (stands left.top block at out) k rest on) in
+    λ k. is ∙ ap (λ fr. went_on (record v { frames = fr; objects = os; cells = cs })) same
+    ∙ ap (λ os. went_on (record v { frames = record left { top = stands left.top block at out }; objects = os; cells = cs })) (ended ∙ ap (objects_end v.objects) names)
+    ∙ ap (λ n. went_on (record v { frames = record left { top = stands left.top block at out }; objects = objects_end v.objects v.frames.top.objects; cells = n })) cells
+    ∙ sym (return_is bundle v vs left (stands left.top block at out) k rest on) in
     subst (λ s. acting bundle s (Returns vs) ≢ Stuck → o ≡ acting bundle s (Returns vs)) view main h
 
 -- ---- exceptions
@@ -180,10 +180,10 @@ pub caught_so : (bundle : List Item) (s v : OneThread) (e : Scalar) (n : ℕ) (f
 caught_so bundle s v e n f block out taken left os cs o view h first there handler got rest ended cells is =
     let g : Goal = record { block = block; values = out } in
     let main : acting bundle v (Throws e) ≢ Stuck → first_handler (frames_of v.frames) ≡ Some n → o ≡ acting bundle v (Throws e) =
-      λ k first.
-        let top : left.top ≡ frame_of f = (drop_at (frames_of v.frames) n (frame_of f) left.top left.below there rest).0 in
-        is ∙ ap (λ t. went_on (record v { frames = record left { top = stands t block 0 taken }; objects = os; cells = cs })) top
-        ∙ ap (λ os. went_on (record v { frames = record left { top = stands (frame_of f) block 0 taken }; objects = os; cells = cs })) ended
-        ∙ ap (λ m. went_on (record v { frames = record left { top = stands (frame_of f) block 0 taken }; objects = objects_end v.objects (flat_map (λ (f : Activation). f.objects) (take n (frames_of v.frames))); cells = m })) cells
-        ∙ sym (throw_is bundle v e n left (frame_of f) g (stands (frame_of f) block 0 taken) k first there (handled f.handler g handler) rest (got (frame_of f))) in
+    λ k first.
+    let top : left.top ≡ frame_of f = (drop_at (frames_of v.frames) n (frame_of f) left.top left.below there rest).0 in
+    is ∙ ap (λ t. went_on (record v { frames = record left { top = stands t block 0 taken }; objects = os; cells = cs })) top
+    ∙ ap (λ os. went_on (record v { frames = record left { top = stands (frame_of f) block 0 taken }; objects = os; cells = cs })) ended
+    ∙ ap (λ m. went_on (record v { frames = record left { top = stands (frame_of f) block 0 taken }; objects = objects_end v.objects (flat_map (λ (f : Activation). f.objects) (take n (frames_of v.frames))); cells = m })) cells
+    ∙ sym (throw_is bundle v e n left (frame_of f) g (stands (frame_of f) block 0 taken) k first there (handled f.handler g handler) rest (got (frame_of f))) in
     subst (λ s. acting bundle s (Throws e) ≢ Stuck → first_handler (frames_of s.frames) ≡ Some n → o ≡ acting bundle s (Throws e)) view main h first

@@ -217,13 +217,18 @@ fault_by bundle s k h =
     let r = on_there (doing_of p s) (λ d. faulted p (begun s) (turn s d) (case_of (turn s d) k)) h in
     let q = doing_at bundle s.frames.top r.0 r.1 in
     let o = on_there r.0.exceptional (excepted p (begun s) (turn s r.0) (case_of (turn s r.0) k)) r.2 in
-    let any = with_any bundle s k r.0 o.0 in
-    (q.0, q.1, q.2, q.3, record {
-      goal = o.0;
-      exceptional = sym (ap (λ (d : Doing). d.exceptional) q.4) ∙ o.1;
-      going = λ e. o.2 (any ∙ e);
-      is = on_is (doing_of p s) r.0 (λ d. faulted p (begun s) (turn s d) (case_of (turn s d) k)) r.1 ∙ on_is r.0.exceptional o.0 (excepted p (begun s) (turn s r.0) (case_of (turn s r.0) k)) o.1 ∙ any;
-    })
+    let any = with_any bundle s k r.0 o.0 in (
+      q.0,
+      q.1,
+      q.2,
+      q.3,
+      record {
+        goal = o.0;
+        exceptional = sym (ap (λ (d : Doing). d.exceptional) q.4) ∙ o.1;
+        going = λ e. o.2 (any ∙ e);
+        is = on_is (doing_of p s) r.0 (λ d. faulted p (begun s) (turn s d) (case_of (turn s d) k)) r.1 ∙ on_is r.0.exceptional o.0 (excepted p (begun s) (turn s r.0) (case_of (turn s r.0) k)) o.1 ∙ any;
+      },
+    )
 
 pub fault_there : (bundle : List Item) (s : OneThread) (k : Case) → faulting bundle s k ≢ Stuck → IsSome (code_at bundle s.frames.top.block s.frames.top.at)
 fault_there bundle s k h =
@@ -421,7 +426,7 @@ awaits_by bundle function d w h =
 
 pub awaited_there : (bundle : List Item) (f : Activation) (function : ℕ) → IsSome (awaited bundle f function)
     → (b : BlockCode) × (slice_get (bundle_blocks bundle) f.block ≡ Some b) × (i : Code) × (slice_get b.code f.at ≡ Some i)
-      × IsSome (optional_goal_at bundle f.vars i.exceptional) × IsSome (kept_at b.classes f.vars i.keepalive) × (f.block < length (bundle_blocks bundle)) × (f.at < length b.code)
+    × IsSome (optional_goal_at bundle f.vars i.exceptional) × IsSome (kept_at b.classes f.vars i.keepalive) × (f.block < length (bundle_blocks bundle)) × (f.at < length b.code)
 unfolding awaited
 awaited_there bundle f function h =
     let r = some_of (awaited bundle f function) h in

@@ -128,7 +128,7 @@ code_there bundle block at i h = code_by at (slice_get (bundle_blocks bundle) bl
 -- a step that has a rule stands at an instruction that asks something
 pub step_stands : (bundle : List Item) (s : OneThread) → s.left ≡ true → s.steps < s.budget → stepping bundle s ≢ Stuck
     → (b : BlockCode) × (slice_get (bundle_blocks bundle) s.frames.top.block ≡ Some b) × (i : Code) × (slice_get b.code s.frames.top.at ≡ Some i)
-      × IsSome (act_at bundle b.classes s.frames.top.vars i.form) × (s.frames.top.block < length (bundle_blocks bundle)) × (s.frames.top.at < length b.code)
+    × IsSome (act_at bundle b.classes s.frames.top.vars i.form) × (s.frames.top.block < length (bundle_blocks bundle)) × (s.frames.top.at < length b.code)
 unfolding stepping
 step_stands bundle s e room h =
     let r = on_there (doing_of (numbered bundle) s) (λ d. on d.act (performed (numbered bundle) (begun s) (turn s d))) (λ k. h (step_acting (numbered bundle) s e room ∙ k)) in

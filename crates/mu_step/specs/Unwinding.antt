@@ -29,7 +29,7 @@ pub record Catches (p : Program) (e : Scalar) (fs : List Activation) (n : ℕ) :
 
 further : (p : Program) (e : Scalar) (t f : Activation) (g : Goal) (fs : List Activation) (n : ℕ) (o : Option Activation)
     → option_map (also_ended t) (with_some o (λ h. Some (Ok (record { frames = h ∷ drop (suc n) fs; ended = take n fs }))))
-      ≡ with_some o (λ h. Some (Ok (record { frames = h ∷ drop (suc n) fs; ended = t ∷ take n fs })))
+    ≡ with_some o (λ h. Some (Ok (record { frames = h ∷ drop (suc n) fs; ended = t ∷ take n fs })))
 further p e t f g fs n None = refl
 further p e t f g fs n (Some h) = refl
 

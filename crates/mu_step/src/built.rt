@@ -113,11 +113,9 @@ pub fn are_built(code: &Checked) -> Result<(), RunFault>
 /// A bundle that meets these demands has forms alone that are built.
 pub fn forms_are_built()
     ensures { FormsAreBuilt }
-{
-}
+{}
 
 /// In a bundle that meets these demands each function that is defined has a block.
 pub fn have_blocks()
     ensures { FunctionsHaveBlocks }
-{
-}
+{}

@@ -66,12 +66,7 @@ fn arriving(
     requires { IsSome (goal_at code.now (frame.now.slots.values ++ results.now.values) target.now) }
     ensures { IfOk result (λ place. (goal_at code.now (frame.now.slots.values ++ results.now.values) target.now ≡ Some (record { block = place.block; values = out.new.values })) × (place.at ≡ 0)) }
 {
-    read_goal(
-        code,
-        &Variables::behind(&frame.slots, results),
-        target,
-        out,
-    )?;
+    read_goal(code, &Variables::behind(&frame.slots, results), target, out)?;
     Ok(Place {
         block: target.block,
         at: 0,

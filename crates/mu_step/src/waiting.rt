@@ -74,26 +74,13 @@ fn handler(
 
 /// The values of variables that are kept.
 #[tactic(auto, using(crate::specs::Kept::kept_even))]
-fn kept(
-    alloc: Global,
-    code: &Checked,
-    types: &[u32],
-    own: &Slots,
-    names: &[u32],
-) -> Result<Passed, AllocError>
+fn kept(alloc: Global, types: &[u32], own: &Slots, names: &[u32]) -> Result<Passed, AllocError>
     requires { IsSome (kept_at types.now own.now.values names.now) }
     ensures { IfOk result (λ kept. kept_at types.now own.now.values names.now ≡ Some kept) }
 {
     let mut classes = Types::new(alloc);
     let mut values = Slots::new(alloc);
-    read_kept(
-        code,
-        types,
-        &Variables::of(own),
-        names,
-        &mut classes,
-        &mut values,
-    )?;
+    read_kept(types, &Variables::of(own), names, &mut classes, &mut values)?;
     Ok(Passed::new(classes, values))
 }
 
@@ -114,7 +101,6 @@ pub(crate) fn waiting(
     let handler = handler(alloc, code, &frame.slots, &instruction.exceptional)?;
     let kept = kept(
         alloc,
-        code,
         block.classes.as_slice(),
         &frame.slots,
         instruction.keepalive.as_slice(),
@@ -161,11 +147,7 @@ fn exchange_on_top(frames: &mut Frames, waiting: &mut Wait)
 }
 
 /// Puts a frame on top, below which the one that was there waits so. Where that is refused the frames are as before.
-pub(crate) fn enter(
-    frames: &mut Frames,
-    frame: Frame,
-    mut waiting: Wait,
-) -> Result<(), AllocError>
+pub(crate) fn enter(frames: &mut Frames, frame: Frame, mut waiting: Wait) -> Result<(), AllocError>
     ensures ok { OnOk result (frames.new ≡ entered_above frames.old (frame_of frame) waiting) }
     ensures err { OnErr result (frames.new ≡ frames.old) }
 {

@@ -11,4 +11,4 @@ kept-requires c = kept_same _ _ _ _ _ c.as_slice-2.ensures c.as_slice-3.ensures 
 pub returns : goal.returns
 returns c =
     awaited_is _ _ _ _ _ _ c.block-block.ensures (waits_at _ _ _ _ _ _ c.requires c.block-block.ensures c.as_slice.ensures c.index-as_slice-frame.is).there c.in_ok-waits.ensures c.in_ok-handler.ensures
-      (kept_is _ _ _ _ _ _ c.as_slice-2.ensures c.as_slice-3.ensures c.in_ok-kept.ensures)
+    (kept_is _ _ _ _ _ _ c.as_slice-2.ensures c.as_slice-3.ensures c.in_ok-kept.ensures)

@@ -9,4 +9,4 @@ passing-requires c = returns_there _ _ _ _ _ c.self.view_is c.requires.there c.f
 pub returns-clause-ok : goal.returns-clause-ok
 returns-clause-ok c =
     returned_so _ _ _ _ _ _ _ _ _ _ _ _ _ _ c.self.view_is c.requires.there c.frame.ensures c.in_ok-place.ensures c.leave.ensures c.end_objects.ensures.objects
-      (c.as_slice.ensures ∙ ap (λ (f : Activation). f.objects) c.top.ensures) c.end_objects.ensures.left c.stand.ensures c.went.ensures
+    (c.as_slice.ensures ∙ ap (λ (f : Activation). f.objects) c.top.ensures) c.end_objects.ensures.left c.stand.ensures c.went.ensures
