@@ -1,5 +1,5 @@
 -- Lemmas of acts, over the view of a state and its parts.
-use Rattle.std.proofs.Common.{◌≡◌, ◌≢◌, ℕ, zero, suc, ◌+◌, ◌<◌, true, false, List, [], ◌∷◌, ◌++◌, Option, Some, None, IsSome, Result, Ok, Err, IfOk, IfSome, OnOk, IsSomeAnd, length, slice_get, slice_index_or, take, drop, option_map, refl, sym, ◌∙◌, ap, subst, arith}
+use Rattle.std.proofs.Common.{◌≡◌, ◌≢◌, ℕ, zero, suc, ◌<◌, true, List, [], ◌∷◌, Some, IsSome, Result, Ok, Err, IfOk, IfSome, IsSomeAnd, length, slice_get, slice_index_or, take, drop, sym, ◌∙◌, ap, subst, arith}
 use Rattle.std.specs.List.{flat_map}
 use Rattle.ir_tree.specs.declared.items.Item.{Item}
 use Rattle.mu_values.specs.declared.scalars.Scalar.{Scalar}
@@ -9,7 +9,7 @@ use Rattle.code_check.specs.declared.code.Code.{Code}
 use Rattle.code_check.specs.declared.code.Target.{Target}
 use Rattle.bundle_check.specs.declared.code.BlockCode.{BlockCode}
 use Rattle.bundle_check.specs.declared.code.Function.{Function}
-use Rattle.bundle_check.specs.Checking.{bundle_blocks, bundle_functions, bundle_tables}
+use Rattle.bundle_check.specs.Checking.{bundle_blocks, bundle_functions}
 use Rattle.bundle_check.specs.Answers.{code_at}
 use Rattle.typed_heap.specs.Objects.{HeapObject}
 use Rattle.frames.specs.Activations.{Value, Goal, Activation}
@@ -19,7 +19,6 @@ use Rattle.frames.specs.Handlers.{first_handler}
 use Rattle.frames.specs.declared.frame.Frame.{Frame}
 use Rattle.mu_model.specs.declared.endings.StepEnd.{StepEnd}
 use Rattle.mu_model.specs.declared.endings.Case.{Case}
-use Rattle.mu_model.specs.Types.{classes_given}
 use Rattle.mu_model.specs.Acts.{Act, Gives, Calls, Returns, Throws}
 use Rattle.mu_model.specs.Outcomes.{Outcome, Stuck}
 use Rattle.model_numbers.specs.Sources.{goal_at}
@@ -27,9 +26,9 @@ use Rattle.model_numbers.specs.Forms.{act_at}
 use Rattle.model_numbers.specs.Numbered.{optional_goal_at, kept_at}
 use Rattle.step_forms.specs.Built.{form_is_built}
 use Rattle.mu_step.specs.OneThread.{OneThread}
-use Rattle.mu_step.specs.Acting.{answers, went_on, acting, stepping, faulting, goes_on, gets, entered, Awaited, awaited, entered_above, objects_end}
+use Rattle.mu_step.specs.Acting.{answers, went_on, acting, stepping, faulting, goes_on, gets, entered, awaited, entered_above, objects_end}
 use Rattle.mu_step.specs.StepLaws.{step_stands, step_acts}
-use Rattle.mu_step.specs.ActLaws.{given_there, given_is, fault_gets, fault_goes, gets_there, call_so, awaited_there, awaited_is, return_there, return_is, throw_is, drop_at}
+use Rattle.mu_step.specs.ActLaws.{given_there, given_is, fault_gets, fault_goes, gets_there, call_so, awaited_there, return_there, return_is, throw_is, drop_at}
 use Rattle.mu_step.specs.Built.{IsBuilt}
 use Rattle.mu_step.specs.BuiltLaws.{built_at}
 use Rattle.mu_step.proofs.Passing.{handled}

@@ -1,5 +1,5 @@
 -- Lemmas of demands on blocks, one by one.
-use Rattle.std.proofs.Common.{◌≡◌, ℕ, ◌+◌, List, Option, Some, None, Result, Ok, Err, slice_get, drop, sym, ◌∙◌, ap}
+use Rattle.std.proofs.Common.{◌≡◌, ℕ, ◌+◌, List, Some, None, Err, slice_get, drop, sym, ◌∙◌, ap}
 use Rattle.demands.specs.declared.fault.Fault.{Fault}
 use Rattle.demands.specs.declared.fault.Fault.TheVariants.{Memory, At}
 use Rattle.demands.specs.Demands.{Demands, demand, first_unmet, or_else, Meets}

@@ -1,5 +1,5 @@
 -- Lemmas of where a frame goes on.
-use Rattle.std.proofs.Common.{◌≡◌, ◌≢◌, ℕ, ◌+◌, ◌<◌, true, false, List, [], ◌∷◌, ◌++◌, Option, Some, None, IsSome, Result, Ok, Err, IfOk, OnOk, IsSomeAnd, length, slice_get, option_map, refl, sym, ◌∙◌, ap, subst, arith}
+use Rattle.std.proofs.Common.{◌≡◌, ◌+◌, false, List, ◌++◌, Option, Some, None, Result, Ok, Err, IfOk, OnOk, IsSomeAnd, option_map, sym, ◌∙◌, ap}
 use Rattle.ir_tree.specs.declared.items.Item.{Item}
 use Rattle.code_check.specs.declared.code.Code.{Code}
 use Rattle.code_check.specs.declared.code.Target.{Target}

@@ -1,5 +1,5 @@
 -- Laws of the acts of one thread.
-use Rattle.std.specs.Prelude.{◌≡◌, ◌≢◌, ℕ, zero, suc, ◌+◌, ◌<◌, ◌≤◌, Bool, true, false, List, [], ◌∷◌, ◌++◌, Option, Some, None, IsSome, IfSome, Result, Ok, Err, ok_or, option_map, is_some, length, slice_get, slice_set, take, drop, fold, flat_map, reverse, refl}
+use Rattle.std.specs.Prelude.{◌≡◌, ◌≢◌, ℕ, zero, suc, ◌+◌, ◌<◌, Bool, true, false, List, [], ◌∷◌, ◌++◌, Option, Some, None, IsSome, IfSome, Result, Ok, Err, ok_or, is_some, length, slice_get, take, drop, fold, flat_map, refl}
 use Rattle.std.proofs.Common.{sym, ◌∙◌, ap, subst, arith, add-one}
 use Rattle.std.proofs.lemmas.List.{append-nil}
 use Rattle.ir_tree.specs.declared.items.Item.{Item}
@@ -20,26 +20,26 @@ use Rattle.frames.specs.Handlers.{first_handler}
 use Rattle.mu_model.specs.declared.lines.Line.{Line}
 use Rattle.mu_model.specs.declared.lines.Line.TheVariants as lines
 use Rattle.mu_model.specs.declared.lines.Note.TheVariants.{Returned}
-use Rattle.mu_model.specs.declared.endings.StepEnd.TheVariants.{Went, Ended}
+use Rattle.mu_model.specs.declared.endings.StepEnd.TheVariants.{Went}
 use Rattle.mu_model.specs.declared.endings.Case.{Case}
 use Rattle.mu_model.specs.declared.endings.Case.TheVariants as cases
 use Rattle.mu_model.specs.Types.{classes_given}
-use Rattle.mu_model.specs.Configuration.{Active, Configuration}
-use Rattle.mu_model.specs.Acts.{Act, Gives, Faults, Goes, Calls, Replaces, Returns, Throws, Doing, Program}
+use Rattle.mu_model.specs.Configuration.{Configuration}
+use Rattle.mu_model.specs.Acts.{Gives, Faults, Goes, Calls, Replaces, Returns, Throws, Doing, Program}
 use Rattle.mu_model.specs.Turns.{Turn, waiting}
 use Rattle.mu_model.specs.Frames.{called, passed, onward, arrived, caught, with_exception}
 use Rattle.mu_model.specs.Changes.{changed, frames_end}
-use Rattle.mu_model.specs.Outcomes.{Outcome, Next, End, Stuck, on, next, onto, ended, case_of, excepted, faulted, refused, unless_refused, tried}
-use Rattle.mu_model.specs.Exceptions.{EnteredFrames, body_or_case, calls, replaces, returns, unwinding, throws}
+use Rattle.mu_model.specs.Outcomes.{Outcome, End, Stuck, on, next, onto, case_of, excepted, faulted, refused, unless_refused, tried}
+use Rattle.mu_model.specs.Exceptions.{EnteredFrames, body_or_case, returns, unwinding}
 use Rattle.mu_model.specs.Step.{performed}
 use Rattle.mu_model.specs.Programs.{some_goal}
 use Rattle.model_numbers.specs.Sources.{goal_at}
 use Rattle.model_numbers.specs.Numbered.{does_at, kept_at, optional_goal_at, numbered}
 use Rattle.mu_step.specs.Outcome.{outcome_of}
-use Rattle.mu_step.specs.OneThread.{OneThread, first_thread, threads_of, stacks_of, configured, configuration}
-use Rattle.mu_step.specs.Acting.{left_configuration, begun, turn, doing_of, answers, went_on, acting, faulting, is_fault, undefined_at, goes_on, gets, entered, Awaited, with_awaited, awaited_by, awaited, entered_above, objects_end}
+use Rattle.mu_step.specs.OneThread.{OneThread, configuration}
+use Rattle.mu_step.specs.Acting.{begun, turn, doing_of, answers, went_on, acting, faulting, is_fault, undefined_at, goes_on, gets, entered, Awaited, with_awaited, awaited_by, awaited, entered_above, objects_end}
 use Rattle.mu_step.specs.StepLaws.{on_there, on_is, some_there, some_of, with_there, with_is, get_below, doing_at, doing_is, code_is, code_there, acting_there, acting_is}
-use Rattle.mu_step.specs.Unwinding.{Catches, caught_at, catches_first, uncaught}
+use Rattle.mu_step.specs.Unwinding.{Catches, catches_first, uncaught}
 
 -- ---- the frames that the thread goes on with
 

@@ -1,10 +1,9 @@
 -- Laws of bundles that are built.
-use Rattle.std.specs.Prelude.{◌≡◌, ℕ, zero, suc, ◌+◌, ◌<◌, ◌≤◌, Bool, true, false, List, [], ◌∷◌, Option, Some, None, ◌&&◌, nat_lt, length, slice_get, drop, if◌then◌else◌, refl}
-use Rattle.std.proofs.Common.{sym, ◌∙◌, ap, arith, add-one, ◌⊎◌, inl, inr}
+use Rattle.std.specs.Prelude.{◌≡◌, ℕ, zero, suc, ◌+◌, ◌<◌, ◌≤◌, Bool, true, false, List, [], ◌∷◌, Option, Some, None, ◌&&◌, nat_lt, length, slice_get, drop, refl}
+use Rattle.std.proofs.Common.{sym, ◌∙◌, ap, arith, add-one, inl, inr}
 use Rattle.std.proofs.lemmas.Bool.Decides.{leb_tells}
 use Rattle.demands.specs.declared.fault.Fault.{Fault}
-use Rattle.demands.specs.declared.fault.Fault.TheVariants.{At}
-use Rattle.demands.specs.Demands.{Demands, none, demand, ◌⨾◌, first_unmet, or_else}
+use Rattle.demands.specs.Demands.{demand, first_unmet, or_else}
 use Rattle.ir_tree.specs.declared.items.Item.{Item}
 use Rattle.ir_tree.specs.declared.items.Item.TheVariants as items
 use Rattle.code_check.specs.declared.code.Code.{Code}

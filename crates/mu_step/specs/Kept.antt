@@ -1,5 +1,5 @@
 -- Laws of values that are kept.
-use Rattle.std.specs.Prelude.{◌≡◌, ℕ, List, [], ◌∷◌, Option, Some, None, length, map, slice_get, refl}
+use Rattle.std.specs.Prelude.{◌≡◌, ℕ, List, [], ◌∷◌, Option, Some, length, map, slice_get}
 use Rattle.std.proofs.Common.{sym, ◌∙◌, ap, arith}
 use Rattle.std.proofs.lemmas.List.{length-map}
 use Rattle.mu_values.specs.Slots.{TypedValues}

@@ -1,12 +1,11 @@
 -- Laws of a machine's step.
-use Rattle.std.specs.Prelude.{◌≡◌, ◌≢◌, List, None, Result, Ok, Err, IfOk, refl}
+use Rattle.std.specs.Prelude.{◌≡◌, ◌≢◌, List, None}
 use Rattle.std.proofs.Common.{sym, ◌∙◌, ap}
 use Rattle.demands.specs.Demands.{first_unmet}
 use Rattle.ir_tree.specs.declared.items.Item.{Item}
 use Rattle.bundle_names.specs.Naming.{name_demands}
 use Rattle.bundle_check.specs.Checking.{check_demands}
 use Rattle.mu_model.specs.declared.endings.StepEnd.{StepEnd}
-use Rattle.mu_model.specs.Acts.{Program}
 use Rattle.mu_model.specs.Programs.{named}
 use Rattle.mu_model.specs.Outcomes.{Stuck}
 use Rattle.mu_model.specs.Step.{step}

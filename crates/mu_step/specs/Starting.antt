@@ -21,7 +21,7 @@ use Rattle.frames.specs.Chains.{Chain}
 use Rattle.mu_model.specs.Configuration.{Configuration}
 use Rattle.mu_model.specs.Types.{type_graph, class_definition}
 use Rattle.mu_model.specs.Programs.{named}
-use Rattle.mu_model.specs.Run.{Setting, target_leaves, global_objects, cells_taken, begins_in, first_configuration}
+use Rattle.mu_model.specs.Run.{target_leaves, global_objects, cells_taken, begins_in, first_configuration}
 use Rattle.model_numbers.specs.Laws.{ProgramsAreSame}
 use Rattle.model_numbers.specs.Numbered.{numbered}
 use Rattle.mu_step.specs.Plain.{plain_setting}

@@ -1,27 +1,26 @@
 -- Laws of the step of a configuration with one thread.
-use Rattle.std.specs.Prelude.{◌≡◌, ◌≢◌, ℕ, zero, suc, ◌+◌, ◌<◌, ◌==◌, Bool, true, false, List, [], ◌∷◌, ◌++◌, Option, Some, None, IsSome, is_some, length, slice_get, reverse, option_and_then, if◌then◌else◌, refl}
-use Rattle.std.proofs.Common.{sym, ◌∙◌, ap, subst, arith, add-one, ◌⊎◌, inl, inr}
+use Rattle.std.specs.Prelude.{◌≡◌, ◌≢◌, ℕ, zero, suc, ◌+◌, ◌<◌, ◌==◌, Bool, true, false, List, [], ◌∷◌, Option, Some, None, IsSome, is_some, length, slice_get, option_and_then, if◌then◌else◌, refl}
+use Rattle.std.proofs.Common.{sym, ◌∙◌, ap, arith, add-one, inl, inr}
 use Rattle.std.proofs.lemmas.Bool.Decides.{eqb_tells}
 use Rattle.ir_tree.specs.declared.items.Item.{Item}
 use Rattle.code_check.specs.declared.code.Code.{Code}
 use Rattle.bundle_check.specs.declared.code.BlockCode.{BlockCode}
-use Rattle.bundle_check.specs.Checking.{bundle_blocks, bundle_tables}
+use Rattle.bundle_check.specs.Checking.{bundle_blocks}
 use Rattle.bundle_check.specs.Answers.{code_at}
 use Rattle.typed_heap.specs.Places.{with_some}
-use Rattle.frames.specs.Activations.{Value, Goal, Activation}
-use Rattle.frames.specs.Chains.{Chain, frames_of}
+use Rattle.frames.specs.Activations.{Activation}
+use Rattle.frames.specs.Chains.{frames_of}
 use Rattle.mu_model.specs.declared.lines.Line.{Line}
 use Rattle.mu_model.specs.declared.endings.StepEnd.TheVariants.{Went, Ended}
 use Rattle.mu_model.specs.declared.endings.Ending.{Ending}
 use Rattle.mu_model.specs.declared.endings.Ending.TheVariants.{Done, Budget}
-use Rattle.mu_model.specs.Configuration.{Active, Configuration}
 use Rattle.mu_model.specs.Acts.{Act, Doing, Program}
 use Rattle.mu_model.specs.Outcomes.{Outcome, Next, End, Stuck, on}
 use Rattle.mu_model.specs.Step.{performed, turned, step}
 use Rattle.model_numbers.specs.Forms.{act_at}
 use Rattle.model_numbers.specs.Numbered.{does_at, numbered}
 use Rattle.mu_step.specs.Outcome.{outcome_of}
-use Rattle.mu_step.specs.OneThread.{OneThread, first_thread, threads_of, stacks_of, configured, configuration}
+use Rattle.mu_step.specs.OneThread.{OneThread, threads_of, stacks_of, configured, configuration}
 use Rattle.mu_step.specs.Acting.{left_configuration, begun, turn, doing_of, stepping, answers, went_on, acting}
 
 -- ---- what goes on with something
