@@ -35,3 +35,4 @@ pub mod UpdatedCells
 pub mod FutexCells
 pub mod ObjectEnds
 pub mod ClientNames
+pub mod FurtherAnswers

@@ -8,13 +8,13 @@ abbrev bundle : Text
 bundle = definitions ++ codes ".funcdef @t VERSION %v <@m> { %e(): RET () } .funcdef @main VERSION %v <@mi> { %e(): %s = COMMINST @uvm.new_stack <[@m]> (@t) %r = NEWTHREAD %s PASS_VALUES<>() BRANCH %e() }"
 
 -- stack and thread k are made by three events, of which the first has number e
-abbrev made : ℕ → ℕ → Text
+abbrev pub made : ℕ → ℕ → Text
 made k e =
     decimal e ++ codes " t0 stack s" ++ decimal k ++ codes "\n" ++ decimal (e + 1) ++ codes " t0 thread t" ++ decimal k ++ codes "\n"
     ++ decimal (e + 2) ++ codes " t" ++ decimal k ++ codes " enter s" ++ decimal k ++ codes "\n"
 
 -- the next ones, from k on
-abbrev made_from : ℕ → ℕ → ℕ → Text
+abbrev pub made_from : ℕ → ℕ → ℕ → Text
 made_from zero k e = []
 made_from (suc n) k e = made k e ++ made_from n (k + 1) (e + 3)
 

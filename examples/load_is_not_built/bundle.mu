@@ -1,9 +1,8 @@
 .typedef @i64 = int<64>
 .funcsig @mi = () -> (@i64)
-.const @a <@i64> = 44
-.const @b <@i64> = 2
+.global @a <@i64>
 .funcdef @main VERSION %v <@mi> {
 %e():
-  %c = SUB <@i64> @a @b
+  %c = LOAD <@i64> @a
   RET (%c)
 }

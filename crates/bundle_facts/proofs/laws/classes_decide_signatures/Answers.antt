@@ -1,0 +1,5 @@
+use Rattle.bundle_facts.proofs.Accepted as facts
+use Rattle.bundle_facts.proofs.laws.classes_decide_signatures.Goals as goal
+
+pub returns : goal.returns
+returns c = facts.classes_decide_signatures

@@ -1,0 +1,5 @@
+use Rattle.bundle_facts.proofs.Derived as facts
+use Rattle.bundle_facts.proofs.laws.derived_have_blocks.Goals as goal
+
+pub returns : goal.returns
+returns c = facts.derived_have_blocks

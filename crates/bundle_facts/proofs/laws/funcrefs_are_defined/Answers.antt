@@ -1,0 +1,5 @@
+use Rattle.bundle_facts.proofs.Accepted as facts
+use Rattle.bundle_facts.proofs.laws.funcrefs_are_defined.Goals as goal
+
+pub returns : goal.returns
+returns c = facts.funcrefs_are_defined

@@ -1,0 +1,5 @@
+use Rattle.bundle_facts.proofs.Accepted as facts
+use Rattle.bundle_facts.proofs.laws.functions_are_there.Goals as goal
+
+pub returns : goal.returns
+returns c = facts.functions_are_there

@@ -1,0 +1,5 @@
+use Rattle.bundle_facts.proofs.Accepted as facts
+use Rattle.bundle_facts.proofs.laws.leaves_of_classes.Goals as goal
+
+pub returns : goal.returns
+returns c = facts.leaves_of_classes

@@ -1,0 +1,4 @@
+pub mod BlockNames
+pub mod FunctionNames
+pub mod Members
+pub mod Spaces

@@ -1,0 +1,5 @@
+use Rattle.text_programs.proofs.Entered.{entered_runs_have_an_ending}
+use Rattle.text_programs.proofs.laws.entered_runs_have_an_ending.Goals as goal
+
+pub returns : goal.returns
+returns c = entered_runs_have_an_ending

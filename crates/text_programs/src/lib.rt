@@ -1,0 +1,7 @@
+//! A text that is read and accepted is a well-typed program, so that no step of its plain runs is without a rule. This crate has no code;
+//! each of its functions does nothing, and its contract is a law.
+#![tactic(auto)]
+
+mod laws;
+
+pub use laws::{bundles_that_are_read_have_blocks, entered_runs_have_an_ending, texts_never_break};

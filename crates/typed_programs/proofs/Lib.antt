@@ -1,0 +1,15 @@
+pub mod Blocks
+pub mod Classes
+pub mod Sources
+pub mod Computing
+pub mod Goals
+pub mod Calling
+pub mod Going
+pub mod Shapes
+pub mod Making
+pub mod Memory
+pub mod Stacks
+pub mod Structs
+pub mod Doing
+pub mod Typed
+pub mod Running

@@ -1,0 +1,5 @@
+use Rattle.typed_programs.proofs.Running.{accepted_is_typed}
+use Rattle.typed_programs.proofs.laws.accepted_bundles_are_typed.Goals as goal
+
+pub returns : goal.returns
+returns c = accepted_is_typed
