@@ -1,11 +1,12 @@
 -- To believe: the bundles that the machine has rules for so far. All others are refused before a run; this file goes when every form is run.
-use Rattle.std.specs.Prelude.{◌≡◌, ℕ, ◌<◌, Bool, true, List, [], ◌∷◌, Option, Some, None, ◌&&◌, nat_lt, length, slice_get}
+use Rattle.std.specs.Prelude.{◌≡◌, ℕ, Bool, true, List, [], ◌∷◌, Option, Some, None, ◌&&◌, nat_lt, length, slice_get}
 use Rattle.demands.specs.Demands.{Demands, none, demand, ◌⨾◌, first_unmet}
 use Rattle.ir_tree.specs.declared.items.Item.{Item}
 use Rattle.ir_tree.specs.declared.items.Item.TheVariants as items
 use Rattle.code_check.specs.declared.code.Code.{Code}
 use Rattle.bundle_check.specs.declared.code.BlockCode.{BlockCode}
 use Rattle.bundle_check.specs.Checking.{bundle_blocks}
+use Rattle.bundle_facts.specs.Facts.{HaveBlocks}
 use Rattle.step_forms.specs.Built.{form_is_built}
 use Rattle.mu_step.specs.declared.built.RunKind.{RunKind}
 use Rattle.mu_step.specs.declared.built.RunKind.TheVariants.{NotBuilt}
@@ -42,15 +43,6 @@ built_demands bundle = functions_have_blocks bundle ⨾ blocks_are_built bundle 
 
 unfoldable pub IsBuilt : List Item → Type 0
 IsBuilt bundle = (n : ℕ) (b : BlockCode) (at : ℕ) (i : Code) → slice_get (bundle_blocks bundle) n ≡ Some b → slice_get b.code at ≡ Some i → form_is_built i.form ≡ true
-
-abbrev pub HaveBlocks : List Item → Type 0
-HaveBlocks [] = Unit {0}
-HaveBlocks (items.Typedef d ∷ is) = HaveBlocks is
-HaveBlocks (items.Funcsig d ∷ is) = HaveBlocks is
-HaveBlocks (items.Const d ∷ is) = HaveBlocks is
-HaveBlocks (items.GlobalCell d ∷ is) = HaveBlocks is
-HaveBlocks (items.Funcdecl d ∷ is) = HaveBlocks is
-HaveBlocks (items.Funcdef d ∷ is) = (0 < length d.blocks) × HaveBlocks is
 
 -- ---- laws
 

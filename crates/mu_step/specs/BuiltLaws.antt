@@ -9,10 +9,11 @@ use Rattle.ir_tree.specs.declared.items.Item.TheVariants as items
 use Rattle.code_check.specs.declared.code.Code.{Code}
 use Rattle.bundle_check.specs.declared.code.BlockCode.{BlockCode}
 use Rattle.bundle_check.specs.Checking.{bundle_blocks}
+use Rattle.bundle_facts.specs.Facts.{HaveBlocks}
 use Rattle.step_forms.specs.Built.{form_is_built}
 use Rattle.mu_step.specs.declared.built.RunKind.{RunKind}
 use Rattle.mu_step.specs.declared.built.RunKind.TheVariants.{NotBuilt}
-use Rattle.mu_step.specs.Built.{functions_have_blocks, codes_are_built, place_of_function, blocks_are_built, built_demands, IsBuilt, HaveBlocks, FormsAreBuilt, FunctionsHaveBlocks}
+use Rattle.mu_step.specs.Built.{functions_have_blocks, codes_are_built, place_of_function, blocks_are_built, built_demands, IsBuilt, FormsAreBuilt, FunctionsHaveBlocks}
 
 both_met : (a b : Option (Fault RunKind)) → or_else a b ≡ None → (a ≡ None) × (b ≡ None)
 both_met None b h = (refl, h)

@@ -13,5 +13,5 @@ mod results;
 mod state;
 mod waiting;
 
-pub use built::{RunFault, RunKind, are_built};
+pub use built::{RunFault, RunKind, are_built, forms_are_built, have_blocks};
 pub use machine::Machine;

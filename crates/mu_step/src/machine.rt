@@ -1,8 +1,6 @@
 // The machine.
-ghost use Rattle.std.specs.Prelude.{◌≡◌, ◌≢◌, ◌<◌, IsSome, Some, IfOk, OnErr, length};
-ghost use Rattle.std.specs.List.{All};
+ghost use Rattle.std.specs.Prelude.{◌≡◌, ◌≢◌, IsSome, Some, IfOk, OnErr};
 ghost use Rattle.bundle_check.specs.Checking.{bundle_tables};
-ghost use Rattle.typed_heap.specs.Heap.{AreNarrow};
 ghost use Rattle.mu_model.specs.Programs.{named};
 ghost use Rattle.mu_model.specs.Outcomes.{Stuck};
 ghost use Rattle.mu_model.specs.Step.{step};
@@ -13,6 +11,7 @@ ghost use Rattle.mu_step.specs.Built.{IsBuilt};
 
 use crate::state::State;
 use bundle_check::Checked;
+use bundle_facts::{globals_are_types, widths_are_narrow};
 use model_numbers::programs_are_same;
 use mu_model::StepEnd;
 use mu_values::Slots;
@@ -50,14 +49,14 @@ impl<'a> Machine<'a> {
         cells: u32,
         budget: u32,
     ) -> Result<Machine<'a>, AllocError>
-        requires narrow { AreNarrow (bundle_tables code.now).types.definitions }
-        requires globals { All (λ c. c < length (bundle_tables code.now).types.definitions) (bundle_tables code.now).global_cells }
-        requires there { IsSome (first_configuration (named code.now) (plain_setting (bundle_tables code.now) cells budget) entry) }
+        requires { IsSome (first_configuration (named code.now) (plain_setting (bundle_tables code.now) cells budget) entry) }
         ensures bundle { IfOk result (λ m. m.bundle ≡ code.now) }
         ensures first { IfOk result (λ m. first_configuration (named code.now) (plain_setting (bundle_tables code.now) cells budget) entry ≡ Some m.configuration) }
     {
         let _items = code.items();
         programs_are_same();
+        widths_are_narrow();
+        globals_are_types();
         let state = State::start(alloc, code, entry, cells, budget)?;
         Ok(Machine {
             alloc,
