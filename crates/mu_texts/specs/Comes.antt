@@ -1,13 +1,19 @@
 -- What the functions that read and judge a text tell their callers.
-use Rattle.std.specs.Prelude.{◌≡◌, ℕ, List, IsSome, Result, Ok, Err, ⊤}
+use Rattle.std.specs.Prelude.{◌≡◌, ℕ, ◌<◌, List, length, IsSome, Result, Ok, Err, ⊤}
+use Rattle.std.specs.List.{All}
 use Rattle.mu_texts.specs.declared.what.What.TheVariants.{Bundle}
 use Rattle.mu_texts.specs.declared.stop.Stop.{Stop}
 use Rattle.mu_texts.specs.declared.stop.Stop.TheVariants.{Line, Memory}
 use Rattle.mu_texts.specs.declared.ready.Ready.{Ready}
 use Rattle.mu_texts.specs.declared.ready.Ready.TheVariants as ready
-use Rattle.mu_step.specs.Run.{run}
+use Rattle.bundle_check.specs.Checking.{bundle_tables}
+use Rattle.typed_heap.specs.Heap.{AreNarrow}
+use Rattle.mu_model.specs.Programs.{named as program}
+use Rattle.mu_model.specs.Run.{Run, Ends, Breaks, Unfinished, first_configuration}
+use Rattle.mu_step.specs.Built.{IsBuilt}
+use Rattle.mu_step.specs.Plain.{plain_setting}
 use Rattle.ir_tree.specs.declared.items.Item.{Item}
-use Rattle.mu_texts.specs.Answer.{Part, ◌>>=◌, line, refused, built, entered}
+use Rattle.mu_texts.specs.Answer.{Part, ◌>>=◌, line, refused, built, entered, cell_limit, run_of}
 
 -- the function that the run of a bundle begins with, where all its functions are built
 abbrev pub begun : List Item → List ℕ → Part ℕ
@@ -30,8 +36,22 @@ abbrev pub IsRefusal : Stop → ℕ → List ℕ → Type 0
 IsRefusal (Line text status) place fault = line text.items status ≡ refused Bundle place fault
 IsRefusal Memory place fault = ⊥
 
--- a function that is to be run has a run that comes to its ending
+-- a run comes to its ending
+abbrev pub HasEnding : Run → Type 0
+HasEnding (Ends steps lines e) = ⊤
+HasEnding Breaks = ⊥
+HasEnding Unfinished = ⊥
+
+-- what the machine asks of a bundle and of a function that its run begins with, and that the run comes to its ending
+pub record IsRunnable (code : List Item) (n budget : ℕ) : Type 0 where
+  pub built : IsBuilt code
+  pub narrow : AreNarrow (bundle_tables code).types.definitions
+  pub globals : All (λ c. c < length (bundle_tables code).types.definitions) (bundle_tables code).global_cells
+  pub begins : IsSome (first_configuration (program code) (plain_setting (bundle_tables code) cell_limit budget) n)
+  pub ends : HasEnding (run_of code n budget)
+
+-- what is to be run can be run
 abbrev pub CanRun : Ready → Type 0
 CanRun ready.Accepted = ⊤
 CanRun (ready.Canonical bundle) = ⊤
-CanRun (ready.Entered code n) = IsSome (run code n)
+CanRun (ready.Entered code n budget) = IsRunnable code n budget
