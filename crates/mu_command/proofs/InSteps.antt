@@ -1,7 +1,7 @@
 -- The pieces of a run, step by step.
 use Rattle.std.proofs.Common.{◌≡◌, ℕ, zero, suc, ◌+◌, List, [], ◌∷◌, ◌++◌, length, reverse, refl, sym, ap, ◌∙◌, subst, arith, Option, Some, None, append_assoc, length-append, add_assoc}
 use Rattle.std.proofs.lemmas.List.{reverse-reverse}
-use Rattle.std.specs.Prelude.{◌≢◌, Result, Ok, Err}
+use Rattle.std.specs.Prelude.{◌≢◌, IfSome}
 use Rattle.std.specs.Io.KnownBytes.{Appends, Keeps}
 use Rattle.mu_base.specs.declared.status.Status.{Status}
 use Rattle.mu_base.specs.declared.status.Status.TheVariants.{Memory}
@@ -142,6 +142,11 @@ module _ (bundle : List Item) (c d : Configuration) (w0 w1 e0 e1 : Option (List 
       let later : HasEnding (run (named bundle) n d) = behind_ends ls (run (named bundle) n d) (subst HasEnding goes ends) in
       subst (λ (a : Answer). Writes a w0 w1 e0 e1 status) (sym (ap (run_answer bundle) goes ∙ answer_behind bundle ls (run (named bundle) n d) later)) (over (run_answer bundle (run (named bundle) n d)))
 
+  pub went_or_over : (ls : List Line) (o : Option Status) → Next (record d { lines = reverse ls }) ≡ step (named bundle) c →
+      IfSome o (λ status. (answer : Answer) → Writes (behind_pieces (step_pieces bundle ls) answer) w0 w1 e0 e1 status) → IfSome o (λ status. IsOver bundle c w0 w1 e0 e1 status)
+  went_or_over ls None e over = tt
+  went_or_over ls (Some status) e over = went_over ls status e over
+
   -- it gave the ending, and the last piece was put or not
   pub ended : (ls : List Line) (e : Ending) (status : Status) → End ls e ≡ step (named bundle) c →
       Writes (record { pieces = last_piece bundle ls e ∷ []; status = ending_status e }) w0 w1 e0 e1 status → IsOver bundle c w0 w1 e0 e1 status
@@ -183,4 +188,4 @@ module _ (bundle : List Item) (whole : Answer) (n : ℕ) (c : Configuration) (w0
       subst (λ (a : Answer). Writes a w0 w2 e0 e2 status) (sym far.is)
       (writes_behind far.done (run_answer bundle (run (named bundle) (suc n) c)) w0 w1 w2 e0 e1 e2 status far.wrote (over n far.ends))
 
-pub ruleset running = (no_lines, lines_put, lines_stop, last_put, last_stops, went, went_over, ended, not_made)
+pub ruleset running = (no_lines, lines_put, lines_stop, last_put, last_stops, went, went_over, went_or_over, ended, not_made)

@@ -14,18 +14,14 @@ word words n = slice_index_or words n []
 abbrev pub is_digit : ℕ → Bool
 is_digit b = nat_le 48 b && nat_le b 57
 
--- the number whose decimal digits these are, behind digits that are n
-abbrev pub digits_behind : ℕ → List ℕ → Option ℕ
-digits_behind n [] = Some n
-digits_behind n (b ∷ bs) = if is_digit b then digits_behind (10 * n + (b - 48)) bs else None
-
-abbrev pub at_most : ℕ → Option ℕ → Option ℕ
-at_most limit None = None
-at_most limit (Some n) = if nat_le n limit then Some n else None
+-- the number whose decimal digits these are, behind digits that are n, as long as it is at most the limit
+abbrev pub digits_up_to : ℕ → ℕ → List ℕ → Option ℕ
+digits_up_to limit n [] = Some n
+digits_up_to limit n (b ∷ bs) = if is_digit b && nat_le (10 * n + (b - 48)) limit then digits_up_to limit (10 * n + (b - 48)) bs else None
 
 -- one to ten decimal digits, of a number that is at most the limit
 abbrev pub number_up_to : ℕ → List ℕ → Option ℕ
-number_up_to limit text = if nat_le 1 (length text) && nat_le (length text) 10 then at_most limit (digits_behind 0 text) else None
+number_up_to limit text = if nat_le 1 (length text) && nat_le (length text) 10 then digits_up_to limit 0 text else None
 
 -- ---- words
 

@@ -63,7 +63,10 @@ fn put_lines<S: Sink>(
     }
     text.clear();
     match lines_text(code, lines, text) {
-        Ok(()) => put(out, text).err(),
+        Ok(()) => match put(out, text) {
+            Ok(()) => None,
+            Err(status) => Some(status),
+        },
         Err(_) => Some(Status::Memory),
     }
 }
@@ -150,8 +153,9 @@ fn write_steps<S: Sink>(
     let mut left = steps;
     'steps: while left > 0 {
         left -= 1;
-        if let Some(status) = make_step(out, code, machine, &mut text) {
-            return status;
+        match make_step(out, code, machine, &mut text) {
+            None => {}
+            Some(status) => return status,
         }
     }
     Status::Memory

@@ -1,6 +1,6 @@
 // Reads the words of the command line.
-ghost use Rattle.std.specs.Prelude.{◌≡◌, ◌<◌, ◌^◌, IfSome, length};
-ghost use Rattle.mu_command.specs.Job.{number_up_to, stepped_job, job_of, AreThere};
+ghost use Rattle.std.specs.Prelude.{◌≡◌, IfSome, length};
+ghost use Rattle.mu_command.specs.Job.{is_digit, digits_up_to, number_up_to, stepped_job, job_of, AreThere};
 
 use crate::Job;
 use mu_base::Words;
@@ -9,25 +9,40 @@ use mu_base::Words;
 const USUAL_STEPS: u32 = 200_000;
 
 // How many steps a word may say.
-const MOST_STEPS: u64 = 1_000_000;
+const MOST_STEPS: u32 = 1_000_000;
+
+fn is_digit(byte: u8) -> bool
+    ensures { result ≡ is_digit byte }
+{
+    48 <= byte && byte <= 57
+}
 
 // The number whose decimal digits the bytes are, where it is at most the limit.
-fn number_up_to(limit: u64, text: &[u8]) -> Option<u32>
-    requires { limit < 2 ^ 32 }
-    ensures number { result ≡ number_up_to limit text.now }
+fn digits_up_to(limit: u32, text: &[u8]) -> Option<u32>
+    ensures { result ≡ digits_up_to limit 0 text.now }
 {
-    if text.is_empty() || text.len() > 10 {
-        return None;
-    }
-    let mut number = 0u64;
-    for byte in text {
-        if *byte < b'0' || *byte > b'9' {
+    let mut number = 0u32;
+    let mut left = text;
+    'each: while let [byte, more @ ..] = left {
+        if !is_digit(*byte) {
             return None;
         }
-        number = 10 * number + (*byte - b'0') as u64;
+        let next = 10 * number as u64 + (*byte - 48) as u64;
+        if next > limit as u64 {
+            return None;
+        }
+        number = next as u32;
+        left = more;
     }
-    if number <= limit {
-        Some(number as u32)
+    Some(number)
+}
+
+// The number that one to ten decimal digits write, where it is at most the limit.
+fn number_up_to(limit: u32, text: &[u8]) -> Option<u32>
+    ensures { result ≡ number_up_to limit text.now }
+{
+    if 1 <= text.len() && text.len() <= 10 {
+        digits_up_to(limit, text)
     } else {
         None
     }

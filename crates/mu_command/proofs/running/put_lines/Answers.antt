@@ -1,0 +1,14 @@
+use Rattle.std.proofs.Common.{◌≡◌, ◌∙◌, length, arith}
+use Rattle.std.proofs.lemmas.Grind.{common_steps}
+use Rattle.run_texts.specs.Pieces.{lines_text}
+use Rattle.mu_command.proofs.Puts.{no_memory}
+use Rattle.mu_command.proofs.InSteps.{lines_stop}
+use Rattle.mu_command.proofs.running.put_lines.Goals as goal
+
+pub returns-in-Err-put-clause-over : goal.returns-in-Err-put-clause-over
+returns-in-Err-put-clause-over g c = λ answer.
+    let same : c.deref.result.now ≡ lines_text c.args.code.now c.args.lines.now = c.deref.ensures.value ∙ (rw c.clear.ensures.items at c.in-Ok.ensures.appended) in
+    lines_stop c.args.code.now c.args.lines.now answer _ _ _ _ c.in-Err-put.status (λ none. grind (arith, common_steps)) c.in-Err-put.ensures.status (rw same at c.in-Err-put.ensures.part)
+
+pub returns-in-Err-clause-over : goal.returns-in-Err-clause-over
+returns-in-Err-clause-over g c = λ answer. no_memory _ _ _
