@@ -49,7 +49,7 @@ stepped_job words =
     else (if is_word words 2 (codes "--steps") && is_word words 4 (codes "--entry") then run_job 5 (number_up_to most_steps (word words 3)) else None)
 
 -- `check FILE`, `print FILE` and `run FILE --entry NAME [--steps N]`, whose options come in any order; all other words ask for nothing
-abbrev pub job_of : List (List ℕ) → Option Job
+unfoldable pub job_of : List (List ℕ) → Option Job
 job_of words =
     if nat_eq (length words) 2 then file_job words
     else (if nat_eq (length words) 4 && is_word words 0 (codes "run") then (if is_word words 2 (codes "--entry") then Some (Run 1 3 usual_steps) else None)

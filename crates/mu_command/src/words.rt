@@ -71,6 +71,7 @@ fn stepped_job(words: &Words) -> Option<Job>
 
 /// What the words ask for: `check FILE`, `print FILE` or `run FILE --entry NAME [--steps N]`, whose options come in any order. None
 /// exactly where they are no such words. It takes no memory.
+#[tactic(auto, unfolding(crate::specs::Job::job_of))]
 pub fn read_words(words: &Words) -> Option<Job>
     ensures job { result ≡ job_of words.now }
     ensures there { IfSome result (AreThere words.now) }
