@@ -11,7 +11,7 @@ use Rattle.mu_command.specs.Written.{joined, cuts_from, AppendsEnds, Wrote, IsWh
 use Rattle.mu_base.specs.declared.sink.PutFault.{PutFault}
 use Rattle.mu_base.specs.declared.sink.PutFault.TheVariants.{Fault, Memory as NoMemory}
 
-joined-append : (ps qs : List (List ℕ)) → joined (ps ++ qs) ≡ joined ps ++ joined qs
+pub joined-append : (ps qs : List (List ℕ)) → joined (ps ++ qs) ≡ joined ps ++ joined qs
 joined-append [] qs = refl
 joined-append (p ∷ ps) qs = rw (joined-append ps qs, append_assoc) refl
 
@@ -57,7 +57,7 @@ prefix_more a b p l h =
     let d = drop (length b) p in
     subst P (sym (split_prefix b p h)) (rw (append_assoc b d l, ← append_assoc a b (d ++ l)) (take_at (a ++ b) (d ++ l) (length (a ++ b)) refl))
 
-appends_twice : (p q : List ℕ) (w0 w1 w2 : Option (List ℕ)) → Appends w0 w1 p → Appends w1 w2 q → Appends w0 w2 (p ++ q)
+pub appends_twice : (p q : List ℕ) (w0 w1 w2 : Option (List ℕ)) → Appends w0 w1 p → Appends w1 w2 q → Appends w0 w2 (p ++ q)
 appends_twice p q None w1 w2 a b = tt
 appends_twice p q (Some x) None w2 a b = absurd a
 appends_twice p q (Some x) (Some y) None a b = absurd b

@@ -10,20 +10,31 @@ use Rattle.mu_command.specs.Answer.{answer_of}
 abbrev words : List (List ℕ)
 words = codes "run" ∷ codes "b" ∷ codes "--entry" ∷ codes "@main" ∷ []
 
-a_run : job_of words ≡ Some (Run 1 3)
+a_run : job_of words ≡ Some (Run 1 3 200000)
+unfolding job_of
 a_run = refl
 
+fewer_steps : job_of (codes "run" ∷ codes "b" ∷ codes "--steps" ∷ codes "007" ∷ codes "--entry" ∷ codes "@main" ∷ []) ≡ Some (Run 1 5 7)
+unfolding job_of
+fewer_steps = refl
+
+too_many_steps : job_of (codes "run" ∷ codes "b" ∷ codes "--entry" ∷ codes "@main" ∷ codes "--steps" ∷ codes "1000001" ∷ []) ≡ None
+unfolding job_of
+too_many_steps = refl
+
 no_entry : job_of (codes "run" ∷ codes "b" ∷ []) ≡ None
+unfolding job_of
 no_entry = refl
 
 another_command : job_of (codes "judge" ∷ codes "b" ∷ codes "--entry" ∷ codes "@main" ∷ []) ≡ None
+unfolding job_of
 another_command = refl
 
 usage : answer_of words None (λ _. got []) ≡ record { pieces = codes "usage\n" ∷ []; status = Usage }
 usage = refl
 
-no_such_file : answer_of words (Some (Run 1 3)) (λ _. failed) ≡ record { pieces = codes "read fault bundle\n" ∷ []; status = ReadFault }
+no_such_file : answer_of words (Some (Run 1 3 200000)) (λ _. failed) ≡ record { pieces = codes "read fault bundle\n" ∷ []; status = ReadFault }
 no_such_file = refl
 
-a_long_file : answer_of words (Some (Run 1 3)) (λ _. too_long) ≡ record { pieces = codes "too long bundle\n" ∷ []; status = TooLong }
+a_long_file : answer_of words (Some (Run 1 3 200000)) (λ _. too_long) ≡ record { pieces = codes "too long bundle\n" ∷ []; status = TooLong }
 a_long_file = refl

@@ -5,3 +5,4 @@ pub mod Written
 pub mod Parts
 pub mod Central
 pub mod Examples
+pub mod Steps

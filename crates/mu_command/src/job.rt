@@ -8,8 +8,12 @@ pub enum Job {
     Check { file: usize },
     /// Writes the bundle in a file as its canonical text.
     Print { file: usize },
-    /// Runs the bundle in a file, from the function with that name.
-    Run { file: usize, entry: usize },
+    /// Runs the bundle in a file, from the function with that name. The run may make so many steps.
+    Run {
+        file: usize,
+        entry: usize,
+        budget: u32,
+    },
 }
 
 impl Job {

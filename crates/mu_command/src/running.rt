@@ -1,22 +1,33 @@
 // The second half of the program: writes what was found.
-ghost use Rattle.std.specs.Prelude.{◌≡◌, ◌≤◌, ◌++◌, ◌∷◌, [], map, OnOk, OnErr, IfErr, IsSome};
+ghost use Rattle.std.specs.Prelude.{◌≡◌, ◌≢◌, ◌≤◌, ◌∷◌, [], IfNone, IfSome, OnOk, OnErr, IfErr};
 ghost use Rattle.mu_base.specs.Faults.{Rose};
-ghost use Rattle.mu_step.specs.Run.{run};
-ghost use Rattle.mu_texts.specs.Answer.{run_answer, ready_answer};
-ghost use Rattle.mu_texts.specs.Comes.{CanRun};
-ghost use Rattle.mu_texts.specs.declared.ready.Ready.TheVariants as ready;
-ghost use Rattle.mu_texts.specs.Lines.{line_text, ending_text, ending_status};
 ghost use Rattle.mu_base.specs.Sink.{PutsWhole, PutsPart};
-ghost use Rattle.mu_command.specs.Written.{Writes, IsWhole};
+ghost use Rattle.mu_model.specs.Outcomes.{Stuck};
+ghost use Rattle.mu_model.specs.Programs.{named};
+ghost use Rattle.mu_model.specs.Step.{step};
+ghost use Rattle.mu_model.specs.Run.{run};
+ghost use Rattle.run_texts.specs.Texts.{ending_status};
+ghost use Rattle.mu_step.specs.Built.{IsBuilt};
+ghost use Rattle.mu_texts.specs.Answer.{Answer, run_of, run_answer, ready_answer};
+ghost use Rattle.model_laws.specs.Bounds.{HasEnding};
+ghost use Rattle.mu_texts.specs.Comes.{IsRunnable, CanRun};
+ghost use Rattle.mu_texts.specs.declared.ready.Ready.TheVariants as ready;
+ghost use Rattle.mu_command.specs.Written.{Wrote, Writes, IsWhole};
+ghost use Rattle.mu_command.specs.Steps.{step_pieces, last_piece, behind_pieces, Goes, IsOver};
 
 use crate::writing::{put_line, put_whole_text};
 use bundle_check::Checked;
 use ir_print::print_bundle;
 use ir_tree::Bundle;
 use mu_base::{PutFault, Sink, Status};
-use mu_step::{Ending, Line, run_block};
-use mu_texts::{Ready, ending_status, ending_text, line_text};
-use std::alloc::Global;
+use mu_model::{Ending, Line, StepEnd};
+use mu_step::Machine;
+use mu_texts::Ready;
+use run_print::{ending_status, ending_text, lines_text};
+use std::alloc::{AllocError, Global};
+
+// How many cells a run may make beside those of the globals.
+const CELL_LIMIT: u32 = 100_000;
 
 // Puts a text in one piece; a put that fails gives the status that goes with it.
 fn put<S: Sink>(out: &mut S, text: &[u8]) -> Result<(), Status>
@@ -33,51 +44,140 @@ fn put<S: Sink>(out: &mut S, text: &[u8]) -> Result<(), Status>
     }
 }
 
-// Puts a line in one piece. `text` is room that is used again.
-#[tactic(auto, using(crate::proofs::Puts::not_put))]
-fn put_one<S: Sink>(out: &mut S, line: &Line, text: &mut Vec<u8>) -> Result<(), Status>
-    ensures whole { OnOk result (PutsWhole (line_text line.now) (S.written out.old) (S.written out.new) (S.ends out.old) (S.ends out.new)) }
-    ensures part { OnErr result (PutsPart (line_text line.now) (S.written out.old) (S.written out.new) (S.ends out.old) (S.ends out.new)) }
+// Puts the lines of a step in one piece; where there are none nothing is put. None where all was put, else the status of the program.
+// `text` is room that is used again.
+#[tactic(auto, using(crate::proofs::InSteps::running))]
+fn put_lines<S: Sink>(
+    out: &mut S,
+    code: &Checked,
+    lines: &[Line],
+    text: &mut Vec<u8>,
+) -> Option<Status>
+    ensures goes { IfNone result (Wrote (step_pieces code.now lines.now) (S.written out.old) (S.written out.new) (S.ends out.old) (S.ends out.new)) }
+    ensures over { IfSome result (λ status. (answer : Answer) → Writes (behind_pieces (step_pieces code.now lines.now) answer)
+        (S.written out.old) (S.written out.new) (S.ends out.old) (S.ends out.new) status) }
     ensures never_falls { S.faults out.old ≤ S.faults out.new }
-    ensures status { IfErr result (λ status. IsWhole status → ⊥) }
-    ensures fault { IfErr result (λ status. status ≡ Status.SinkFault → Rose (S.faults out.old) (S.faults out.new)) }
+    ensures fault { IfSome result (λ status. status ≡ Status.SinkFault → Rose (S.faults out.old) (S.faults out.new)) }
 {
+    if lines.is_empty() {
+        return None;
+    }
     text.clear();
-    match line_text(line, text) {
-        Ok(()) => put(out, text),
-        Err(_) => Err(Status::Memory),
+    match lines_text(code, lines, text) {
+        Ok(()) => match put(out, text) {
+            Ok(()) => None,
+            Err(status) => Some(status),
+        },
+        Err(_) => Some(Status::Memory),
     }
 }
 
-// Puts each line, and then the ending.
-fn put_run<S: Sink>(alloc: Global, out: &mut S, lines: &[Line], ending: Ending) -> Status
-    ensures writes { Writes (record { pieces = map line_text lines.now ++ ending_text ending ∷ []; status = ending_status ending })
+// The last piece: the lines of the step that gives the ending, and the line of the ending.
+fn last_text(code: &Checked, lines: &[Line], ending: &Ending, text: &mut Vec<u8>) -> Result<(), AllocError>
+    ensures { OnOk result (text.new.items ≡ last_piece code.now lines.now ending.now) }
+{
+    text.clear();
+    lines_text(code, lines, text)?;
+    ending_text(code, ending, text)
+}
+
+// Puts the last piece.
+#[tactic(auto, using(crate::proofs::InSteps::running))]
+fn put_last<S: Sink>(
+    out: &mut S,
+    code: &Checked,
+    lines: &[Line],
+    ending: &Ending,
+    text: &mut Vec<u8>,
+) -> Status
+    ensures writes { Writes (record { pieces = last_piece code.now lines.now ending.now ∷ []; status = ending_status ending.now })
+        (S.written out.old) (S.written out.new) (S.ends out.old) (S.ends out.new) result }
+    ensures never_falls { S.faults out.old ≤ S.faults out.new }
+    ensures fault { result ≡ Status.SinkFault → Rose (S.faults out.old) (S.faults out.new) }
+{
+    match last_text(code, lines, ending, text) {
+        Ok(()) => match put(out, text) {
+            Ok(()) => ending_status(ending),
+            Err(status) => status,
+        },
+        Err(_) => Status::Memory,
+    }
+}
+
+// Makes a step and puts its lines. None where the run goes on, else the status of the program.
+#[tactic(auto, using(crate::proofs::InSteps::running))]
+fn make_step<S: Sink>(
+    out: &mut S,
+    code: &Checked,
+    machine: &mut Machine,
+    text: &mut Vec<u8>,
+) -> Option<Status>
+    requires built { IsBuilt code.now }
+    requires same { machine.old.bundle ≡ code.now }
+    requires there { step (named code.now) machine.old.configuration ≢ Stuck }
+    ensures same { machine.new.bundle ≡ code.now }
+    ensures goes { IfNone result (Goes code.now machine.old.configuration machine.new.configuration (S.written out.old) (S.written out.new) (S.ends out.old) (S.ends out.new)) }
+    ensures over { IfSome result (λ status. IsOver code.now machine.old.configuration (S.written out.old) (S.written out.new) (S.ends out.old) (S.ends out.new) status) }
+    ensures never_falls { S.faults out.old ≤ S.faults out.new }
+    ensures fault { IfSome result (λ status. status ≡ Status.SinkFault → Rose (S.faults out.old) (S.faults out.new)) }
+{
+    match machine.step() {
+        Ok(StepEnd::Went(lines)) => put_lines(out, code, lines.as_slice(), text),
+        Ok(StepEnd::Ended(lines, ending)) => Some(put_last(
+            out,
+            code,
+            lines.as_slice(),
+            &ending,
+            text,
+        )),
+        Err(_) => Some(Status::Memory),
+    }
+}
+
+// Makes the steps of a run up to its ending, which comes within so many, and puts the lines of each.
+fn write_steps<S: Sink>(
+    alloc: Global,
+    out: &mut S,
+    code: &Checked,
+    machine: &mut Machine,
+    steps: u64,
+) -> Status
+    requires built { IsBuilt code.now }
+    requires same { machine.old.bundle ≡ code.now }
+    requires ends { HasEnding (run (named code.now) steps machine.old.configuration) }
+    ensures writes { Writes (run_answer code.now (run (named code.now) steps machine.old.configuration))
         (S.written out.old) (S.written out.new) (S.ends out.old) (S.ends out.new) result }
     ensures never_falls { S.faults out.old ≤ S.faults out.new }
     ensures fault { result ≡ Status.SinkFault → Rose (S.faults out.old) (S.faults out.new) }
 {
     let mut text = Vec::new(alloc);
-    for line in lines {
-        match put_one(out, line, &mut text) {
-            Ok(()) => {}
-            Err(status) => return status,
+    let mut left = steps;
+    'steps: while left > 0 {
+        left -= 1;
+        match make_step(out, code, machine, &mut text) {
+            None => {}
+            Some(status) => return status,
         }
     }
-    match put(out, ending_text(ending)) {
-        Ok(()) => ending_status(ending),
-        Err(status) => status,
-    }
+    Status::Memory
 }
 
 // Runs a function, and writes the lines of the run and its ending.
-fn write_run<S: Sink>(alloc: Global, code: &Checked, entry: u32, out: &mut S) -> Status
-    requires { IsSome (run code.now entry) }
-    ensures writes { Writes (run_answer (run code.now entry)) (S.written out.old) (S.written out.new) (S.ends out.old) (S.ends out.new) result }
+#[tactic(auto, using(crate::proofs::InSteps::running))]
+fn write_run<S: Sink>(
+    alloc: Global,
+    out: &mut S,
+    code: &Checked,
+    entry: u32,
+    budget: u32,
+) -> Status
+    requires { IsRunnable code.now entry budget }
+    ensures writes { Writes (run_answer code.now (run_of code.now entry budget)) (S.written out.old) (S.written out.new) (S.ends out.old) (S.ends out.new) result }
     ensures never_falls { S.faults out.old ≤ S.faults out.new }
     ensures fault { result ≡ Status.SinkFault → Rose (S.faults out.old) (S.faults out.new) }
 {
-    match run_block(alloc, code, entry) {
-        Ok(lines) => put_run(alloc, out, lines.as_slice(), Ending::Done),
+    match Machine::new(alloc, code, entry, CELL_LIMIT, budget) {
+        Ok(mut machine) => write_steps(alloc, out, code, &mut machine, budget as u64 + 1),
         Err(_) => Status::Memory,
     }
 }
@@ -108,6 +208,10 @@ pub fn write<S: Sink>(alloc: Global, ready: &Ready, out: &mut S) -> Status
             Err(_) => Status::Memory,
         },
         Ready::Canonical(bundle) => write_canonical(alloc, bundle, out),
-        Ready::Entered { code, entry } => write_run(alloc, code, *entry, out),
+        Ready::Entered {
+            code,
+            entry,
+            budget,
+        } => write_run(alloc, out, code, *entry, *budget),
     }
 }

@@ -1,3 +1,5 @@
 pub mod Accepting
 pub mod Refusing
 pub mod Entering
+pub mod Beginning
+pub mod Runnable

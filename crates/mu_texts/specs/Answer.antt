@@ -1,5 +1,5 @@
 -- What the text of a bundle comes to, and what is written then.
-use Rattle.std.specs.Prelude.{ℕ, List, [], ◌∷◌, ◌++◌, map, Option, None, Some, Result, Ok, Err, codes, decimal}
+use Rattle.std.specs.Prelude.{ℕ, List, [], ◌∷◌, ◌++◌, Option, None, Some, Result, Ok, Err, codes, decimal}
 use Rattle.mu_base.specs.declared.status.Status.{Status}
 use Rattle.mu_base.specs.declared.status.Status.TheVariants.{Done as Finished, Refused, Memory}
 use Rattle.ir_text.specs.declared.fault.TextFault.{TextFault}
@@ -12,16 +12,19 @@ use Rattle.demands.specs.declared.fault.Fault.TheVariants as faults
 use Rattle.demands.specs.Demands.{first_unmet}
 use Rattle.bundle_names.specs.Naming.{name_demands}
 use Rattle.bundle_check.specs.declared.fault.EntryFault.{EntryFault}
-use Rattle.bundle_check.specs.Checking.{check_demands}
+use Rattle.bundle_check.specs.Checking.{bundle_tables, check_demands}
 use Rattle.bundle_check.specs.Answers.{entry}
+use Rattle.mu_model.specs.Programs.{named as program}
+use Rattle.mu_model.specs.Run.{Run, Ends, Breaks, Unfinished, program_run}
+use Rattle.run_texts.specs.Texts.{ending_status}
+use Rattle.run_texts.specs.Pieces.{pieces_of}
 use Rattle.mu_step.specs.Built.{built_demands}
-use Rattle.mu_step.specs.Run.{Run as RunOfMachine, run}
+use Rattle.mu_step.specs.Plain.{plain_setting}
 use Rattle.mu_texts.specs.declared.what.What.{What}
 use Rattle.mu_texts.specs.declared.what.What.TheVariants.{Bundle}
 use Rattle.mu_texts.specs.declared.ready.Ready.{Ready}
 use Rattle.mu_texts.specs.declared.ready.Ready.TheVariants as ready
 use Rattle.mu_texts.specs.What.{name_of}
-use Rattle.mu_texts.specs.Lines.{line_text, ending_text, ending_status}
 use Rattle.mu_texts.specs.Refusals.{text_fault_name, name_fault_name, check_fault_name, run_fault_name, entry_fault_name}
 
 -- What is to be written, in the pieces that are put one by one, and the status that goes with it.
@@ -89,20 +92,29 @@ abbrev pub entered : List Item → List ℕ → Part ℕ
 entered bundle name = entry_part (entry bundle name)
 
 -- what `mu check`, `mu print` and `mu run` ask of a text: that it is accepted; the bundle as it is written; or a bundle that is accepted
--- and built, and a function of it
+-- and built, a function of it, and how many steps its run may make
 abbrev pub for_check : List ℕ → Part Ready
 for_check bytes = accepted bytes >>= λ code. Ok ready.Accepted
 
 abbrev pub for_print : List ℕ → Part Ready
 for_print bytes = as_written bytes >>= λ bundle. Ok (ready.Canonical bundle)
 
-abbrev pub for_run : List ℕ → List ℕ → Part Ready
-for_run bytes name = accepted bytes >>= built >>= λ code. entered code name >>= λ n. Ok (ready.Entered code n)
+abbrev pub for_run : List ℕ → List ℕ → ℕ → Part Ready
+for_run bytes name budget = accepted bytes >>= built >>= λ code. entered code name >>= λ n. Ok (ready.Entered code n budget)
 
--- the lines of the run, a piece each, and then its ending; a run that is stuck would have no answer
-abbrev pub run_answer : Option RunOfMachine → Answer
-run_answer (Some r) = record { pieces = map line_text r.lines ++ ending_text r.ending ∷ []; status = ending_status r.ending }
-run_answer None = no_answer
+-- how many cells a run may make beside those of the globals
+abbrev pub cell_limit : ℕ
+cell_limit = 100000
+
+-- the run of a function of a bundle, which may make so many steps
+unfoldable pub run_of : List Item → ℕ → ℕ → Run
+run_of code n budget = program_run (program code) (plain_setting (bundle_tables code) cell_limit budget) n
+
+-- the text of the run in its pieces; a run without an ending would have no answer
+abbrev pub run_answer : List Item → Run → Answer
+run_answer bundle (Ends steps lines e) = record { pieces = pieces_of bundle steps lines e; status = ending_status e }
+run_answer bundle Breaks = no_answer
+run_answer bundle Unfinished = no_answer
 
 -- a text in one piece; an empty one has none
 abbrev pub in_one_piece : List ℕ → List (List ℕ)
@@ -113,7 +125,7 @@ in_one_piece (b ∷ text) = (b ∷ text) ∷ []
 abbrev pub ready_answer : Ready → Answer
 ready_answer ready.Accepted = line (codes "ok") Finished
 ready_answer (ready.Canonical bundle) = record { pieces = in_one_piece (bundle_text bundle); status = Finished }
-ready_answer (ready.Entered code n) = run_answer (run code n)
+ready_answer (ready.Entered code n budget) = run_answer code (run_of code n budget)
 
 abbrev pub ready_part : Part Ready → Answer
 ready_part (Ok r) = ready_answer r

@@ -5,9 +5,14 @@ use Rattle.mu_texts.specs.declared.stop.Stop.{Stop}
 use Rattle.mu_texts.specs.declared.stop.Stop.TheVariants.{Line, Memory}
 use Rattle.mu_texts.specs.declared.ready.Ready.{Ready}
 use Rattle.mu_texts.specs.declared.ready.Ready.TheVariants as ready
-use Rattle.mu_step.specs.Run.{run}
+use Rattle.bundle_check.specs.Checking.{bundle_tables}
+use Rattle.mu_model.specs.Programs.{named as program}
+use Rattle.mu_model.specs.Run.{first_configuration}
+use Rattle.model_laws.specs.Bounds.{HasEnding}
+use Rattle.mu_step.specs.Built.{IsBuilt}
+use Rattle.mu_step.specs.Plain.{plain_setting}
 use Rattle.ir_tree.specs.declared.items.Item.{Item}
-use Rattle.mu_texts.specs.Answer.{Part, ◌>>=◌, line, refused, built, entered}
+use Rattle.mu_texts.specs.Answer.{Part, ◌>>=◌, line, refused, built, entered, cell_limit, run_of}
 
 -- the function that the run of a bundle begins with, where all its functions are built
 abbrev pub begun : List Item → List ℕ → Part ℕ
@@ -30,8 +35,14 @@ abbrev pub IsRefusal : Stop → ℕ → List ℕ → Type 0
 IsRefusal (Line text status) place fault = line text.items status ≡ refused Bundle place fault
 IsRefusal Memory place fault = ⊥
 
--- a function that is to be run has a run that comes to its ending
+-- what the machine asks of a bundle and of a function that its run begins with, and that the run comes to its ending
+pub record IsRunnable (code : List Item) (n budget : ℕ) : Type 0 where
+  pub built : IsBuilt code
+  pub begins : IsSome (first_configuration (program code) (plain_setting (bundle_tables code) cell_limit budget) n)
+  pub ends : HasEnding (run_of code n budget)
+
+-- what is to be run can be run
 abbrev pub CanRun : Ready → Type 0
 CanRun ready.Accepted = ⊤
 CanRun (ready.Canonical bundle) = ⊤
-CanRun (ready.Entered code n) = IsSome (run code n)
+CanRun (ready.Entered code n budget) = IsRunnable code n budget

@@ -1,5 +1,4 @@
 pub mod What
-pub mod Lines
 pub mod Refusals
 pub mod Answer
 pub mod Comes

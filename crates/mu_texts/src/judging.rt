@@ -1,10 +1,9 @@
 // Reads the text of a bundle, and judges it.
-ghost use Rattle.std.specs.Prelude.{◌≡◌, None, Ok, IfOk, OnOk, IsSome};
+ghost use Rattle.std.specs.Prelude.{◌≡◌, None, Ok, IfOk, OnOk};
 ghost use Rattle.demands.specs.Demands.{first_unmet};
 ghost use Rattle.mu_step.specs.Built.{built_demands};
-ghost use Rattle.mu_step.specs.Run.{run};
 ghost use Rattle.mu_texts.specs.Answer.{as_written, named, checked, built, accepted, entered, for_check, for_print, for_run};
-ghost use Rattle.mu_texts.specs.Comes.{Comes, Passes, IsRefusal, CanRun, begun};
+ghost use Rattle.mu_texts.specs.Comes.{Comes, Passes, IsRefusal, IsRunnable, CanRun, begun};
 
 use crate::ready::Ready;
 use crate::refusals::{
@@ -76,20 +75,21 @@ fn judge_built(alloc: Global, code: &Checked) -> Result<(), Stop>
     ensures built { Passes (built code.now) code.now result }
     ensures met { OnOk result (first_unmet (built_demands code.now) ≡ None) }
 {
-    match are_built(alloc, code) {
+    match are_built(code) {
         Ok(()) => Ok(()),
         Err(Fault::Memory) => Err(Stop::Memory),
         Err(Fault::At { kind, place }) => Err(refused(alloc, place, run_fault_name(kind))?),
     }
 }
 
-// The number of the function with that name.
-#[tactic(auto, using(mu_step::proofs::Never::never_stuck))]
-fn enter(alloc: Global, code: &Checked, name: &str) -> Result<u32, Stop>
+// The number of the function with that name, whose run may make so many steps.
+#[tactic(auto, using(crate::proofs::Runnable::runnable))]
+fn enter(alloc: Global, code: &Checked, name: &str, budget: u32) -> Result<u32, Stop>
     requires { first_unmet (built_demands code.now) ≡ None }
     ensures number { Comes (entered code.now name.now) result }
-    ensures there { IfOk result (λ n. IsSome (run code.now n)) }
+    ensures there { IfOk result (λ n. IsRunnable code.now n budget) }
 {
+    let _items = code.items();
     match code.entry(name) {
         Ok(number) => Ok(number),
         Err(fault) => {
@@ -101,13 +101,13 @@ fn enter(alloc: Global, code: &Checked, name: &str) -> Result<u32, Stop>
 }
 
 // The number of the function that a run begins with, in a bundle whose functions are built.
-fn entry_of(alloc: Global, code: &Checked, name: &str) -> Result<u32, Stop>
+fn entry_of(alloc: Global, code: &Checked, name: &str, budget: u32) -> Result<u32, Stop>
     ensures built { IfOk result (λ n. built code.now ≡ Ok code.now) }
     ensures number { Comes (begun code.now name.now) result }
-    ensures there { IfOk result (λ n. IsSome (run code.now n)) }
+    ensures there { IfOk result (λ n. IsRunnable code.now n budget) }
 {
     judge_built(alloc, code)?;
-    enter(alloc, code, name)
+    enter(alloc, code, name, budget)
 }
 
 // A checked bundle is lent on the way, so that each function drops it at one place at most: the proof of a drop goes through all
@@ -129,15 +129,24 @@ pub fn judge_for_print(alloc: Global, bytes: &[u8]) -> Result<Ready, Stop>
 }
 
 /// What `mu run` asks of a text: a bundle that meets all demands on it, whose functions are built, with a function of that name
-/// which a run may begin with.
+/// which a run may begin with. The run may make so many steps.
 #[tactic(auto, using(crate::proofs::Entering::entering))]
-pub fn judge_for_run(alloc: Global, bytes: &[u8], name: &str) -> Result<Ready, Stop>
-    ensures asked { Comes (for_run bytes.now name.now) result }
+pub fn judge_for_run(
+    alloc: Global,
+    bytes: &[u8],
+    name: &str,
+    budget: u32,
+) -> Result<Ready, Stop>
+    ensures asked { Comes (for_run bytes.now name.now budget) result }
     ensures there { IfOk result CanRun }
 {
     let code = accept(alloc, bytes)?;
-    match entry_of(alloc, &code, name) {
-        Ok(entry) => Ok(Ready::Entered { code, entry }),
+    match entry_of(alloc, &code, name, budget) {
+        Ok(entry) => Ok(Ready::Entered {
+            code,
+            entry,
+            budget,
+        }),
         Err(stop) => Err(stop),
     }
 }

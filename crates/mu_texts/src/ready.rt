@@ -9,6 +9,10 @@ pub enum Ready {
     Accepted,
     /// The bundle in canonical text.
     Canonical(Bundle),
-    /// The run of a function of a checked bundle, by its number.
-    Entered { code: Checked, entry: u32 },
+    /// The run of a function of a checked bundle, by its number, which may make so many steps.
+    Entered {
+        code: Checked,
+        entry: u32,
+        budget: u32,
+    },
 }

@@ -1,0 +1,40 @@
+-- What the functions that write a run tell their callers.
+use Rattle.std.specs.Prelude.{◌≡◌, ℕ, suc, List, [], ◌∷◌, ◌++◌, Option, reverse, codes}
+use Rattle.mu_base.specs.declared.status.Status.{Status}
+use Rattle.ir_tree.specs.declared.items.Item.{Item}
+use Rattle.mu_model.specs.declared.lines.Line.{Line}
+use Rattle.mu_model.specs.declared.endings.Ending.{Ending}
+use Rattle.mu_model.specs.Configuration.{Configuration}
+use Rattle.mu_model.specs.Outcomes.{Next}
+use Rattle.mu_model.specs.Programs.{named}
+use Rattle.mu_model.specs.Step.{step}
+use Rattle.mu_model.specs.Run.{run}
+use Rattle.run_texts.specs.Texts.{Text, ending_text}
+use Rattle.run_texts.specs.Pieces.{lines_text, has_lines}
+use Rattle.mu_texts.specs.Answer.{Answer, run_answer}
+use Rattle.model_laws.specs.Bounds.{HasEnding}
+use Rattle.mu_command.specs.Written.{Wrote, Writes}
+
+-- the pieces of a step that goes on: one, where it has lines
+abbrev pub step_pieces : List Item → List Line → List Text
+step_pieces bundle [] = []
+step_pieces bundle (l ∷ ls) = lines_text bundle (l ∷ ls) ∷ []
+
+-- the piece of the step that gives the ending
+abbrev pub last_piece : List Item → List Line → Ending → Text
+last_piece bundle lines e = lines_text bundle lines ++ ending_text bundle e ++ codes "\n"
+
+-- an answer behind other pieces
+abbrev pub behind_pieces : List Text → Answer → Answer
+behind_pieces pieces answer = record { pieces = pieces ++ answer.pieces; status = answer.status }
+
+-- the step went from one configuration to another, and its pieces were put
+pub record Goes (bundle : List Item) (c d : Configuration) (written new_written marks new_marks : Option (List ℕ)) : Type 0 where
+  pub lines : List Line
+  pub is : step (named bundle) c ≡ Next (record d { lines = reverse lines })
+  pub wrote : Wrote (step_pieces bundle lines) written new_written marks new_marks
+
+-- however many steps may come, what is left of the run was written with this status
+abbrev pub IsOver : List Item → Configuration → Option (List ℕ) → Option (List ℕ) → Option (List ℕ) → Option (List ℕ) → Status → Type 0
+IsOver bundle c written new_written marks new_marks status =
+    (n : ℕ) → HasEnding (run (named bundle) (suc n) c) → Writes (run_answer bundle (run (named bundle) (suc n) c)) written new_written marks new_marks status
