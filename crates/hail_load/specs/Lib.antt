@@ -1,0 +1,14 @@
+pub mod Sources
+pub mod Grammar
+pub mod Names
+pub mod Texts
+pub mod Code
+pub mod Parts
+pub mod Fitting
+pub mod Judging
+pub mod Loading
+pub mod Laws
+pub mod Samples
+pub mod TextExamples
+pub mod TargetExamples
+pub mod SourceExamples
