@@ -31,25 +31,17 @@ pub enum Piece {
     /// A number
     Number(Numeral),
     /// `NULL`
-    Null {
-        place: usize,
-    },
+    Null { place: usize },
     /// The name of a constant, a global or a function
     Global(Name),
     /// The name of an object
     Object(Name),
     /// `& root`. Its place is that of the `&`, and its indexes are the pieces behind it.
-    Reference {
-        place: usize,
-        root: Root,
-    },
+    Reference { place: usize, root: Root },
     /// An index of the reference before it
     Index(Index),
     /// `{`, with its place, and how many sources the list has. Their pieces are those behind it.
-    List {
-        place: usize,
-        length: usize,
-    },
+    List { place: usize, length: usize },
 }
 
 /// A command.
