@@ -1,1 +1,6 @@
+pub mod Elements
 pub mod Grammatical
+pub mod Judging
+pub mod MemberLoops
+pub mod Nested
+pub mod ScriptLoops

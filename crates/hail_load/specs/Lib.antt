@@ -2,6 +2,9 @@ pub mod Sources
 pub mod Grammar
 pub mod Names
 pub mod Texts
+pub mod Judged
+pub mod MembersSoFar
+pub mod ScriptSoFar
 pub mod Code
 pub mod Parts
 pub mod Fitting

@@ -1,4 +1,5 @@
 // A script as it is written. Each name, number and mark that a fault may stand at has its place: the offset of its first byte.
+use crate::source_pieces::Pieces;
 use ir_lex::{Name, Numeral};
 use text_forms::Listing;
 
@@ -63,7 +64,7 @@ pub enum Command {
     /// `.init target = source`
     Init {
         target: Target,
-        source: Listing<Piece>,
+        source: Pieces,
     },
 }
 
