@@ -34,7 +34,7 @@ unfolding mark name numeral object root index reference plain global members lis
 is_source zero = record { some = refl; decided = refl; own = refl; last = refl; first = inl refl }
 is_source (suc n) =
     let s = is_source n in
-    record { some = refl; decided = rw (nested (source n) s) refl; own = rw s.own refl; last = refl; first = inr refl }
+    record { some = refl; decided = rw (nested (source n) s) refl; own = refl; last = refl; first = inr refl }
 
 with_index : (f : Form (List Piece)) → IsSource f → IsPlain (element f true)
 unfolding mark numeral index
@@ -43,7 +43,7 @@ with_index f s = elim s.first [
   | inr b ↦ record { element = record { some = s.some; decided = rw (s.decided, b) refl }; own = s.own }
 ]
 
-pub element_plain : (n : ℕ) (open : Bool) → IsPlain (element (source n) open)
+pub element_plain : (n : ℕ) (leads : Bool) → IsPlain (element (source n) leads)
 element_plain n false = let s = is_source n in record { element = record { some = s.some; decided = s.decided }; own = s.own }
 element_plain n true = with_index (source n) (is_source n)
 
@@ -61,7 +61,7 @@ read_plain (suc n) ts (inr off) = rw off refl
 pub read_index : (f : Form (List Piece)) (ts : List Tok) → at (symbols.SquareOpen ∷ []) ts ≡ true → read (element f true) ts ≡ kept index_alone (read index ts)
 read_index f ts here = rw here refl
 
-pub read_source : (f : Form (List Piece)) (open : Bool) (ts : List Tok) → (open ≡ false) ⊎ (at (symbols.SquareOpen ∷ []) ts ≡ false) → read (element f open) ts ≡ read f ts
+pub read_source : (f : Form (List Piece)) (leads : Bool) (ts : List Tok) → (leads ≡ false) ⊎ (at (symbols.SquareOpen ∷ []) ts ≡ false) → read (element f leads) ts ≡ read f ts
 read_source f false ts off = refl
 read_source f true ts (inl closed) = absurd cc
 read_source f true ts (inr off) = rw off refl

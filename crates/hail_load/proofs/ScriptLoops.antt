@@ -23,7 +23,7 @@ use Rattle.hail_load.specs.Sources.{object, root, index, target, reference, plai
 use Rattle.hail_load.specs.Grammar.{new_command, newhybrid_command, init_command, command, line, line_is_open, next_indexes, with_indexes, commands_of, hail}
 use Rattle.hail_load.specs.ScriptSoFar.{index_piece, no_script, extended, followed, commands_with}
 
-pub line_plain : (open : Bool) → IsPlain (line open)
+pub line_plain : (leads : Bool) → IsPlain (line leads)
 unfolding mark name numeral global bracketed object root index target reference plain members list source new_command newhybrid_command init_command command
 line_plain false = record { element = record { some = refl; decided = refl }; own = refl }
 line_plain true = record { element = record { some = refl; decided = refl }; own = refl }
@@ -33,10 +33,10 @@ Total = Result (List Command × List Tok) Fault
 
 -- the lines from here on
 abbrev pub lines_from : Bool → Form (List Line × ℕ)
-lines_from open = lines one_flag (λ s. s) (λ s l. line_is_open l) line (symbols.End ∷ []) (mark symbols.End) open
+lines_from leads = lines one_flag (λ s. s) (λ s l. line_is_open l) line (symbols.End ∷ []) (mark symbols.End) leads
 
 abbrev pub so_far : Script → List Tok → Total
-so_far s ts = kept (λ (x : List Line × ℕ). commands_with s x.0) (read (lines_from s.open) ts)
+so_far s ts = kept (λ (x : List Line × ℕ). commands_with s x.0) (read (lines_from s.leads) ts)
 
 pub begins_so_far : (ts : List Tok) → so_far no_script ts ≡ read hail ts
 unfolding hail
@@ -59,7 +59,7 @@ extended_none [] = refl
 extended_none (c ∷ []) = ap (λ (d : Command). d ∷ []) (with_none c)
 extended_none (c ∷ d ∷ cs) = ap (λ (ds : List Command). c ∷ ds) (extended_none (d ∷ cs))
 
-extended_last : (cs : List Command) (c : Command) (is : List Piece) → extended (cs ++ c ∷ []) is ≡ cs ++ with_indexes c is ∷ []
+pub extended_last : (cs : List Command) (c : Command) (is : List Piece) → extended (cs ++ c ∷ []) is ≡ cs ++ with_indexes c is ∷ []
 extended_last [] c is = refl
 extended_last (d ∷ []) c is = refl
 extended_last (d ∷ e ∷ cs) c is = ap (λ (ds : List Command). d ∷ ds) (extended_last (e ∷ cs) c is)
@@ -77,24 +77,24 @@ means s (ones.Command c) ls =
     ∙ ap (λ (cs : List Command). cs ++ commands_of ls) (sym (extended_last s.commands c (next_indexes ls)))
 means s (ones.Index i) ls = ap (λ (cs : List Command). cs ++ commands_of ls) (sym (extended_twice s.commands (index_piece i ∷ []) (next_indexes ls)))
 
-opened : (s : Script) (l : Line) → (followed s l).open ≡ line_is_open l
+opened : (s : Script) (l : Line) → (followed s l).leads ≡ line_is_open l
 opened s (ones.Command c) = refl
 opened s (ones.Index i) = refl
 
 -- ---- one line more, and the end
 
-pub goes_on : (s : Script) (ts : List Tok) (l : Line) (rest : List Tok) (total : Total) → at (symbols.End ∷ []) ts ≡ false → read (line s.open) ts ≡ Ok (l, rest) → so_far s ts ≡ total → so_far (followed s l) rest ≡ total
+pub goes_on : (s : Script) (ts : List Tok) (l : Line) (rest : List Tok) (total : Total) → at (symbols.End ∷ []) ts ≡ false → read (line s.leads) ts ≡ Ok (l, rest) → so_far s ts ≡ total → so_far (followed s l) rest ≡ total
 goes_on s ts l rest total off one so =
     subst (λ (b : Bool). kept (λ (x : List Line × ℕ). commands_with (followed s l) x.0) (read (lines_from b) rest) ≡ total) (sym (opened s l))
-    (goes_on_by one_flag (λ s. s) (λ s l. line_is_open l) line (symbols.End ∷ []) (mark symbols.End) (λ y. (line_plain y).element) 0 s.open (λ (x : List Line × ℕ). commands_with s x.0) (λ (x : List Line × ℕ). commands_with (followed s l) x.0) ts l rest total
-    (λ ls b. means s l ls) off (steady_read (line s.open) (line_plain s.open).own (first ts).place 0 ts ∙ one) so)
+    (goes_on_by one_flag (λ s. s) (λ s l. line_is_open l) line (symbols.End ∷ []) (mark symbols.End) (λ y. (line_plain y).element) 0 s.leads (λ (x : List Line × ℕ). commands_with s x.0) (λ (x : List Line × ℕ). commands_with (followed s l) x.0) ts l rest total
+    (λ ls b. means s l ls) off (steady_read (line s.leads) (line_plain s.leads).own (first ts).place 0 ts ∙ one) so)
 
-fails_with : (s : Script) (ts rest : List Tok) (total : Total) (e : ReadError) → at (symbols.End ∷ []) ts ≡ false → Gives {A = Line} (Err e) rest (read (line s.open) ts) → so_far s ts ≡ total → Gives {A = List Command} (Err e) rest total
+fails_with : (s : Script) (ts rest : List Tok) (total : Total) (e : ReadError) → at (symbols.End ∷ []) ts ≡ false → Gives {A = Line} (Err e) rest (read (line s.leads) ts) → so_far s ts ≡ total → Gives {A = List Command} (Err e) rest total
 fails_with s ts rest total e off one so =
-    fails_by one_flag (λ s. s) (λ s l. line_is_open l) line (symbols.End ∷ []) (mark symbols.End) (λ y. (line_plain y).element) 0 s.open (λ (x : List Line × ℕ). commands_with s x.0) ts rest total e off
-    (subst (λ (r : Result (Line × List Tok) Fault). Gives {A = Line} (Err e) rest r) (steady_read (line s.open) (line_plain s.open).own 0 (first ts).place ts) one) so
+    fails_by one_flag (λ s. s) (λ s l. line_is_open l) line (symbols.End ∷ []) (mark symbols.End) (λ y. (line_plain y).element) 0 s.leads (λ (x : List Line × ℕ). commands_with s x.0) ts rest total e off
+    (subst (λ (r : Result (Line × List Tok) Fault). Gives {A = Line} (Err e) rest r) (steady_read (line s.leads) (line_plain s.leads).own 0 (first ts).place ts) one) so
 
-pub fails_whole : (s : Script) (ts rest : List Tok) (total : Total) (e : ReadError) → at (symbols.End ∷ []) ts ≡ false → Gives {A = Line} (Err e) rest (read (line s.open) ts) → so_far s ts ≡ total → GivesAll {A = List Command} (Err e) (total >>= λ x. Ok x.0)
+pub fails_whole : (s : Script) (ts rest : List Tok) (total : Total) (e : ReadError) → at (symbols.End ∷ []) ts ≡ false → Gives {A = Line} (Err e) rest (read (line s.leads) ts) → so_far s ts ≡ total → GivesAll {A = List Command} (Err e) (total >>= λ x. Ok x.0)
 fails_whole s ts rest total errors.Memory off one so = tt
 fails_whole s ts rest total (errors.Fault e) off one so = let gone : total ≡ Err e = fails_with s ts rest total (errors.Fault e) off one so in rw gone refl
 
@@ -104,5 +104,5 @@ closed ts here = rw here refl
 
 pub is_done : (s : Script) (ts : List Tok) (total : Total) → at (symbols.End ∷ []) ts ≡ true → so_far s ts ≡ total → (total >>= λ x. Ok x.0) ≡ Ok s.commands
 is_done s ts total here so =
-    let all : total ≡ Ok (commands_with s [], rest_of ts) = is_done_by one_flag (λ s. s) (λ s l. line_is_open l) line (symbols.End ∷ []) (mark symbols.End) (λ y. (line_plain y).element) 0 s.open (λ (x : List Line × ℕ). commands_with s x.0) ts (first ts).place (rest_of ts) total here (closed ts here) so in
+    let all : total ≡ Ok (commands_with s [], rest_of ts) = is_done_by one_flag (λ s. s) (λ s l. line_is_open l) line (symbols.End ∷ []) (mark symbols.End) (λ y. (line_plain y).element) 0 s.leads (λ (x : List Line × ℕ). commands_with s x.0) ts (first ts).place (rest_of ts) total here (closed ts here) so in
     rw all (ap (λ (cs : List Command). Ok cs) (append-nil (extended s.commands []) ∙ extended_none s.commands))

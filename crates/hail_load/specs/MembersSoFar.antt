@@ -11,11 +11,11 @@ abbrev pub index_alone : Index → List Piece
 index_alone i = pieces.Index i ∷ []
 
 abbrev pub no_members : Members
-no_members = record { pieces = []; length = 0; open = false }
+no_members = record { pieces = []; length = 0; leads = false }
 
 -- one more element is read
 abbrev pub followed : Members → List Piece → Members
-followed m e = record { pieces = m.pieces ++ e; length = m.length + source_count (e ∷ []); open = is_open e }
+followed m e = record { pieces = m.pieces ++ e; length = m.length + source_count (e ∷ []); leads = is_open e }
 
 -- the pieces of the list, where these elements follow, and where none do
 abbrev pub listed_with : ℕ → Members → List (List Piece) → List Piece

@@ -14,7 +14,7 @@ abbrev pub index_piece : Index → Piece
 index_piece i = pieces.Index i
 
 abbrev pub no_script : Script
-no_script = record { commands = []; open = false }
+no_script = record { commands = []; leads = false }
 
 -- the last command has these indexes too
 abbrev pub extended : List Command → List Piece → List Command
@@ -24,8 +24,8 @@ extended (c ∷ d ∷ cs) is = c ∷ extended (d ∷ cs) is
 
 -- one more line is read
 abbrev pub followed : Script → Line → Script
-followed s (ones.Command c) = record { commands = s.commands ++ c ∷ []; open = line_is_open (ones.Command c) }
-followed s (ones.Index i) = record { commands = extended s.commands (index_piece i ∷ []); open = line_is_open (ones.Index i) }
+followed s (ones.Command c) = record { commands = s.commands ++ c ∷ []; leads = line_is_open (ones.Command c) }
+followed s (ones.Index i) = record { commands = extended s.commands (index_piece i ∷ []); leads = line_is_open (ones.Index i) }
 
 -- the commands, where these lines follow
 abbrev pub commands_with : Script → List Line → List Command

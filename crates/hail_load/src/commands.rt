@@ -1,8 +1,8 @@
 //! The commands of a script.
-ghost use Rattle.std.specs.Prelude.{◌≡◌, [], ◌∷◌, OnOk};
+ghost use Rattle.std.specs.Prelude.{◌≡◌, [], ◌∷◌, IfOk, OnOk};
 ghost use Rattle.text_forms.specs.Reading.{read, whole};
 ghost use Rattle.text_forms.specs.Answers.{Gives, GivesAll};
-ghost use Rattle.hail_load.specs.Grammar.{new_command, newhybrid_command, init_command, command, line, line_is_open, hail};
+ghost use Rattle.hail_load.specs.Grammar.{new_command, newhybrid_command, init_command, command, line, line_is_open, with_indexes, hail};
 ghost use Rattle.hail_load.specs.ScriptSoFar.{index_piece, no_script, extended, followed};
 
 use crate::sources::source;
@@ -73,10 +73,10 @@ fn command(cursor: &mut Cursor, alloc: Global) -> Result<Command, ReadError>
 }
 
 /// A command, or where one may come an index.
-fn line(cursor: &mut Cursor, alloc: Global, open: bool) -> Result<Line, ReadError>
-    ensures { Gives result cursor.new (read (line open) cursor.old) }
+fn line(cursor: &mut Cursor, alloc: Global, leads: bool) -> Result<Line, ReadError>
+    ensures { Gives result cursor.new (read (line leads) cursor.old) }
 {
-    if open && cursor.at(Symbol::SquareOpen) {
+    if leads && cursor.at(Symbol::SquareOpen) {
         Ok(Line::Index(index(cursor)?))
     } else {
         Ok(Line::Command(command(cursor, alloc)?))
@@ -87,7 +87,7 @@ fn line(cursor: &mut Cursor, alloc: Global, open: bool) -> Result<Line, ReadErro
 #[derive(Drop)]
 struct Script {
     commands: Listing<Command>,
-    open: bool,
+    leads: bool,
 }
 
 /// Whether an index may come next.
@@ -101,17 +101,32 @@ fn is_open(line: &Line) -> bool
     }
 }
 
+/// The command with one more index behind it.
+fn with_index(command: Command, index: Index) -> Result<Command, AllocError>
+    ensures { IfOk result (λ c. c ≡ with_indexes command (index_piece index ∷ [])) }
+{
+    match command {
+        Command::Init { target, mut source } => {
+            source.push(Piece::Index(index))?;
+            Ok(Command::Init { target, source })
+        }
+        command => Ok(command),
+    }
+}
+
 /// Adds an index to the source of the last command.
 fn extend(commands: &mut Listing<Command>, index: Index) -> Result<(), AllocError>
     ensures { OnOk result (commands.new ≡ extended commands.old (index_piece index ∷ [])) }
 {
+    if commands.is_empty() {
+        return Ok(());
+    }
     match commands.pop() {
         None => Ok(()),
-        Some(Command::Init { target, mut source }) => {
-            source.push(Piece::Index(index))?;
-            commands.push(Command::Init { target, source })
+        Some(command) => {
+            let command = with_index(command, index)?;
+            commands.push(command)
         }
-        Some(command) => commands.push(command),
     }
 }
 
@@ -121,7 +136,7 @@ impl Script {
     {
         Script {
             commands: Listing::new(alloc),
-            open: false,
+            leads: false,
         }
     }
 
@@ -129,7 +144,7 @@ impl Script {
     fn add(&mut self, line: Line) -> Result<(), AllocError>
         ensures { OnOk result (self.new ≡ followed self.old line) }
     {
-        self.open = is_open(&line);
+        self.leads = is_open(&line);
         match line {
             Line::Command(command) => self.commands.push(command),
             Line::Index(index) => extend(&mut self.commands, index),
@@ -143,7 +158,7 @@ pub fn hail(cursor: &mut Cursor, alloc: Global) -> Result<Hail, ReadError>
 {
     let mut script = Script::new(alloc);
     'each: while !cursor.at(Symbol::End) {
-        let line = line(cursor, alloc, script.open)?;
+        let line = line(cursor, alloc, script.leads)?;
         script.add(line)?;
     }
     Ok(script.commands)

@@ -5,6 +5,7 @@ mod commands;
 mod fault;
 mod laws;
 mod names;
+mod reading;
 mod source_pieces;
 mod sources;
 mod tokens;
@@ -12,5 +13,6 @@ mod tree;
 
 pub use fault::{HailFault, HailKind, LoadFault, LoadKind};
 pub use laws::hail_is_grammar;
+pub use reading::read_hail;
 pub use source_pieces::Pieces;
 pub use tree::{Command, Hail, Index, Line, Piece, Root, Target};

@@ -17,7 +17,7 @@ use text_forms::{ReadError, Symbol};
 struct Members {
     pieces: Pieces,
     length: usize,
-    open: bool,
+    leads: bool,
 }
 
 impl Members {
@@ -27,7 +27,7 @@ impl Members {
         Members {
             pieces: Pieces::new(alloc),
             length: 0,
-            open: false,
+            leads: false,
         }
     }
 
@@ -39,7 +39,7 @@ impl Members {
             .length
             .checked_add(element.sources())
             .ok_or(AllocError)?;
-        self.open = element.is_open();
+        self.leads = element.is_open();
         self.pieces.append(element)
     }
 
@@ -95,11 +95,11 @@ fn element(
     cursor: &mut Cursor,
     alloc: Global,
     depth: usize,
-    open: bool,
+    leads: bool,
 ) -> Result<Pieces, ReadError>
-    ensures { Gives result cursor.new (read (element (source depth) open) cursor.old) }
+    ensures { Gives result cursor.new (read (element (source depth) leads) cursor.old) }
 {
-    if open && cursor.at(Symbol::SquareOpen) {
+    if leads && cursor.at(Symbol::SquareOpen) {
         index_alone(cursor, alloc)
     } else {
         source(cursor, alloc, depth)
@@ -114,7 +114,7 @@ fn list(cursor: &mut Cursor, alloc: Global, depth: usize) -> Result<Pieces, Read
     let place = cursor.mark(Symbol::BraceOpen)?;
     let mut members = Members::new(alloc);
     'each: while !cursor.at(Symbol::BraceClose) {
-        let element = element(cursor, alloc, depth, members.open)?;
+        let element = element(cursor, alloc, depth, members.leads)?;
         members.add(element)?;
     }
     cursor.bump();

@@ -15,7 +15,7 @@ returns-in_err-line c =
     rw (p.1, p.2) (fails_whole c.each.script c.each.cursor c.line.new.cursor (read hail c.args.cursor.now) c.in_err-line.field-0.0 (sym c.each-test.ensures) c.in_err-line.ensures c.each.invariant)
 
 pub each-smaller : goal.each-smaller
-each-smaller c = shorter (line c.each.script.open) (line_plain c.each.script.open).element 0 c.each.cursor c.in_ok-line.line c.line.new.cursor c.in_ok-line.ensures
+each-smaller c = shorter (line c.each.script.leads) (line_plain c.each.script.leads).element 0 c.each.cursor c.in_ok-line.line c.line.new.cursor c.in_ok-line.ensures
 
 pub each-preserved : goal.each-preserved
 each-preserved c = rw c.in_ok-add.ensures (goes_on c.each.script c.each.cursor c.in_ok-line.line c.line.new.cursor (read hail c.args.cursor.now) (sym c.each-test.ensures) c.in_ok-line.ensures c.each.invariant)
