@@ -1,11 +1,11 @@
 //! The script that a text spells.
-ghost use Rattle.std.specs.Prelude.{◌≡◌, Some, None, Ok, Err};
+ghost use Rattle.std.specs.Prelude.{◌≡◌, Ok, Err};
 ghost use Rattle.text_forms.specs.Reading.{whole};
 ghost use Rattle.demands.specs.Demands.{Judges};
 ghost use Rattle.ir_lex.specs.Walk.{tokens_from};
-ghost use Rattle.bundle_names.specs.Globals.{globals_of};
+ghost use Rattle.hail_load.specs.Code.{code_of};
 ghost use Rattle.hail_load.specs.Grammar.{hail};
-ghost use Rattle.hail_load.specs.Texts.{kind_of, demands_by, commands_in, hail_demands, hail_commands};
+ghost use Rattle.hail_load.specs.Texts.{kind_of, hail_demands, hail_commands};
 
 use crate::commands::hail;
 use crate::fault::{HailFault, HailKind};
@@ -86,9 +86,8 @@ fn read(alloc: Global, names: &Scope<Sort>, text: &[u8]) -> Result<Hail, HailFau
 /// - `Duplicate` at the name of an object that was given before.
 ///
 /// `Memory` says that no memory was found for a name or a list. Each token is looked at twice, and each name takes the time of one hash.
-#[tactic(auto, unfolding(bundle_tables::specs::Entries::tables_of))]
 pub fn read_hail(alloc: Global, bytes: &[u8], code: &Checked) -> Result<Hail, HailFault>
-    ensures { Judges (hail_demands (globals_of code.now).names bytes.now) (hail_commands bytes.now) result }
+    ensures { Judges (hail_demands (code_of code.now).names bytes.now) (hail_commands bytes.now) result }
 {
     read(alloc, &code.tables().globals.names, bytes)
 }

@@ -1,4 +1,4 @@
-use Rattle.std.proofs.Common.{◌≡◌, [], ◌∷◌, ◌++◌, IsTrue, subst}
+use Rattle.std.proofs.Common.{◌≡◌, true, false, [], ◌∷◌, ◌++◌, IsTrue}
 use Rattle.hail_load.specs.ScriptSoFar.{index_piece}
 use Rattle.hail_load.proofs.ScriptLoops.{extended_last}
 use Rattle.hail_load.proofs.commands.extend.Goals as goal
@@ -6,8 +6,8 @@ use Rattle.hail_load.proofs.commands.extend.Goals as goal
 pub returns-in-None : goal.returns-in-None
 returns-in-None c =
     let full : IsTrue c.is_empty.result = c.is_empty.ensures.1 c.in-None.ensures.none in
-    let none : ⊥ = rw c.if-is_empty.false at full in
-    absurd none
+    let none : false ≡ true = rw c.if-is_empty.false at full in
+    absurd cc
 
 pub returns-in_ok-command-in-Some : goal.returns-in_ok-command-in-Some
 returns-in_ok-command-in-Some c =
