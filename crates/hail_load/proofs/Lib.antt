@@ -3,4 +3,5 @@ pub mod Grammatical
 pub mod Judging
 pub mod MemberLoops
 pub mod Nested
+pub mod Referring
 pub mod ScriptLoops

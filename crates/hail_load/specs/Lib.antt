@@ -11,6 +11,7 @@ pub mod Fitting
 pub mod Judging
 pub mod Loading
 pub mod Laws
+pub mod FitLaws
 pub mod Samples
 pub mod TextExamples
 pub mod TargetExamples

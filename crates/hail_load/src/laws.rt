@@ -1,4 +1,5 @@
 //! Laws of the grammar: each function is proved, and does nothing.
+ghost use Rattle.hail_load.specs.FitLaws.{RefersWhereItFits};
 ghost use Rattle.hail_load.specs.Laws.{HailIsGrammar, ScriptIsDerived, ScriptFaultIsFirst};
 
 /// A script is read with one token of look-ahead: the next token always decides how it goes on. So a text has one script, or one first
@@ -16,4 +17,9 @@ pub fn script_is_derived()
 /// goes on.
 pub fn script_fault_is_first()
     ensures { ScriptFaultIsFirst }
+{}
+
+/// An object, a place or a function fits a type, as a source is judged, exactly where it is a value of that type.
+pub fn refers_where_it_fits()
+    ensures { RefersWhereItFits }
 {}

@@ -12,7 +12,7 @@ mod tokens;
 mod tree;
 
 pub use fault::{HailFault, HailKind, LoadFault, LoadKind};
-pub use laws::{hail_is_grammar, script_fault_is_first, script_is_derived};
+pub use laws::{hail_is_grammar, refers_where_it_fits, script_fault_is_first, script_is_derived};
 pub use reading::read_hail;
 pub use source_pieces::Pieces;
 pub use tree::{Command, Hail, Index, Line, Piece, Root, Target};

@@ -93,11 +93,7 @@ fn judge_global(names: &Scope<Sort>, before: Symbol, cursor: &Cursor) -> Result<
     ensures { Meets (demand (first cursor.now).place HailKind.Unknown (global_fits before (found names.now (first cursor.now).spelling))) result }
 {
     let sort = names.find(cursor.spelling()).copied();
-    meet(
-        HailKind::Unknown,
-        cursor.place(),
-        global_fits(before, sort),
-    )
+    meet(HailKind::Unknown, cursor.place(), global_fits(before, sort))
 }
 
 /// A token, by the one before it.
