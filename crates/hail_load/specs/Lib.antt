@@ -10,6 +10,7 @@ pub mod Parts
 pub mod Fitting
 pub mod Judging
 pub mod Loading
+pub mod LoadAnswers
 pub mod Laws
 pub mod FitLaws
 pub mod Samples

@@ -84,6 +84,7 @@ fn judge_number(before: Symbol, cursor: &Cursor) -> Result<(), HailFault>
             cursor.place(),
             !numeral.number.negative,
         ),
+        // (a number is never refused)
         Err(_) => Err(HailFault::Memory),
     }
 }
