@@ -2,7 +2,7 @@
 use Rattle.std.proofs.Common.{◌≡◌, ℕ, Bool, true, false, List, [], ◌∷◌, length, Option, Some, None, Err, refl, sym, ◌∙◌, ◌<◌, arith, inl, inr}
 use Rattle.text_forms.specs.declared.symbol.Symbol.{Symbol}
 use Rattle.text_forms.specs.declared.symbol.Symbol.TheVariants as symbols
-use Rattle.text_forms.specs.Tokens.{Tok, has, symbol_ahead, at, first, rest_of, is_last, last_symbols, goes_on_behind, IsText}
+use Rattle.text_forms.specs.Tokens.{Tok, has, symbol_ahead, at, first, rest_of, last_symbols, goes_on_behind, IsText}
 use Rattle.demands.specs.declared.fault.Fault.{Fault}
 use Rattle.demands.specs.declared.fault.Fault.TheVariants as faults
 use Rattle.demands.specs.Demands.{Demands, Meets, first_unmet}
@@ -11,7 +11,6 @@ use Rattle.ir_tree.specs.Lists.{globals}
 use Rattle.bundle_names.specs.declared.globals.Sort.{Sort}
 use Rattle.hail_load.specs.declared.fault.HailKind.{HailKind}
 use Rattle.hail_load.specs.Names.{Given, token_demand, token_demands, given_with}
-use Rattle.hail_load.specs.Texts.{tokens_before}
 use Rattle.hail_load.specs.Judged.{is_before, judged_tokens}
 
 -- what is judged from here on

@@ -1,17 +1,15 @@
 -- What a source refers to fits as values do.
-use Rattle.std.proofs.Common.{◌≡◌, ℕ, List, Bool, true, false, Option, Some, None, ◌↔◌}
+use Rattle.std.proofs.Common.{◌≡◌, ℕ, List, true, Option, Some, None, ◌↔◌}
 use Rattle.std.specs.Prelude.{IsSomeAnd, slice_get}
 use Rattle.std.proofs.lemmas.Bool.{eqb-true, eq-eqb}
 use Rattle.type_laws.specs.declared.definition.TypeDef.{TypeDef}
 use Rattle.type_laws.specs.declared.definition.TypeDef.TheVariants as types
 use Rattle.type_laws.specs.Class.{class_of}
-use Rattle.mu_values.specs.declared.scalars.Scalar.{Scalar}
 use Rattle.mu_values.specs.declared.scalars.Scalar.TheVariants.{Int, Null, Object, Place, Func, Stack, Thread}
 use Rattle.typed_heap.specs.Objects.{HeapObject}
-use Rattle.typed_heap.specs.Fits.{World, DefinitionFits, fits, place_fits}
-use Rattle.hail_load.specs.Code.{Code}
-use Rattle.hail_load.specs.Fitting.{object_fits, place_in_fits, is_class, refers}
-use Rattle.hail_load.specs.FitLaws.{is_found, RefersWhereItFits}
+use Rattle.typed_heap.specs.Fits.{fits, place_fits}
+use Rattle.hail_load.specs.Fitting.{object_fits, place_in_fits, is_class}
+use Rattle.hail_load.specs.FitLaws.{RefersWhereItFits}
 
 object_told : (graph : List TypeDef) (t : ℕ) (o : Option HeapObject) → (object_fits graph t o ≡ true) ↔ IsSomeAnd o (λ (h : HeapObject). fits graph t h.leaves ≡ true)
 object_told graph t None = (λ e. absurd cc, λ f. absurd f)

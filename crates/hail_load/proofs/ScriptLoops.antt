@@ -1,5 +1,5 @@
 -- Reading the lines of a script one at a time.
-use Rattle.std.proofs.Common.{◌≡◌, ℕ, Bool, true, false, List, [], ◌∷◌, ◌++◌, length, Result, Ok, Err, refl, sym, ap, ◌∙◌, subst, append_assoc, ◌<◌}
+use Rattle.std.proofs.Common.{◌≡◌, ℕ, Bool, true, false, List, [], ◌∷◌, ◌++◌, Result, Ok, Err, refl, sym, ap, ◌∙◌, subst, append_assoc}
 use Rattle.std.proofs.lemmas.List.{append-nil}
 use Rattle.text_forms.specs.declared.symbol.Symbol.TheVariants as symbols
 use Rattle.text_forms.specs.declared.fault.Fault.{Fault}
@@ -7,7 +7,7 @@ use Rattle.text_forms.specs.declared.fault.ReadError.{ReadError}
 use Rattle.text_forms.specs.declared.fault.ReadError.TheVariants as errors
 use Rattle.text_forms.specs.Tokens.{Tok, at, first, rest_of}
 use Rattle.text_forms.specs.Forms.{Form, lines, one_flag}
-use Rattle.text_forms.specs.Reading.{read_from, read, ◌>>=◌}
+use Rattle.text_forms.specs.Reading.{read, ◌>>=◌}
 use Rattle.text_forms.specs.Answers.{Gives, GivesAll, kept}
 use Rattle.text_forms.proofs.Lists.{goes_on_by, is_done_by, fails_by, steady_read}
 use Rattle.text_forms.proofs.Loops.{IsPlain}

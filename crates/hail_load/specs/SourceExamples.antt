@@ -11,7 +11,7 @@ use Rattle.ir_lex.specs.TokenForms.{mark, name, numeral}
 use Rattle.ir_tree.specs.Lists.{global, bracketed}
 use Rattle.hail_load.specs.Sources.{object, root, index, target, reference, plain, members, list, source}
 use Rattle.hail_load.specs.Grammar.{new_command, newhybrid_command, init_command, command, hail}
-use Rattle.hail_load.specs.declared.fault.LoadKind.TheVariants.{WrongType, OutOfRange, HeapFull}
+use Rattle.hail_load.specs.declared.fault.LoadKind.TheVariants.{WrongType, OutOfRange}
 use Rattle.mu_values.specs.declared.scalars.Scalar.{Scalar}
 use Rattle.typed_heap.specs.Objects.{HeapObject}
 use Rattle.hail_load.specs.Texts.{hail_commands}

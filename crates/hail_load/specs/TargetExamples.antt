@@ -1,8 +1,8 @@
 -- Worked examples: objects, targets and the cells that are set.
-use Rattle.std.specs.Prelude.{◌≡◌, refl, [], ◌∷◌, ◌++◌, None, Some, codes}
+use Rattle.std.specs.Prelude.{◌≡◌, refl, [], ◌∷◌, None, Some, codes}
 use Rattle.type_laws.specs.Same.{alike}
-use Rattle.type_laws.specs.Leaves.{times, leaves_to}
-use Rattle.mu_values.specs.declared.scalars.Scalar.TheVariants.{Int, Null, Object, Place, Func}
+use Rattle.type_laws.specs.Leaves.{leaves_to}
+use Rattle.mu_values.specs.declared.scalars.Scalar.TheVariants.{Int, Null}
 use Rattle.text_forms.specs.Reading.{elements}
 use Rattle.ir_lex.specs.WordTable.{words, directives, common_names}
 use Rattle.ir_lex.specs.Scanner.{gap_len, next_of}

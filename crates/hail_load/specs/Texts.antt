@@ -6,7 +6,7 @@ use Rattle.text_forms.specs.declared.fault.FaultKind.{FaultKind}
 use Rattle.text_forms.specs.declared.fault.FaultKind.TheVariants as kinds
 use Rattle.text_forms.specs.Tokens.{Tok}
 use Rattle.text_forms.specs.Reading.{whole}
-use Rattle.demands.specs.Demands.{Demands, none, demand, ◌⨾◌}
+use Rattle.demands.specs.Demands.{Demands, demand, ◌⨾◌}
 use Rattle.demands.specs.Names.{Names}
 use Rattle.ir_lex.specs.declared.token.LexKind.TheVariants as lexical
 use Rattle.ir_lex.specs.Walk.{tokens_from}
