@@ -1,0 +1,18 @@
+//! The script that fills a heap before a run: its text, and what its commands make.
+#![tactic(auto)]
+
+mod commands;
+mod fault;
+mod laws;
+mod names;
+mod reading;
+mod source_pieces;
+mod sources;
+mod tokens;
+mod tree;
+
+pub use fault::{HailFault, HailKind, LoadFault, LoadKind};
+pub use laws::{hail_is_grammar, refers_where_it_fits, script_fault_is_first, script_is_derived};
+pub use reading::read_hail;
+pub use source_pieces::Pieces;
+pub use tree::{Command, Hail, Index, Line, Piece, Root, Target};
