@@ -10,7 +10,7 @@ use Rattle.mu_texts.specs.declared.what.What.{What}
 use Rattle.mu_texts.specs.declared.what.What.TheVariants.{Bundle}
 use Rattle.mu_texts.specs.What.{slot_of}
 use Rattle.mu_command.specs.Job.{job_of, file_of, bundle_word, word}
-use Rattle.mu_texts.specs.Answer.{Answer}
+use Rattle.mu_texts.specs.Answer.{Answer, ready_answer}
 use Rattle.mu_command.specs.Answer.{Outcomes, asked, answer_of}
 use Rattle.mu_command.specs.Allowed.{Seen, AllowsWord, AllowsJob, file_limit}
 use Rattle.mu_command.specs.Written.{Writes}
@@ -36,12 +36,13 @@ MayFail seen words what n = Rose (seen.before (slot_of what)) (seen.now (slot_of
 abbrev pub IsPast : Seen → List (List ℕ) → What → ℕ → Type 0
 IsPast seen words what n = IsLonger seen.told (word words n) file_limit × (seen.now (slot_of what) ≡ seen.before (slot_of what))
 
--- the bytes of a bundle's file, and what the job asks of them: it is there, or it is refused
-pub record IsAccepted (seen : Seen) (words : List (List ℕ)) (job : Job) : Type 0 where
+-- the bytes of a bundle's file, and what the job asks of them: it is there, and its answer has this status; or it is refused
+pub record IsAccepted (seen : Seen) (words : List (List ℕ)) (status : Status) (job : Job) : Type 0 where
   pub bytes : List ℕ
   pub held : AllowsWord seen words Bundle (bundle_word job) (got bytes)
   pub ready : Ready
   pub is : asked words job bytes ≡ Ok ready
+  pub ends : (ready_answer ready).status ≡ status
 
 pub record IsRefused (seen : Seen) (words : List (List ℕ)) (job : Job) : Type 0 where
   pub bytes : List ℕ

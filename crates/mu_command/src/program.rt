@@ -1,7 +1,8 @@
 // The top call.
-ghost use Rattle.std.specs.Prelude.{◌≡◌, ◌≤◌, ℕ, None, Some};
+ghost use Rattle.std.specs.Prelude.{◌≡◌, ◌≤◌, ℕ, true, None, Some};
 ghost use Rattle.mu_base.specs.Faults.{Rose};
 ghost use Rattle.mu_base.specs.Files.{Files};
+ghost use Rattle.mu_texts.specs.Answer.{is_end};
 ghost use Rattle.mu_command.specs.Answer.{answer_of};
 ghost use Rattle.mu_command.specs.Central.{Answered, MayFail, IsPast, SomeFile, OfJob, IsAccepted, IsRefused, IsQuiet, outcomes_of, OneAnswer};
 ghost use Rattle.mu_command.specs.Job.{job_of};
@@ -56,8 +57,8 @@ pub fn mu<I: Inputs, S: Sink>(alloc: Global, words: &Words, inputs: &mut I, out:
         (IsPast (record { told = I.holds inputs.old; before = I.faults inputs.old; now = I.faults inputs.new }) words.now) (job_of words.now) }
     ensures refused { result ≡ Status.Refused → OfJob
         (IsRefused (record { told = I.holds inputs.old; before = I.faults inputs.old; now = I.faults inputs.new }) words.now) (job_of words.now) }
-    ensures done { result ≡ Status.Done → OfJob
-        (IsAccepted (record { told = I.holds inputs.old; before = I.faults inputs.old; now = I.faults inputs.new }) words.now) (job_of words.now) }
+    ensures accepted { is_end result ≡ true → OfJob
+        (IsAccepted (record { told = I.holds inputs.old; before = I.faults inputs.old; now = I.faults inputs.new }) words.now result) (job_of words.now) }
     ensures sink_fault { result ≡ Status.SinkFault → Rose (S.faults out.old) (S.faults out.new) }
 
     // What the inputs tell stays, and no count of faults falls.

@@ -1,6 +1,7 @@
 -- What the text of a bundle comes to, and what is written then.
-use Rattle.std.specs.Prelude.{ℕ, List, [], ◌∷◌, ◌++◌, Option, None, Some, Result, Ok, Err, codes, decimal}
+use Rattle.std.specs.Prelude.{ℕ, Bool, true, false, List, [], ◌∷◌, ◌++◌, Option, None, Some, Result, Ok, Err, codes, decimal}
 use Rattle.mu_base.specs.declared.status.Status.{Status}
+use Rattle.mu_base.specs.declared.status.Status.TheVariants as statuses
 use Rattle.mu_base.specs.declared.status.Status.TheVariants.{Done as Finished, Refused, Memory}
 use Rattle.ir_text.specs.declared.fault.TextFault.{TextFault}
 use Rattle.ir_text.specs.declared.fault.TextFault.TheVariants as text_faults
@@ -120,6 +121,17 @@ run_answer bundle Unfinished = no_answer
 abbrev pub in_one_piece : List ℕ → List (List ℕ)
 in_one_piece [] = []
 in_one_piece (b ∷ text) = (b ∷ text) ∷ []
+
+-- the statuses that an answer to what was accepted may have: Done, and those of the endings of runs
+abbrev pub is_end : Status → Bool
+is_end Finished = true
+is_end statuses.Stop = true
+is_end statuses.Undefined = true
+is_end statuses.HeapFull = true
+is_end statuses.ThreadsFull = true
+is_end statuses.AllWaiting = true
+is_end statuses.Budget = true
+is_end _ = false
 
 -- what is written then: `ok`, the canonical text in one piece, or the run
 abbrev pub ready_answer : Ready → Answer

@@ -9,5 +9,5 @@ returns-clause-refused g c = λ s. refused_cause _ _ _ _ _ _ _ c.answer.ensures.
 pub returns-clause-complete : goal.returns-clause-complete
 returns-clause-complete g c = λ files told quiet. complete _ files _ _ _ _ _ _ c.answer.ensures.answered told quiet
 
-pub returns-clause-done : goal.returns-clause-done
-returns-clause-done g c = λ s. accepted_cause _ _ _ _ _ _ _ c.answer.ensures.answered s
+pub returns-clause-accepted : goal.returns-clause-accepted
+returns-clause-accepted g c = λ s. accepted_cause _ _ _ _ _ _ _ c.answer.ensures.answered s
