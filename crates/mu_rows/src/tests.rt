@@ -130,6 +130,87 @@ const NAME_AND_OPERAND: &str =
 const OPERAND: &str =
     ".typedef @a = int<32>\n.typedef @b = int<64>\n.funcsig @s = (@a) -> ()\n.funcdef @f VERSION %v <@s> {\n%e(<@a> %x): %y = ADD <@b> %x %x\nRET () }\n.funcdef @g VERSION %v <@s> {\n%e(<@a> %x): RET () }\n";
 
+// What most rows begin with.
+const DEFINITIONS: &str =
+    ".typedef @i1 = int<1> .typedef @i8 = int<8> .typedef @i32 = int<32> .typedef @i64 = int<64> .typedef @void = void .typedef @rv = ref<@void> .typedef @st = stackref .funcsig @m = () -> () .funcsig @mi = () -> (@i64) .funcsig @gs = (@st) -> () .const @c0 <@i64> = 0 .const @c1 <@i64> = 1 .const @c2 <@i64> = 2 .const @c10 <@i64> = 10 .const @c40 <@i64> = 40 .const @n2 <@i64> = -2 .const @w1 <@i32> = 1 .const @nul <@rv> = NULL ";
+
+// The same of bundles that begin with these definitions.
+fn each_answers_behind(
+    rt: &impl Abort,
+    alloc: Global,
+    all: &[&str],
+    rows: &[Row],
+) -> Result<(), AllocError> {
+    for (bundle, text, status) in rows {
+        let mut bytes = Vec::from_slice(alloc, DEFINITIONS.as_bytes())?;
+        bytes.extend_from_slice(bundle.as_bytes())?;
+        answers(rt, alloc, all, bytes, text, *status)?;
+    }
+    Ok(())
+}
+
+const COMPUTES: [Row; 6] = [
+    (
+        ".funcdef @main VERSION %v <@mi> { %e(): %q = SDIV <@i64> @c1 @c0 EXC(%n(%q) %x()) %n(<@i64> %r): RET (%r) %x() [%t]: %k = EQ <@rv> %t @nul %z = ZEXT <@i1 @i64> %k RET (%z) }",
+        "returned t0 1\ndone\n",
+        Status::Done,
+    ),
+    (
+        ".funcdef @main VERSION %v <@mi> { %e(): %q = SDIV <@i64> @c1 @c0 RET (%q) }",
+        "undefined DivideByZero t0 @main.v.e 0\n",
+        Status::Undefined,
+    ),
+    (
+        ".funcsig @t = () -> (@i8 @i8 @i8) .const @l <@i8> = -128 .const @n <@i8> = -1 .const @w <@i8> = 8 .funcdef @main VERSION %v <@t> { %e(): %a = SDIV <@i8> @l @n %b = SREM <@i8> @l @n %c = SHL <@i8> @n @w RET (%a %b %c) }",
+        "returned t0 128 0 255\ndone\n",
+        Status::Done,
+    ),
+    // An exception passes a call without a destination, and is caught.
+    (
+        ".funcdef @t VERSION %v <@m> { %e(): THROW @nul } .funcdef @p VERSION %v <@m> { %e(): CALL <@m> @t () RET () } .funcdef @main VERSION %v <@mi> { %e(): CALL <@m> @p () EXC(%n() %x()) %n(): RET (@c0) %x() [%q]: %z = EQ <@rv> %q @nul %k = ZEXT <@i1 @i64> %z RET (%k) }",
+        "returned t0 1\ndone\n",
+        Status::Done,
+    ),
+    (
+        ".funcdef @t VERSION %v <@m> { %e(): THROW @nul } .funcdef @main VERSION %v <@mi> { %e(): CALL <@m> @t () RET (@c0) }",
+        "undefined Uncaught t0 @t.v.e 0\n",
+        Status::Undefined,
+    ),
+    (
+        ".funcdecl @d <@m> .funcdef @main VERSION %v <@mi> { %e(): CALL <@m> @d () RET (@c0) }",
+        "undefined NoBody t0 @main.v.e 0\n",
+        Status::Undefined,
+    ),
+];
+
+#[test]
+fn computes(rt: HostRuntime) -> Result<(), Fail> {
+    each_answers(
+        &rt,
+        rt.alloc(),
+        RUN,
+        &[(TWO_NAMES, "returned t0 1\ndone\n", Status::Done)],
+    )?;
+    each_answers_behind(&rt, rt.alloc(), RUN, &COMPUTES)?;
+    Ok(())
+}
+
+const LOOP: &str =
+    ".funcdef @main VERSION %v <@mi> { %e(): BRANCH %l(@c0 @c10) %l(<@i64> %s <@i64> %n): %z = EQ <@i64> %n @c0 BRANCH2 %z %d(%s) %k(%s %n) %k(<@i64> %s <@i64> %n): %t = ADD <@i64> %s %n %o = SUB <@i64> %n @c1 BRANCH %l(%t %o) %d(<@i64> %s): RET (%s) }";
+
+const ENOUGH_STEPS: [Row; 1] = [(LOOP, "returned t0 55\ndone\n", Status::Done)];
+
+const TOO_FEW_STEPS: [Row; 1] = [(LOOP, "budget 53\n", Status::Budget)];
+
+#[test]
+fn counts_steps(rt: HostRuntime) -> Result<(), Fail> {
+    let enough = &["run", "b", "--steps", "54", "--entry", "@main"];
+    each_answers_behind(&rt, rt.alloc(), enough, &ENOUGH_STEPS)?;
+    let too_few = &["run", "b", "--entry", "@main", "--steps", "53"];
+    each_answers_behind(&rt, rt.alloc(), too_few, &TOO_FEW_STEPS)?;
+    Ok(())
+}
+
 const CHECKS: [Row; 11] = [
     (ADDS_40_AND_2, "ok\n", Status::Done),
     ("", "ok\n", Status::Done),
