@@ -5,9 +5,13 @@ ghost use Rattle.std.specs.Prelude.{◌≡◌};
 #[derive(Clone, Copy, Debug, PartialEq, Eq)]
 pub enum Job {
     /// Says whether the bundle in a file meets all demands.
-    Check { file: usize },
+    Check {
+        file: usize,
+    },
     /// Writes the bundle in a file as its canonical text.
-    Print { file: usize },
+    Print {
+        file: usize,
+    },
     /// Runs the bundle in a file, from the function with that name. The run may make so many steps.
     Run {
         file: usize,

@@ -72,7 +72,12 @@ fn put_lines<S: Sink>(
 }
 
 // The last piece: the lines of the step that gives the ending, and the line of the ending.
-fn last_text(code: &Checked, lines: &[Line], ending: &Ending, text: &mut Vec<u8>) -> Result<(), AllocError>
+fn last_text(
+    code: &Checked,
+    lines: &[Line],
+    ending: &Ending,
+    text: &mut Vec<u8>,
+) -> Result<(), AllocError>
     ensures { OnOk result (text.new.items ≡ last_piece code.now lines.now ending.now) }
 {
     text.clear();
@@ -163,13 +168,7 @@ fn write_steps<S: Sink>(
 
 // Runs a function, and writes the lines of the run and its ending.
 #[tactic(auto, using(crate::proofs::InSteps::running))]
-fn write_run<S: Sink>(
-    alloc: Global,
-    out: &mut S,
-    code: &Checked,
-    entry: u32,
-    budget: u32,
-) -> Status
+fn write_run<S: Sink>(alloc: Global, out: &mut S, code: &Checked, entry: u32, budget: u32) -> Status
     requires { IsRunnable code.now entry budget }
     ensures writes { Writes (run_answer code.now (run_of code.now entry budget)) (S.written out.old) (S.written out.new) (S.ends out.old) (S.ends out.new) result }
     ensures never_falls { S.faults out.old ≤ S.faults out.new }

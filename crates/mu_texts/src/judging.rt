@@ -130,12 +130,7 @@ pub fn judge_for_print(alloc: Global, bytes: &[u8]) -> Result<Ready, Stop>
 /// What `mu run` asks of a text: a bundle that meets all demands on it, whose functions are built, with a function of that name
 /// which a run may begin with. The run may make so many steps.
 #[tactic(auto, using(crate::proofs::Entering::entering))]
-pub fn judge_for_run(
-    alloc: Global,
-    bytes: &[u8],
-    name: &str,
-    budget: u32,
-) -> Result<Ready, Stop>
+pub fn judge_for_run(alloc: Global, bytes: &[u8], name: &str, budget: u32) -> Result<Ready, Stop>
     ensures asked { Comes (for_run bytes.now name.now budget) result }
     ensures there { IfOk result CanRun }
 {
