@@ -1,6 +1,6 @@
 -- Pieces put one after another.
-use Rattle.std.proofs.Common.{◌≡◌, ℕ, ◌+◌, List, [], ◌∷◌, ◌++◌, length, refl, sym, ap, ◌∙◌, arith, Option, Some, None, append_assoc, length-append, add-zero, add_assoc, drop, subst}
-use Rattle.std.proofs.lemmas.List.{append-nil, take_at, take_all, take-append-drop}
+use Rattle.std.proofs.Common.{◌≡◌, ℕ, ◌+◌, List, [], ◌∷◌, ◌++◌, length, refl, sym, ap, ◌∙◌, Option, Some, None, append_assoc, length-append, add-zero, add_assoc, drop, subst}
+use Rattle.std.proofs.lemmas.List.{append-nil, take_at, take-append-drop}
 use Rattle.std.specs.Io.KnownBytes.{Appends, Keeps}
 use Rattle.mu_base.specs.declared.status.Status.{Status}
 use Rattle.mu_base.specs.declared.status.Status.TheVariants.{Memory}

@@ -10,7 +10,7 @@ use Rattle.mu_model.specs.Programs.{named}
 use Rattle.mu_model.specs.Step.{step}
 use Rattle.mu_model.specs.Run.{run}
 use Rattle.run_texts.specs.Texts.{Text, ending_text}
-use Rattle.run_texts.specs.Pieces.{lines_text, has_lines}
+use Rattle.run_texts.specs.Pieces.{lines_text}
 use Rattle.mu_texts.specs.Answer.{Answer, run_answer}
 use Rattle.model_laws.specs.Bounds.{HasEnding}
 use Rattle.mu_command.specs.Written.{Wrote, Writes}

@@ -5,14 +5,13 @@ use Rattle.ir_tree.specs.declared.items.Item.{Item}
 use Rattle.check_tables.specs.Lookups.{noted_classes, takes_of}
 use Rattle.bundle_check.specs.declared.code.Function.{Function}
 use Rattle.bundle_check.specs.declared.fault.EntryFault.{EntryFault}
-use Rattle.bundle_check.specs.declared.fault.EntryFault.TheVariants.{Unknown, BadSignature, NoBody}
+use Rattle.bundle_check.specs.declared.fault.EntryFault.TheVariants.{BadSignature, NoBody}
 use Rattle.bundle_check.specs.Checking.{bundle_tables, bundle_functions}
 use Rattle.bundle_check.specs.Answers.{find, function_number, takes_nothing, first_in, entry_of, entry}
 use Rattle.typed_heap.specs.Places.{with_some}
 use Rattle.mu_model.specs.Types.{signature_of, classes_taken}
 use Rattle.mu_model.specs.Programs.{named as program}
 use Rattle.mu_model.specs.Run.{Setting, begins_in, first_configuration}
-use Rattle.model_numbers.specs.Numbered.{numbered}
 use Rattle.model_numbers.proofs.Functions.{body_same}
 
 -- what is known of a function that may be entered

@@ -1,5 +1,5 @@
 -- A function that may be entered, of a bundle that is built, can be run.
-use Rattle.std.proofs.Common.{◌≡◌, ℕ, List, [], Option, Some, None, IsSome, refl}
+use Rattle.std.proofs.Common.{◌≡◌, ℕ, List, [], ◌∷◌, Option, Some, None, IsSome, refl}
 use Rattle.std.specs.Prelude.{Ok}
 use Rattle.demands.specs.Demands.{first_unmet}
 use Rattle.ir_tree.specs.declared.items.Item.{Item}
@@ -18,7 +18,7 @@ use Rattle.mu_texts.specs.Comes.{IsRunnable}
 use Rattle.mu_texts.proofs.Beginning.{nothing_taken, run_begins}
 
 some_first : (o : Option Configuration) → IsSome o → (c : Configuration) × (o ≡ Some c)
-some_first None h = absurd h
+some_first None h = cc
 some_first (Some c) h = (c, refl)
 
 pub runnable : (code : List Item) (name : List ℕ) (n budget : ℕ) → first_unmet (name_demands code) ≡ None → first_unmet (check_demands code) ≡ None →

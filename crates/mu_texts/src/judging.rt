@@ -83,7 +83,6 @@ fn judge_built(alloc: Global, code: &Checked) -> Result<(), Stop>
 }
 
 // The number of the function with that name, whose run may make so many steps.
-#[tactic(auto, using(crate::proofs::Runnable::runnable))]
 fn enter(alloc: Global, code: &Checked, name: &str, budget: u32) -> Result<u32, Stop>
     requires { first_unmet (built_demands code.now) ≡ None }
     ensures number { Comes (entered code.now name.now) result }

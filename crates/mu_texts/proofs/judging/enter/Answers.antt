@@ -1,0 +1,7 @@
+use Rattle.std.proofs.Common.{sym}
+use Rattle.mu_texts.proofs.Runnable.{runnable}
+use Rattle.mu_texts.proofs.judging.enter.Goals as goal
+
+pub returns-in-Ok-clause-there : goal.returns-in-Ok-clause-there
+returns-in-Ok-clause-there c =
+    runnable c.args.code.now c.args.name.now c.in-Ok.number c.args.budget c.items-items.ensures.named c.items-items.ensures.met c.requires (sym c.in-Ok.ensures)
