@@ -5,3 +5,4 @@ pub mod Completeness
 pub mod Accepting
 pub mod Causes
 pub mod InSteps
+pub mod Beginning
