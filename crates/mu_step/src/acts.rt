@@ -1,87 +1,200 @@
-// What an instruction does.
-ghost use Rattle.std.specs.Prelude.{◌≡◌, IsSome, Some};
-ghost use Rattle.mu_step.specs.Values.{value_of};
-ghost use Rattle.mu_step.specs.Acts.{sum_act, return_act, computation_act, control_act, act_of};
+// What one thread does.
+ghost use Rattle.std.specs.Prelude.{◌≡◌, ◌≢◌, ◌+◌, ◌<◌, [], ◌∷◌, ◌++◌, IsSome, Some, IfOk, OnErr, true};
+ghost use Rattle.frames.specs.Activations.{Value};
+ghost use Rattle.frames.specs.Chains.{stands};
+ghost use Rattle.mu_model.specs.Outcomes.{Stuck};
+ghost use Rattle.mu_model.specs.Acts as acts;
+ghost use Rattle.step_forms.specs.Asked.{asked};
+ghost use Rattle.mu_step.specs.Built.{IsBuilt};
+ghost use Rattle.mu_step.specs.Acting.{answers, went_on, acting, stepping};
 
-use crate::constants::Constants;
-use code_check::{ComputationForm, ControlForm, Form, Source};
-use mu_values::BinOp;
+use crate::flow::{passing, push_on_top, stand};
+use crate::state::{State, ended};
+use bundle_check::Checked;
+use mu_model::{Ending, StepEnd};
+use mu_values::{Scalar, Slots};
+use std::alloc::{AllocError, Global};
+use step_forms::{Act, Room, Variables, decide};
 
-/// What an instruction does, once its operands are read.
-#[derive(Clone, Copy, Debug, PartialEq, Eq)]
-pub enum Act {
-    /// It gives its result this value.
-    Gives(u64),
-    /// It returns this value.
-    Returns(u64),
-}
-
-/// The value of an operand.
-fn value(constants: &Constants, slots: &[u64], source: Source) -> u64
-    requires { IsSome (value_of constants.now slots.now source) }
-    ensures { value_of constants.now slots.now source ≡ Some result }
-{
-    match source {
-        Source::Variable(n) => slots[n as usize],
-        Source::Constant(n) => constants.value(n).unwrap(),
-        Source::GlobalCell(_) | Source::Function(_) => unreachable!(),
+impl State {
+    /// The thread's instruction has these results.
+    #[tactic(auto, using(crate::specs::ActLaws::giving))]
+    pub(crate) fn give(
+        &mut self,
+        alloc: Global,
+        code: &Checked,
+        results: &Slots,
+        out: &mut Slots,
+    ) -> Result<StepEnd, AllocError>
+        requires left { self.old.left ≡ true }
+        requires room { self.old.steps < self.old.budget }
+        requires there { acting code.now self.old (acts.Gives results.now.values) ≢ Stuck }
+        ensures ok { IfOk result (λ end. answers end self.new ≡ acting code.now self.old (acts.Gives results.now.values)) }
+        ensures err { OnErr result (self.new ≡ self.old) }
+    {
+        let place = passing(code, self.frames.top(), results, out)?;
+        stand(&mut self.frames, place, out);
+        Ok(self.went(alloc))
     }
-}
 
-/// ADD: sums wrap at 2^64.
-fn sum(constants: &Constants, slots: &[u64], left: Source, right: Source) -> Act
-    requires { IsSome (sum_act constants.now slots.now left right) }
-    ensures { sum_act constants.now slots.now left right ≡ Some result }
-{
-    let left = value(constants, slots, left);
-    let right = value(constants, slots, right);
-    Act::Gives(left.wrapping_add(right))
-}
-
-/// RET with one value.
-fn returning(constants: &Constants, slots: &[u64], source: Source) -> Act
-    requires { IsSome (return_act constants.now slots.now source) }
-    ensures { return_act constants.now slots.now source ≡ Some result }
-{
-    Act::Returns(value(constants, slots, source))
-}
-
-fn computation(constants: &Constants, slots: &[u64], form: &ComputationForm) -> Act
-    requires { IsSome (computation_act constants.now slots.now form.now) }
-    ensures { computation_act constants.now slots.now form.now ≡ Some result }
-{
-    match form {
-        ComputationForm::Binary {
-            op: BinOp::Add,
-            left,
-            right,
-            ..
-        } => sum(constants, slots, *left, *right),
-        _ => unreachable!(),
+    /// The thread's instruction has one result, of one scalar, and goes on at the next place.
+    fn push(&mut self, alloc: Global, scalar: Scalar) -> Result<StepEnd, AllocError>
+        requires left { self.old.left ≡ true }
+        requires room { self.old.steps < self.old.budget }
+        ensures ok { IfOk result (λ end. answers end self.new ≡ went_on (record self.old { frames = record self.old.frames { top = stands self.old.frames.top self.old.frames.top.block (self.old.frames.top.at + 1) (self.old.frames.top.vars ++ (scalar ∷ []) ∷ []) } })) }
+        ensures err { OnErr result (self.new ≡ self.old) }
+    {
+        push_on_top(&mut self.frames, scalar)?;
+        Ok(self.went(alloc))
     }
-}
 
-fn control(constants: &Constants, slots: &[u64], form: &ControlForm) -> Act
-    requires { IsSome (control_act constants.now slots.now form.now) }
-    ensures { control_act constants.now slots.now form.now ≡ Some result }
-{
-    match form {
-        ControlForm::Ret { values } => match values.as_slice() {
-            [value] => returning(constants, slots, *value),
-            _ => unreachable!(),
-        },
-        _ => unreachable!(),
+    /// The same by way of the lists, where it goes on elsewhere.
+    fn give_one(
+        &mut self,
+        alloc: Global,
+        code: &Checked,
+        scalar: Scalar,
+        values: &mut Slots,
+        out: &mut Slots,
+    ) -> Result<StepEnd, AllocError>
+        requires left { self.old.left ≡ true }
+        requires room { self.old.steps < self.old.budget }
+        requires there { acting code.now self.old (acts.Gives ((scalar ∷ []) ∷ [])) ≢ Stuck }
+        ensures ok { IfOk result (λ end. answers end self.new ≡ acting code.now self.old (acts.Gives ((scalar ∷ []) ∷ []))) }
+        ensures err { OnErr result (self.new ≡ self.old) }
+    {
+        values.clear();
+        values.push_scalar(scalar)?;
+        self.give(alloc, code, values, out)
     }
-}
 
-/// What an instruction does, by its form.
-pub fn decide(constants: &Constants, slots: &[u64], form: &Form) -> Act
-    requires { IsSome (act_of constants.now slots.now form.now) }
-    ensures { act_of constants.now slots.now form.now ≡ Some result }
-{
-    match form {
-        Form::Computation(form) => computation(constants, slots, form),
-        Form::Control(form) => control(constants, slots, form),
-        _ => unreachable!(),
+    /// The thread's instruction has one result, of one scalar.
+    #[tactic(auto, using(crate::specs::ActLaws::giving_next))]
+    fn give_scalar(
+        &mut self,
+        alloc: Global,
+        code: &Checked,
+        scalar: Scalar,
+        values: &mut Slots,
+        out: &mut Slots,
+    ) -> Result<StepEnd, AllocError>
+        requires left { self.old.left ≡ true }
+        requires room { self.old.steps < self.old.budget }
+        requires there { acting code.now self.old (acts.Gives ((scalar ∷ []) ∷ [])) ≢ Stuck }
+        ensures ok { IfOk result (λ end. answers end self.new ≡ acting code.now self.old (acts.Gives ((scalar ∷ []) ∷ []))) }
+        ensures err { OnErr result (self.new ≡ self.old) }
+    {
+        let top = self.frames.top();
+        if top.fresh {
+            return self.give_one(alloc, code, scalar, values, out);
+        }
+        match &code.code(top.block, top.at).normal {
+            None => self.push(alloc, scalar),
+            Some(_) => self.give_one(alloc, code, scalar, values, out),
+        }
+    }
+
+    /// The thread goes to a block with these values.
+    pub(crate) fn go(&mut self, alloc: Global, block: u32, values: &mut Slots) -> StepEnd
+        requires left { self.old.left ≡ true }
+        requires room { self.old.steps < self.old.budget }
+        ensures { answers result self.new ≡ went_on (record self.old { frames = record self.old.frames { top = stands self.old.frames.top block 0 values.old.values } }) }
+    {
+        self.frames.jump(block, values);
+        self.went(alloc)
+    }
+
+    /// The thread does an act, whose values and classes stand in the room.
+    #[tactic(auto, using(crate::specs::ActLaws::goes_is))]
+    fn perform(
+        &mut self,
+        alloc: Global,
+        code: &Checked,
+        act: Act,
+        room: &mut Room,
+        out: &mut Slots,
+    ) -> Result<StepEnd, AllocError>
+        requires left { self.old.left ≡ true }
+        requires room { self.old.steps < self.old.budget }
+        requires there { acting code.now self.old (asked act room.old.values.values room.old.types.members) ≢ Stuck }
+        ensures ok { IfOk result (λ end. answers end self.new ≡ acting code.now self.old (asked act room.old.values.values room.old.types.members)) }
+        ensures err { OnErr result (self.new ≡ self.old) }
+    {
+        match act {
+            Act::Gives(scalar) => self.give_scalar(alloc, code, scalar, &mut room.values, out),
+            Act::GivesValues => self.give(alloc, code, &room.values, out),
+            Act::Faults(case) => self.refuse(alloc, code, case, out),
+            Act::Goes { block } => Ok(self.go(alloc, block, &mut room.values)),
+            Act::Calls { function } => self.call(alloc, code, function, &mut room.values),
+            Act::Replaces { function } => {
+                Ok(self.call_in_place(alloc, code, function, &mut room.values))
+            }
+            Act::Returns => self.give_back(alloc, code, room, out),
+            Act::Throws(exception) => self.throw(alloc, code, exception, out),
+        }
+    }
+
+    /// What the thread's next instruction asks, with values and classes in the room.
+    #[tactic(auto, using(crate::specs::StepLaws::running))]
+    fn asks(&self, code: &Checked, room: &mut Room) -> Result<Act, AllocError>
+        requires built { IsBuilt code.now }
+        requires left { self.now.left ≡ true }
+        requires room { self.now.steps < self.now.budget }
+        requires there { stepping code.now self.now ≢ Stuck }
+        ensures { IfOk result (λ act. stepping code.now self.now ≡ acting code.now self.now (asked act room.new.values.values room.new.types.members)) }
+    {
+        let top = self.frames.top();
+        let block = code.block(top.block);
+        let form = &block.code.as_slice()[top.at as usize].form;
+        decide(
+            code,
+            block.classes.as_slice(),
+            &Variables::of(&top.slots),
+            form,
+            room,
+        )
+    }
+
+    /// The thread does its next instruction.
+    fn run(
+        &mut self,
+        alloc: Global,
+        code: &Checked,
+        room: &mut Room,
+        out: &mut Slots,
+    ) -> Result<StepEnd, AllocError>
+        requires built { IsBuilt code.now }
+        requires left { self.old.left ≡ true }
+        requires room { self.old.steps < self.old.budget }
+        requires there { stepping code.now self.old ≢ Stuck }
+        ensures ok { IfOk result (λ end. answers end self.new ≡ stepping code.now self.old) }
+        ensures err { OnErr result (self.new ≡ self.old) }
+    {
+        let act = self.asks(code, room)?;
+        self.perform(alloc, code, act, room, out)
+    }
+
+    /// One step of the run.
+    #[tactic(auto, using(crate::specs::StepLaws::step_is_done, crate::specs::StepLaws::step_is_over))]
+    pub(crate) fn step(
+        &mut self,
+        alloc: Global,
+        code: &Checked,
+        room: &mut Room,
+        out: &mut Slots,
+    ) -> Result<StepEnd, AllocError>
+        requires built { IsBuilt code.now }
+        requires there { stepping code.now self.old ≢ Stuck }
+        ensures ok { IfOk result (λ end. answers end self.new ≡ stepping code.now self.old) }
+        ensures err { OnErr result (self.new ≡ self.old) }
+    {
+        if !self.left {
+            return Ok(ended(alloc, Ending::Done));
+        }
+        let steps = self.steps;
+        if steps < self.budget {
+            return self.run(alloc, code, room, out);
+        }
+        Ok(ended(alloc, Ending::Budget { steps }))
     }
 }

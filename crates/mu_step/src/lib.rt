@@ -1,15 +1,17 @@
-//! The machine.
+//! The machine of one thread: it runs checked code by the numbers in it, and each of its steps is the abstract machine's.
 #![tactic(auto)]
 
 mod acts;
 mod built;
-mod constants;
-mod int64;
-mod laws;
-mod line;
+mod calls;
+mod exceptions;
+mod flow;
+mod globals;
 mod machine;
+mod objects;
+mod results;
+mod state;
+mod waiting;
 
-pub use built::{RunFault, RunKind, are_built};
-pub use laws::never_stuck;
-pub use line::{Ending, Line, Lines, Note};
-pub use machine::run_block;
+pub use built::{RunFault, RunKind, are_built, forms_are_built, have_blocks};
+pub use machine::Machine;

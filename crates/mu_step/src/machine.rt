@@ -1,66 +1,85 @@
-// The machine: it runs a block by numbers.
-ghost use Rattle.std.specs.Prelude.{◌≡◌, IsSome, Some, [], ◌∷◌, IfOk};
-ghost use Rattle.mu_step.specs.Acts.{value_returned};
-ghost use Rattle.mu_step.specs.Run.{first_block, run};
-ghost use Rattle.mu_step.specs.declared.line.Line.TheVariants as notes;
-ghost use Rattle.mu_step.specs.declared.line.Note.TheVariants.{Returned};
-ghost use Rattle.mu_step.specs.declared.line.Ending.TheVariants.{Done};
+// The machine.
+ghost use Rattle.std.specs.Prelude.{◌≡◌, ◌≢◌, IsSome, Some, IfOk, OnErr};
+ghost use Rattle.bundle_check.specs.Checking.{bundle_tables};
+ghost use Rattle.mu_model.specs.Programs.{named};
+ghost use Rattle.mu_model.specs.Outcomes.{Stuck};
+ghost use Rattle.mu_model.specs.Step.{step};
+ghost use Rattle.mu_model.specs.Run.{first_configuration};
+ghost use Rattle.mu_step.specs.Plain.{plain_setting};
+ghost use Rattle.mu_step.specs.Outcome.{outcome_of};
+ghost use Rattle.mu_step.specs.Built.{IsBuilt};
 
-use crate::acts::{Act, decide};
-use crate::constants::Constants;
-use crate::line::{Line, Lines, Note};
-use bundle_check::{BlockCode, Checked};
-use code_check::Code;
+use crate::state::State;
+use bundle_check::Checked;
+use bundle_facts::{globals_are_types, widths_are_narrow};
+use model_numbers::programs_are_same;
+use mu_model::StepEnd;
+use mu_values::Slots;
 use std::alloc::{AllocError, Global};
-use text_forms::Listing;
+use std::marker::Model;
+use step_forms::Room;
 
-/// What code returns.
-fn value_returned(alloc: Global, constants: &Constants, code: &[Code]) -> Result<u64, AllocError>
-    requires { IsSome (value_returned constants.now [] code.now) }
-    ensures { IfOk result (λ v. value_returned constants.now [] code.now ≡ Some v) }
-{
-    let mut slots = Listing::new(alloc);
-    let mut left = code;
-    'each: while let [first, more @ ..] = left {
-        match decide(constants, slots.as_slice(), &first.form) {
-            Act::Gives(value) => slots.push(value)?,
-            Act::Returns(value) => return Ok(value),
-        }
-        left = more;
+/// A machine that runs checked code on one thread. Contracts see the bundle and the configuration that its run has come to.
+#[derive(Drop)]
+pub struct Machine<'a> {
+    alloc: Global,
+    code: &'a Checked,
+    state: State,
+    // What these hold between steps means nothing.
+    room: Room,
+    spare: Slots,
+}
+
+impl<'a> Model for Machine<'a> {
+    ghost use Rattle.mu_step.specs.Plain.{Running};
+    ghost use Rattle.mu_step.specs.OneThread.{configuration};
+
+    ghost Value = { Running };
+
+    ghost view = { λ m. record { bundle = m.code.now; configuration = configuration m.state } };
+}
+
+impl<'a> Machine<'a> {
+    /// A machine at the beginning of the run of a function: thread 0 stands on stack 0, where the function's first block begins.
+    #[tactic(auto, using(crate::specs::Starting::begins))]
+    pub fn new(
+        alloc: Global,
+        code: &'a Checked,
+        entry: u32,
+        cells: u32,
+        budget: u32,
+    ) -> Result<Machine<'a>, AllocError>
+        requires { IsSome (first_configuration (named code.now) (plain_setting (bundle_tables code.now) cells budget) entry) }
+        ensures bundle { IfOk result (λ m. m.bundle ≡ code.now) }
+        ensures first { IfOk result (λ m. first_configuration (named code.now) (plain_setting (bundle_tables code.now) cells budget) entry ≡ Some m.configuration) }
+    {
+        let _items = code.items();
+        programs_are_same();
+        widths_are_narrow();
+        globals_are_types();
+        let state = State::start(alloc, code, entry, cells, budget)?;
+        Ok(Machine {
+            alloc,
+            code,
+            state,
+            room: Room::new(alloc),
+            spare: Slots::new(alloc),
+        })
     }
-    unreachable!()
-}
 
-/// RET records the value that thread 0 returned.
-fn returned(alloc: Global, value: u64) -> Result<Lines, AllocError>
-    ensures { IfOk result (λ lines. lines ≡ notes.Note (Returned 0 (value ∷ [])) ∷ []) }
-{
-    let mut values = Listing::new(alloc);
-    values.push(value)?;
-    let mut lines = Listing::new(alloc);
-    lines.push(Line::Note(Note::Returned { thread: 0, values }))?;
-    Ok(lines)
-}
-
-/// The first block of a function.
-fn first_block(code: &Checked, entry: u32) -> &BlockCode
-    requires { IsSome (first_block code.now entry) }
-    ensures { first_block code.now entry ≡ Some result.now }
-{
-    match code.function(entry).first {
-        Some(first) => code.block(first),
-        None => unreachable!(),
+    /// One step of the run. Where no memory is found nothing changes.
+    #[tactic(auto, using(crate::specs::Machines::machines))]
+    pub fn step(&mut self) -> Result<StepEnd, AllocError>
+        requires built { IsBuilt self.old.bundle }
+        requires there { step (named self.old.bundle) self.old.configuration ≢ Stuck }
+        ensures ok { IfOk result (λ end. outcome_of end self.new.configuration ≡ step (named self.old.bundle) self.old.configuration) }
+        ensures bundle { self.new.bundle ≡ self.old.bundle }
+        ensures err { OnErr result (self.new ≡ self.old) }
+    {
+        let _items = self.code.items();
+        programs_are_same();
+        let code = self.code;
+        self.state
+            .step(self.alloc, code, &mut self.room, &mut self.spare)
     }
-}
-
-/// Runs the function with that number: the lines before the ending, which is Done. It takes time in proportion to the items of the
-/// bundle and the instructions of the function's block.
-pub fn run_block(alloc: Global, code: &Checked, entry: u32) -> Result<Lines, AllocError>
-    requires { IsSome (run code.now entry) }
-    ensures { IfOk result (λ lines. run code.now entry ≡ Some (record { lines = lines; ending = Done })) }
-{
-    let constants = Constants::new(alloc, code.items())?;
-    let block = first_block(code, entry);
-    let value = value_returned(alloc, &constants, block.code.as_slice())?;
-    returned(alloc, value)
 }

@@ -1,0 +1,11 @@
+-- To believe: what a step that was made answers.
+use Rattle.std.specs.Prelude.{reverse}
+use Rattle.mu_model.specs.declared.endings.StepEnd.{StepEnd}
+use Rattle.mu_model.specs.declared.endings.StepEnd.TheVariants.{Went, Ended}
+use Rattle.mu_model.specs.Configuration.{Configuration}
+use Rattle.mu_model.specs.Outcomes.{Outcome, Next, End}
+
+-- the run goes on with this configuration, or it ends
+abbrev pub outcome_of : StepEnd → Configuration → Outcome
+outcome_of (Went ls) c = Next (record c { lines = reverse ls })
+outcome_of (Ended ls e) c = End ls e

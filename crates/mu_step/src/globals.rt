@@ -1,0 +1,112 @@
+// The first state of a run.
+ghost use Rattle.std.specs.Prelude.{◌≡◌, ◌<◌, ◌++◌, ◌∷◌, [], IsSome, Some, IfOk, OnOk, length};
+ghost use Rattle.std.specs.List.{All};
+ghost use Rattle.type_laws.specs.Same.{IsGraph};
+ghost use Rattle.bundle_check.specs.Checking.{bundle_tables};
+ghost use Rattle.typed_heap.specs.Objects.{leaf_classes, object_of};
+ghost use Rattle.typed_heap.specs.Heap.{AreNarrow};
+ghost use Rattle.mu_model.specs.Run.{global_objects};
+ghost use Rattle.mu_step.specs.Acting.{entered};
+ghost use Rattle.mu_step.specs.OneThread.{configuration};
+ghost use Rattle.mu_step.specs.Starting.{global_object, starting};
+
+use crate::state::State;
+use crate::waiting::entered;
+use bundle_check::Checked;
+use frames::Frames;
+use mu_types::{Classes, TypeDef};
+use mu_values::Slots;
+use std::alloc::{AllocError, Global};
+use typed_heap::Heap;
+
+/// No heap has more objects.
+const MOST_OBJECTS: u32 = 4294967293;
+
+/// Adds the object of a global with the leaves of that type.
+fn add_object(classes: &Classes, t: u32, heap: &mut Heap) -> Result<(), AllocError>
+    requires graph { IsGraph classes.now.definitions }
+    requires narrow { AreNarrow classes.now.definitions }
+    requires t { t < length classes.now.definitions }
+    ensures objects { OnOk result (heap.new.objects ≡ heap.old.objects ++ object_of classes.now.definitions (leaf_classes classes.now.definitions t) ∷ []) }
+    ensures left { OnOk result (heap.new.left ≡ heap.old.left) }
+{
+    if u32::try_from(classes.leaves(t).len()).is_err() || heap.objects() >= MOST_OBJECTS {
+        return Err(AllocError);
+    }
+    heap.add_global(classes, t)?;
+    Ok(())
+}
+
+/// Adds the object of a global whose places have that class.
+#[tactic(auto, using(crate::specs::Starting::irefs))]
+fn add_global(classes: &Classes, class: u32, heap: &mut Heap) -> Result<(), AllocError>
+    requires graph { IsGraph classes.now.definitions }
+    requires narrow { AreNarrow classes.now.definitions }
+    requires class { class < length classes.now.definitions }
+    ensures objects { OnOk result (heap.new.objects ≡ heap.old.objects ++ global_object classes.now.definitions class ∷ []) }
+    ensures left { OnOk result (heap.new.left ≡ heap.old.left) }
+{
+    match classes.definition(class) {
+        TypeDef::Iref(t) => add_object(classes, *t, heap),
+        _ => Err(AllocError),
+    }
+}
+
+/// A heap with the objects of the globals.
+#[tactic(auto, using(crate::specs::Starting::globals))]
+fn globals(alloc: Global, code: &Checked, cells: u32) -> Result<Heap, AllocError>
+    requires narrow { AreNarrow (bundle_tables code.now).types.definitions }
+    requires globals { All (λ c. c < length (bundle_tables code.now).types.definitions) (bundle_tables code.now).global_cells }
+    ensures objects { IfOk result (λ heap. heap.objects ≡ global_objects (bundle_tables code.now)) }
+    ensures left { IfOk result (λ heap. heap.left ≡ cells) }
+{
+    let classes = code.classes();
+    let mut heap = Heap::new(alloc, cells);
+    for class in code.tables().global_cells.as_slice() {
+        add_global(classes, *class, &mut heap)?;
+    }
+    Ok(heap)
+}
+
+/// The frames of a stack whose function begins with that block.
+fn first_frames(alloc: Global, block: u32) -> Result<Frames, AllocError>
+    ensures top { IfOk result (λ frames. frames.top ≡ entered block []) }
+    ensures below { IfOk result (λ frames. frames.below ≡ []) }
+{
+    match Frames::new(alloc, entered(alloc, block, Slots::new(alloc))) {
+        Ok(frames) => Ok(frames),
+        Err(_refused) => Err(AllocError),
+    }
+}
+
+impl State {
+    /// Thread 0 on stack 0, in that function.
+    #[tactic(auto, using(crate::specs::Starting::starts))]
+    pub(crate) fn start(
+        alloc: Global,
+        code: &Checked,
+        entry: u32,
+        cells: u32,
+        budget: u32,
+    ) -> Result<State, AllocError>
+        requires narrow { AreNarrow (bundle_tables code.now).types.definitions }
+        requires globals { All (λ c. c < length (bundle_tables code.now).types.definitions) (bundle_tables code.now).global_cells }
+        requires there { IsSome (starting code.now cells budget entry) }
+        ensures { IfOk result (λ state. starting code.now cells budget entry ≡ Some (configuration state)) }
+    {
+        match code.function(entry).first {
+            None => unreachable!(),
+            Some(block) => {
+                let heap = globals(alloc, code, cells)?;
+                let frames = first_frames(alloc, block)?;
+                Ok(State {
+                    frames,
+                    left: true,
+                    heap,
+                    steps: 0,
+                    budget,
+                })
+            }
+        }
+    }
+}
