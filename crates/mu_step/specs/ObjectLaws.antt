@@ -2,6 +2,7 @@
 use Rattle.std.specs.Prelude.{◌≡◌, ◌≢◌, ℕ, zero, suc, ◌+◌, ◌-◌, ◌*◌, ◌^◌, ◌<◌, ◌≤◌, Bool, true, false, nat_le, min, List, [], ◌∷◌, ◌++◌, Option, Some, None, IsSome, Result, Ok, Err, IfErr, is_some, length, take, slice_get, option_map, if◌then◌else◌, refl}
 use Rattle.std.proofs.Common.{sym, ◌∙◌, ap, subst, arith, length-append, inl, inr}
 use Rattle.std.proofs.lemmas.Bool.Decides.{leb_tells}
+use Rattle.std.proofs.Math.Nat.{min-eq_left, min-eq_right}
 use Rattle.ir_tree.specs.declared.items.Item.{Item}
 use Rattle.mu_values.specs.declared.scalars.Scalar.{Scalar}
 use Rattle.mu_values.specs.declared.scalars.Scalar.TheVariants.{Object, Place}
@@ -83,7 +84,7 @@ pub ruleset casting = (casts_there, casts_is)
 -- ---- cells that are asked
 
 le_true : (a b : ℕ) → a ≤ b → nat_le a b ≡ true
-le_true a b h = elim (leb_tells a b) [ inl t ↦ t.0 | inr f ↦ absurd (f.1 h) ]
+le_true a b h = elim (leb_tells a b) [ inl t ↦ t.0 | inr f ↦ absurd (omega (arith, h, f.1)) ]
 
 le_false : (a b : ℕ) → b < a → nat_le a b ≡ false
 le_false a b h = elim (leb_tells a b) [ inl t ↦ absurd (omega (arith, t.1)) | inr f ↦ f.0 ]
@@ -152,7 +153,14 @@ hybrid_is bundle s t many n h e =
 
 -- a fault tells the number of cells exactly, save the greatest
 min_exact : (n m a : ℕ) → a ≡ min n m → a < m → a ≡ n
-min_exact n m a e h = elim (leb_tells n m) [ inl t ↦ e ∙ ap (λ (b : Bool). if b then n else m) t.0 | inr f ↦ absurd (let much : a ≡ m = e ∙ ap (λ (b : Bool). if b then n else m) f.0 in omega (arith, much)) ]
+min_exact n m a e h =
+    elim (leb_tells n m) [
+      inl t ↦ e ∙ min-eq_left t.1
+    | inr f ↦ (
+        let less : m ≤ n = omega (arith, f.1) in
+        let much : a ≡ m = e ∙ min-eq_right less in
+        absurd (omega (arith, much, h)))
+    ]
 
 pub told_exact : (n a : ℕ) → a ≡ told_cells n → a < 2 ^ 128 - 1 → a ≡ n
 told_exact n a e h = min_exact n (2 ^ 128 - 1) a e h
@@ -161,9 +169,17 @@ pub made_there : (left now n : ℕ) → now + n ≡ left → (n ≤ left) × (no
 made_there left now n e = (omega (arith, e), omega (arith, e))
 
 pub full_so : (n left : ℕ) (r : Result ℕ HeapFault) (f : HeapFault) → (left < n → r ≡ Err (heaps.HeapFull (told_cells n) left)) → (n ≤ left → IfErr r (λ fault. fault ≡ heaps.Memory)) → r ≡ Err f → IsFull f n left
-full_so n left r f full enough e = elim (leb_tells n left) [
-  inl t ↦ let is : f ≡ heaps.Memory = subst (λ (r : Result ℕ HeapFault). IfErr r (λ fault. fault ≡ heaps.Memory)) e (enough t.1) in subst (λ f. IsFull f n left) (sym is) tt
-| inr g ↦ let less : left < n = omega (arith, g.1) in let is : f ≡ heaps.HeapFull (told_cells n) left = let told = full less in cc in subst (λ f. IsFull f n left) (sym is) (less, refl, refl) ]
+full_so n left r f full enough e =
+    elim (leb_tells n left) [
+      inl t ↦ (
+        let is : f ≡ heaps.Memory = subst (λ (r : Result ℕ HeapFault). IfErr r (λ fault. fault ≡ heaps.Memory)) e (enough t.1) in
+        subst (λ f. IsFull f n left) (sym is) tt)
+    | inr g ↦ (
+        let less : left < n = omega (arith, g.1) in
+        let told : r ≡ Err (heaps.HeapFull (told_cells n) left) = full less in
+        let is : f ≡ heaps.HeapFull (told_cells n) left = cc in
+        subst (λ f. IsFull f n left) (sym is) (less, refl, refl))
+    ]
 
 -- ---- an object that is taken back
 
