@@ -1,5 +1,5 @@
 -- Lemmas of acts over objects, over the view of a state and its parts.
-use Rattle.std.proofs.Common.{◌≡◌, ◌≢◌, ℕ, ◌+◌, ◌-◌, ◌^◌, ◌<◌, ◌≤◌, List, [], ◌∷◌, IsSome, Result, Ok, Err, IfOk, OnOk, OnErr, length, sym, ◌∙◌, ap, subst}
+use Rattle.std.proofs.Common.{◌≡◌, ◌≢◌, ℕ, ◌+◌, ◌-◌, ◌^◌, ◌<◌, ◌≤◌, List, [], ◌∷◌, IsSome, Some, Result, Ok, Err, IfOk, OnOk, OnErr, length, sym, ◌∙◌, ap, subst}
 use Rattle.ir_tree.specs.declared.items.Item.{Item}
 use Rattle.mu_values.specs.declared.scalars.Scalar.{Scalar}
 use Rattle.mu_values.specs.declared.scalars.Scalar.TheVariants.{Object, Place}
@@ -9,6 +9,8 @@ use Rattle.typed_heap.specs.declared.faults.HeapFault.TheVariants as heaps
 use Rattle.typed_heap.specs.Objects.{leaf_classes}
 use Rattle.typed_heap.specs.Heap.{hybrid_classes, newest_cells}
 use Rattle.typed_heap.specs.Places.{Way, move, find_place}
+use Rattle.frames.specs.Activations.{Value}
+use Rattle.frames.specs.Chains.{Chain, stands}
 use Rattle.mu_model.specs.declared.endings.StepEnd.{StepEnd}
 use Rattle.mu_model.specs.declared.endings.Ending.TheVariants.{HeapFull}
 use Rattle.mu_model.specs.Acts.{Gives, Finds, Casts, Makes, MakesHybrid, MakesOwn}
@@ -16,8 +18,9 @@ use Rattle.mu_model.specs.Objects.{cast_any}
 use Rattle.mu_model.specs.Outcomes.{Outcome, Stuck}
 use Rattle.mu_model.specs.Types.{class_definition}
 use Rattle.mu_step.specs.OneThread.{OneThread}
-use Rattle.mu_step.specs.Acting.{answers, acting, faulting}
-use Rattle.mu_step.specs.Making.{graph_of, made, owned, taken_back, IsFull}
+use Rattle.mu_step.specs.Acting.{answers, went_on, acting, faulting, goes_on}
+use Rattle.mu_step.specs.Making.{graph_of, made, owns, owned, taken_back, IsFull}
+use Rattle.mu_step.specs.ActLaws.{given_there, given_is}
 use Rattle.mu_step.specs.ObjectLaws.{finds_there, casts_there, makes_is, hybrid_is, own_is, made_back, made_cells, made_some, told_exact}
 
 pub finds_at : (bundle : List Item) (s v : OneThread) (way : Way) (x : Scalar) → v ≡ s → acting bundle s (Finds way x) ≢ Stuck → IsSome (find_place (graph_of bundle) v.objects (move (graph_of bundle) way) x)
@@ -78,3 +81,17 @@ pub refused_so : {E : Type 0} (bundle : List Item) (r : Result StepEnd E) (s t u
     → IsFull f (length cs) s.cells → f ≡ heaps.HeapFull asked left → OnOk r (asked < 2 ^ 128 - 1) → IfOk r (λ end. answers end u ≡ faulting bundle t (HeapFull 0 asked left)) → IfOk r (λ end. answers end u ≡ o)
 refused_so bundle (Ok end) s t u cs f asked left o is same full fault exact h = h ∙ sym (refused_is bundle s t cs asked left o is same (subst (λ f. IsFull f (length cs) s.cells) fault full) exact)
 refused_so bundle (Err e) s t u cs f asked left o is same full fault exact h = tt
+
+-- ---- an object that the frame owns
+
+pub own_there : (bundle : List Item) (s v : OneThread) (n : ℕ) (vs : List Value) → v ≡ s → acting bundle (owned s n) (Gives vs) ≢ Stuck → IsSome (goes_on bundle (owns v.frames.top n) vs)
+own_there bundle s v n vs view h = subst (λ (s : OneThread). IsSome (goes_on bundle (owns s.frames.top n) vs)) (sym view) (given_there bundle (owned s n) vs h)
+
+pub gave_own : (bundle : List Item) (s v : OneThread) (n : ℕ) (vs out : List Value) (block at : ℕ) (fr left : Chain) (o : Outcome) → v ≡ s → acting bundle (owned s n) (Gives vs) ≢ Stuck
+    → fr ≡ record v.frames { top = owns v.frames.top n } → goes_on bundle (owns v.frames.top n) vs ≡ Some (stands (owns v.frames.top n) block at out)
+    → left ≡ record fr { top = stands fr.top block at out } → o ≡ went_on (record v { frames = left }) → o ≡ acting bundle (owned s n) (Gives vs)
+gave_own bundle s v n vs out block at fr left o view h owner way same is =
+    let stood : left ≡ record v.frames { top = stands (owns v.frames.top n) block at out } = same ∙ ap (λ (fr : Chain). record fr { top = stands fr.top block at out }) owner in
+    let main : acting bundle (owned v n) (Gives vs) ≢ Stuck → o ≡ acting bundle (owned v n) (Gives vs) =
+    λ k. is ∙ ap (λ left. went_on (record v { frames = left })) stood ∙ sym (given_is bundle (owned v n) vs (stands (owns v.frames.top n) block at out) k way) in
+    subst (λ (s : OneThread). acting bundle (owned s n) (Gives vs) ≢ Stuck → o ≡ acting bundle (owned s n) (Gives vs)) view main h

@@ -1,5 +1,6 @@
 // What one thread does.
 ghost use Rattle.std.specs.Prelude.{◌≡◌, ◌≢◌, ◌+◌, ◌<◌, [], ◌∷◌, ◌++◌, IsSome, Some, IfOk, OnErr, true};
+ghost use Rattle.typed_heap.specs.Heap.{AreNarrow};
 ghost use Rattle.frames.specs.Activations.{Value};
 ghost use Rattle.frames.specs.Chains.{stands};
 ghost use Rattle.mu_model.specs.Outcomes.{Stuck};
@@ -13,6 +14,7 @@ ghost use Rattle.mu_step.specs.Making.{graph_of};
 use crate::flow::{passing, push_on_top, stand};
 use crate::state::{State, ended};
 use bundle_check::Checked;
+use bundle_facts::widths_are_narrow;
 use mu_model::{Ending, StepEnd};
 use mu_values::{Scalar, Slots};
 use std::alloc::{AllocError, Global};
@@ -118,6 +120,7 @@ impl State {
     ) -> Result<StepEnd, AllocError>
         requires left { self.old.left ≡ true }
         requires room { self.old.steps < self.old.budget }
+        requires narrow { AreNarrow (graph_of code.now) }
         requires classes { ActIsThere (graph_of code.now) act }
         requires there { acting code.now self.old (asked act room.old.values.values room.old.types.members) ≢ Stuck }
         ensures ok { IfOk result (λ end. answers end self.new ≡ acting code.now self.old (asked act room.old.values.values room.old.types.members)) }
@@ -136,7 +139,9 @@ impl State {
             Act::Throws(exception) => self.throw(alloc, code, exception, out),
             Act::Casts { class, scalar } => self.cast(alloc, code, class, scalar, &mut room.values, out),
             Act::Finds { way, scalar } => self.find(alloc, code, way, scalar, &mut room.values, out),
-            _ => Err(AllocError),
+            Act::Makes { class } => self.make(alloc, code, class, &mut room.values, out),
+            Act::MakesHybrid { class, many } => self.make_hybrid(alloc, code, class, many, &mut room.values, out),
+            Act::MakesOwn { class } => self.make_own(alloc, code, class, &mut room.values, out),
         }
     }
 
@@ -179,6 +184,8 @@ impl State {
         ensures ok { IfOk result (λ end. answers end self.new ≡ stepping code.now self.old) }
         ensures err { OnErr result (self.new ≡ self.old) }
     {
+        let _items = code.items();
+        widths_are_narrow();
         let act = self.asks(code, room)?;
         self.perform(alloc, code, act, room, out)
     }

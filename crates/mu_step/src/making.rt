@@ -1,6 +1,5 @@
 // Objects that are made.
 ghost use Rattle.std.specs.Prelude.{◌≡◌, ◌≢◌, ◌+◌, ◌-◌, ◌^◌, ◌<◌, ◌≤◌, ◌∷◌, [], IsSome, Some, IfOk, IfErr, OnOk, OnErr, length, true};
-ghost use Rattle.mu_values.specs.declared.scalars.Scalar.TheVariants.{Place};
 ghost use Rattle.typed_heap.specs.Objects.{leaf_classes};
 ghost use Rattle.typed_heap.specs.Heap.{hybrid_classes, newest_cells, AreNarrow};
 ghost use Rattle.frames.specs.Chains.{stands};
@@ -40,9 +39,9 @@ fn owning(
     values: &mut Slots,
     out: &mut Slots,
 ) -> Result<Place, AllocError>
-    requires { IsSome (goes_on code.now (owns frames.old.top number) ((Place number 0 ∷ []) ∷ [])) }
+    requires { IsSome (goes_on code.now (owns frames.old.top number) ((Scalar.Place number 0 ∷ []) ∷ [])) }
     ensures frames { OnOk result (frames.new ≡ record frames.old { top = owns frames.old.top number }) }
-    ensures place { IfOk result (λ place. goes_on code.now (owns frames.old.top number) ((Place number 0 ∷ []) ∷ []) ≡ Some (stands (owns frames.old.top number) place.block place.at out.new.values)) }
+    ensures place { IfOk result (λ place. goes_on code.now (owns frames.old.top number) ((Scalar.Place number 0 ∷ []) ∷ []) ≡ Some (stands (owns frames.old.top number) place.block place.at out.new.values)) }
     ensures err { OnErr result (frames.new ≡ frames.old) }
 {
     values.clear();
@@ -173,8 +172,8 @@ impl State {
         requires room { self.old.steps < self.old.budget }
         requires some { 0 < length self.old.objects }
         requires few_left { self.old.cells + newest_cells self.old.objects < 2 ^ 32 }
-        requires there { acting code.now (owned self.old number) (acts.Gives ((Place number 0 ∷ []) ∷ [])) ≢ Stuck }
-        ensures ok { IfOk result (λ end. answers end self.new ≡ acting code.now (owned self.old number) (acts.Gives ((Place number 0 ∷ []) ∷ []))) }
+        requires there { acting code.now (owned self.old number) (acts.Gives ((Scalar.Place number 0 ∷ []) ∷ [])) ≢ Stuck }
+        ensures ok { IfOk result (λ end. answers end self.new ≡ acting code.now (owned self.old number) (acts.Gives ((Scalar.Place number 0 ∷ []) ∷ []))) }
         ensures err { OnErr result (self.new ≡ taken_back self.old) }
     {
         match owning(&mut self.frames, code, number, values, out) {
