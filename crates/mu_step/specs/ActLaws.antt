@@ -30,7 +30,7 @@ use Rattle.mu_model.specs.Acts.{Gives, Faults, Goes, Calls, Replaces, Returns, T
 use Rattle.mu_model.specs.Turns.{Turn, waiting}
 use Rattle.mu_model.specs.Frames.{called, passed, onward, arrived, caught, with_exception}
 use Rattle.mu_model.specs.Changes.{changed, frames_end}
-use Rattle.mu_model.specs.Outcomes.{Outcome, End, Stuck, on, next, onto, case_of, excepted, faulted, refused, unless_refused, tried}
+use Rattle.mu_model.specs.Outcomes.{Outcome, End, Stuck, on, next, onto, excepted, faulted, refused, unless_refused, tried}
 use Rattle.mu_model.specs.Exceptions.{EnteredFrames, body_or_case, returns, unwinding}
 use Rattle.mu_model.specs.Step.{performed}
 use Rattle.mu_model.specs.Programs.{some_goal}

@@ -1,5 +1,5 @@
 -- Laws of the acts that make objects, cast references and find places.
-use Rattle.std.specs.Prelude.{◌≡◌, ◌≢◌, ℕ, zero, suc, ◌+◌, ◌-◌, ◌*◌, ◌^◌, ◌<◌, ◌≤◌, Bool, true, false, nat_le, min, List, [], ◌∷◌, ◌++◌, Option, Some, None, IsSome, Result, Ok, Err, IfErr, is_some, length, take, slice_get, option_map, if◌then◌else◌, refl}
+use Rattle.std.specs.Prelude.{◌≡◌, ◌≢◌, ℕ, ◌+◌, ◌-◌, ◌*◌, ◌^◌, ◌<◌, ◌≤◌, Bool, true, false, nat_le, min, List, [], ◌∷◌, ◌++◌, Option, Some, None, IsSome, Result, Ok, Err, IfErr, length, option_map, if◌then◌else◌, refl}
 use Rattle.std.proofs.Common.{sym, ◌∙◌, ap, subst, arith, length-append, inl, inr}
 use Rattle.std.proofs.lemmas.Bool.Decides.{leb_tells}
 use Rattle.std.proofs.Math.Nat.{min-eq_left, min-eq_right}
@@ -10,28 +10,27 @@ use Rattle.bundle_check.specs.Checking.{bundle_tables}
 use Rattle.typed_heap.specs.declared.faults.PlaceFault.{PlaceFault}
 use Rattle.typed_heap.specs.declared.faults.HeapFault.{HeapFault}
 use Rattle.typed_heap.specs.declared.faults.HeapFault.TheVariants as heaps
-use Rattle.typed_heap.specs.Objects.{HeapObject, leaf_classes, run_classes, object_of}
-use Rattle.typed_heap.specs.Heap.{hybrid_classes, told_cells, cells_of, newest_cells}
+use Rattle.typed_heap.specs.Objects.{leaf_classes, run_classes, object_of}
+use Rattle.typed_heap.specs.Heap.{hybrid_classes, told_cells, newest_cells}
 use Rattle.typed_heap.specs.Places.{with_some, Way, move, find_place}
 use Rattle.typed_heap.proofs.Fitted.{newest_counted}
 use Rattle.typed_heap.proofs.Fitted as fitted
 use Rattle.typed_heap.proofs.Runs.{times_length}
 use Rattle.type_laws.specs.Leaves.{times}
 use Rattle.frames.specs.Activations.{Value, Goal, Activation}
-use Rattle.frames.specs.Chains.{Chain, frames_of, stands}
+use Rattle.frames.specs.Chains.{stands}
 use Rattle.mu_model.specs.declared.endings.Case.{Case}
 use Rattle.mu_model.specs.declared.endings.Ending.TheVariants.{HeapFull}
-use Rattle.mu_model.specs.Types.{type_graph, class_definition}
-use Rattle.mu_model.specs.Acts.{Act, Gives, Faults, Casts, Finds, Makes, MakesHybrid, MakesOwn, Doing, Program}
+use Rattle.mu_model.specs.Types.{class_definition}
+use Rattle.mu_model.specs.Acts.{Gives, Faults, Casts, Finds, Makes, MakesHybrid, MakesOwn, Doing}
 use Rattle.mu_model.specs.Objects.{cast_any, object_added, owning}
-use Rattle.mu_model.specs.Frames.{passed, onward}
+use Rattle.mu_model.specs.Frames.{onward}
 use Rattle.mu_model.specs.Outcomes.{Outcome, Stuck, on, unless_refused, tried, or_case, case_of_fault, has_result, faulted}
-use Rattle.mu_model.specs.Step.{performed}
 use Rattle.model_numbers.specs.Numbered.{numbered}
 use Rattle.mu_step.specs.OneThread.{OneThread}
 use Rattle.mu_step.specs.Acting.{begun, turn, doing_of, acting, faulting, goes_on}
 use Rattle.mu_step.specs.Making.{tells, graph_of, made, owns, owned, IsFull, taken_back}
-use Rattle.mu_step.specs.StepLaws.{on_there, on_is, acting_there, acting_is}
+use Rattle.mu_step.specs.StepLaws.{on_there, acting_there, acting_is}
 
 -- ---- what is found
 
@@ -155,11 +154,11 @@ hybrid_is bundle s t many n h e =
 min_exact : (n m a : ℕ) → a ≡ min n m → a < m → a ≡ n
 min_exact n m a e h =
     elim (leb_tells n m) [
-      inl t ↦ e ∙ min-eq_left t.1
-    | inr f ↦ (
-        let less : m ≤ n = omega (arith, f.1) in
-        let much : a ≡ m = e ∙ min-eq_right less in
-        absurd (omega (arith, much, h)))
+      | inl t ↦ e ∙ min-eq_left t.1
+      | inr f ↦ (
+          let less : m ≤ n = omega (arith, f.1) in
+          let much : a ≡ m = e ∙ min-eq_right less in
+          absurd (omega (arith, much, h)))
     ]
 
 pub told_exact : (n a : ℕ) → a ≡ told_cells n → a < 2 ^ 128 - 1 → a ≡ n
@@ -171,14 +170,14 @@ made_there left now n e = (omega (arith, e), omega (arith, e))
 pub full_so : (n left : ℕ) (r : Result ℕ HeapFault) (f : HeapFault) → (left < n → r ≡ Err (heaps.HeapFull (told_cells n) left)) → (n ≤ left → IfErr r (λ fault. fault ≡ heaps.Memory)) → r ≡ Err f → IsFull f n left
 full_so n left r f full enough e =
     elim (leb_tells n left) [
-      inl t ↦ (
-        let is : f ≡ heaps.Memory = subst (λ (r : Result ℕ HeapFault). IfErr r (λ fault. fault ≡ heaps.Memory)) e (enough t.1) in
-        subst (λ f. IsFull f n left) (sym is) tt)
-    | inr g ↦ (
-        let less : left < n = omega (arith, g.1) in
-        let told : r ≡ Err (heaps.HeapFull (told_cells n) left) = full less in
-        let is : f ≡ heaps.HeapFull (told_cells n) left = cc in
-        subst (λ f. IsFull f n left) (sym is) (less, refl, refl))
+      | inl t ↦ (
+          let is : f ≡ heaps.Memory = subst (λ (r : Result ℕ HeapFault). IfErr r (λ fault. fault ≡ heaps.Memory)) e (enough t.1) in
+          subst (λ f. IsFull f n left) (sym is) tt)
+      | inr g ↦ (
+          let less : left < n = omega (arith, g.1) in
+          let told : r ≡ Err (heaps.HeapFull (told_cells n) left) = full less in
+          let is : f ≡ heaps.HeapFull (told_cells n) left = cc in
+          subst (λ f. IsFull f n left) (sym is) (less, refl, refl))
     ]
 
 -- ---- an object that is taken back

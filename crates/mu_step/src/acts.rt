@@ -137,10 +137,31 @@ impl State {
             }
             Act::Returns => self.give_back(alloc, code, room, out),
             Act::Throws(exception) => self.throw(alloc, code, exception, out),
-            Act::Casts { class, scalar } => self.cast(alloc, code, class, scalar, &mut room.values, out),
-            Act::Finds { way, scalar } => self.find(alloc, code, way, scalar, &mut room.values, out),
+            Act::Casts { class, scalar } => self.cast(
+                alloc,
+                code,
+                class,
+                scalar,
+                &mut room.values,
+                out,
+            ),
+            Act::Finds { way, scalar } => self.find(
+                alloc,
+                code,
+                way,
+                scalar,
+                &mut room.values,
+                out,
+            ),
             Act::Makes { class } => self.make(alloc, code, class, &mut room.values, out),
-            Act::MakesHybrid { class, many } => self.make_hybrid(alloc, code, class, many, &mut room.values, out),
+            Act::MakesHybrid { class, many } => self.make_hybrid(
+                alloc,
+                code,
+                class,
+                many,
+                &mut room.values,
+                out,
+            ),
             Act::MakesOwn { class } => self.make_own(alloc, code, class, &mut room.values, out),
         }
     }

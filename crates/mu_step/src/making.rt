@@ -10,6 +10,7 @@ ghost use Rattle.mu_step.specs.Acting.{answers, acting, faulting, goes_on};
 ghost use Rattle.mu_step.specs.Making.{graph_of, made, owns, owned, IsFull, taken_back};
 
 use crate::flow::{Place, passing, stand};
+use crate::objects::MOST_OBJECTS;
 use crate::state::State;
 use bundle_check::Checked;
 use frames::Frames;
@@ -17,9 +18,6 @@ use mu_model::{Ending, StepEnd};
 use mu_values::{Scalar, Slots};
 use std::alloc::{AllocError, Global};
 use typed_heap::HeapFault;
-
-/// No heap has more objects.
-const MOST_OBJECTS: u32 = 4294967293;
 
 /// The top frame has one more object.
 fn own(frames: &mut Frames, number: u32) -> Result<(), AllocError>

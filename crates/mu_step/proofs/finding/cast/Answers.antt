@@ -1,7 +1,6 @@
 use Rattle.std.proofs.Common.{ap}
 use Rattle.type_laws.specs.Definition.{arguments}
 use Rattle.typed_heap.proofs.Found.{target_within}
-use Rattle.mu_step.specs.Making.{graph_of}
 use Rattle.mu_step.proofs.finding.cast.Goals as goal
 
 pub class-requires : goal.class-requires
