@@ -1,5 +1,5 @@
 -- Lemmas of acts over objects, over the view of a state and its parts.
-use Rattle.std.proofs.Common.{◌≡◌, ◌≢◌, ℕ, ◌+◌, ◌-◌, ◌^◌, ◌<◌, ◌≤◌, List, [], ◌∷◌, IsSome, Some, Result, Ok, Err, IfOk, OnOk, OnErr, length, sym, ◌∙◌, ap, subst}
+use Rattle.std.proofs.Common.{◌≡◌, ◌≢◌, ℕ, ◌-◌, ◌^◌, ◌<◌, ◌≤◌, List, [], ◌∷◌, IsSome, Some, Result, Ok, Err, IfOk, OnOk, OnErr, length, sym, ◌∙◌, ap, subst}
 use Rattle.ir_tree.specs.declared.items.Item.{Item}
 use Rattle.mu_values.specs.declared.scalars.Scalar.{Scalar}
 use Rattle.mu_values.specs.declared.scalars.Scalar.TheVariants.{Object, Place}
@@ -7,7 +7,7 @@ use Rattle.bundle_check.specs.Checking.{bundle_tables}
 use Rattle.typed_heap.specs.declared.faults.HeapFault.{HeapFault}
 use Rattle.typed_heap.specs.declared.faults.HeapFault.TheVariants as heaps
 use Rattle.typed_heap.specs.Objects.{leaf_classes}
-use Rattle.typed_heap.specs.Heap.{hybrid_classes, newest_cells}
+use Rattle.typed_heap.specs.Heap.{hybrid_classes}
 use Rattle.typed_heap.specs.Places.{Way, move, find_place}
 use Rattle.frames.specs.Activations.{Value}
 use Rattle.frames.specs.Chains.{Chain, stands}
@@ -21,7 +21,7 @@ use Rattle.mu_step.specs.OneThread.{OneThread}
 use Rattle.mu_step.specs.Acting.{answers, went_on, acting, faulting, goes_on}
 use Rattle.mu_step.specs.Making.{graph_of, made, owns, owned, taken_back, IsFull}
 use Rattle.mu_step.specs.ActLaws.{given_there, given_is}
-use Rattle.mu_step.specs.ObjectLaws.{finds_there, casts_there, makes_is, hybrid_is, own_is, made_back, made_cells, made_some, told_exact}
+use Rattle.mu_step.specs.ObjectLaws.{finds_there, casts_there, makes_is, hybrid_is, own_is, made_back, told_exact}
 
 pub finds_at : (bundle : List Item) (s v : OneThread) (way : Way) (x : Scalar) → v ≡ s → acting bundle s (Finds way x) ≢ Stuck → IsSome (find_place (graph_of bundle) v.objects (move (graph_of bundle) way) x)
 finds_at bundle s v way x view h = subst (λ (s : OneThread). IsSome (find_place (graph_of bundle) s.objects (move (graph_of bundle) way) x)) (sym view) (finds_there bundle s way x h)
@@ -55,12 +55,6 @@ answered_so (Err f) t o p h e = tt
 pub back_so : {A E : Type 0} (bundle : List Item) (r : Result A E) (s t u : OneThread) (cs : List ℕ) → OnErr r (u ≡ taken_back t) → t ≡ made bundle s cs → length cs ≤ s.cells → OnErr r (u ≡ s)
 back_so bundle (Ok a) s t u cs h is enough = tt
 back_so bundle (Err e) s t u cs h is enough = h ∙ ap taken_back is ∙ made_back bundle s cs enough
-
-pub cells_so : (bundle : List Item) (s t : OneThread) (cs : List ℕ) → t ≡ made bundle s cs → length cs ≤ s.cells → s.cells < 2 ^ 32 → t.cells + newest_cells t.objects < 2 ^ 32
-cells_so bundle s t cs is enough few = subst (λ (t : OneThread). t.cells + newest_cells t.objects < 2 ^ 32) (sym is) (made_cells bundle s cs enough few)
-
-pub some_so : (bundle : List Item) (s t : OneThread) (cs : List ℕ) → t ≡ made bundle s cs → 0 < length t.objects
-some_so bundle s t cs is = subst (λ (t : OneThread). 0 < length t.objects) (sym is) (made_some bundle s cs)
 
 -- ---- cells that are refused
 

@@ -189,15 +189,6 @@ made_back bundle s cs h =
     ap (λ os. record s { objects = os; cells = s.cells - length cs + newest_cells (s.objects ++ o ∷ []) }) (fitted.taken_back s.objects o)
     ∙ ap (λ n. record s { cells = n }) cells
 
-pub made_cells : (bundle : List Item) (s : OneThread) (cs : List ℕ) → length cs ≤ s.cells → s.cells < 2 ^ 32 → (made bundle s cs).cells + newest_cells (made bundle s cs).objects < 2 ^ 32
-made_cells bundle s cs h few =
-    let o = object_of (graph_of bundle) cs in
-    let cells : s.cells - length cs + newest_cells (s.objects ++ o ∷ []) ≡ s.cells = ap (λ n. s.cells - length cs + n) (newest_counted s.objects o) ∙ omega (arith, h) in
-    omega (arith, cells)
-
-pub made_some : (bundle : List Item) (s : OneThread) (cs : List ℕ) → 0 < length (made bundle s cs).objects
-made_some bundle s cs = omega (arith, length-append s.objects (object_of (graph_of bundle) cs ∷ []))
-
 -- ---- a frame that gets one more object
 
 owns_there_by : (o : Option (Option Goal)) (f : Activation) (n : ℕ) (vs : List Value) → IsSome (with_some o (λ g. Some (onward (owns f n) vs g))) → IsSome (with_some o (λ g. Some (onward f vs g)))
