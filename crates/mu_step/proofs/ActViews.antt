@@ -1,5 +1,5 @@
 -- Lemmas of acts, over the view of a state and its parts.
-use Rattle.std.proofs.Common.{◌≡◌, ◌≢◌, ℕ, zero, suc, ◌<◌, true, List, [], ◌∷◌, Some, IsSome, Result, Ok, Err, IfOk, IfSome, IsSomeAnd, length, slice_get, slice_index_or, take, drop, sym, ◌∙◌, ap, subst, arith}
+use Rattle.std.proofs.Common.{◌≡◌, ◌≢◌, ℕ, zero, suc, ◌<◌, true, List, [], ◌∷◌, None, Some, IsSome, Result, Ok, Err, IfOk, IfSome, IsSomeAnd, length, slice_get, slice_index_or, take, drop, sym, ◌∙◌, ap, subst, arith}
 use Rattle.std.specs.List.{flat_map}
 use Rattle.ir_tree.specs.declared.items.Item.{Item}
 use Rattle.mu_values.specs.declared.scalars.Scalar.{Scalar}
@@ -9,7 +9,9 @@ use Rattle.code_check.specs.declared.code.Code.{Code}
 use Rattle.code_check.specs.declared.code.Target.{Target}
 use Rattle.bundle_check.specs.declared.code.BlockCode.{BlockCode}
 use Rattle.bundle_check.specs.declared.code.Function.{Function}
-use Rattle.bundle_check.specs.Checking.{bundle_blocks, bundle_functions}
+use Rattle.bundle_check.specs.Checking.{bundle_tables, bundle_blocks, bundle_functions, check_demands}
+use Rattle.bundle_names.specs.Naming.{name_demands}
+use Rattle.demands.specs.Demands.{first_unmet}
 use Rattle.bundle_check.specs.Answers.{code_at}
 use Rattle.typed_heap.specs.Objects.{HeapObject}
 use Rattle.frames.specs.Activations.{Value, Goal, Activation}
@@ -18,13 +20,14 @@ use Rattle.frames.specs.FrameOf.{frame_of, goal_of}
 use Rattle.frames.specs.Handlers.{first_handler}
 use Rattle.frames.specs.declared.frame.Frame.{Frame}
 use Rattle.mu_model.specs.declared.endings.StepEnd.{StepEnd}
-use Rattle.mu_model.specs.declared.endings.Case.{Case}
+use Rattle.mu_model.specs.declared.endings.Ending.{Ending}
 use Rattle.mu_model.specs.Acts.{Act, Gives, Calls, Returns, Throws}
 use Rattle.mu_model.specs.Outcomes.{Outcome, Stuck}
 use Rattle.model_numbers.specs.Sources.{goal_at}
 use Rattle.model_numbers.specs.Forms.{act_at}
 use Rattle.model_numbers.specs.Numbered.{optional_goal_at, kept_at}
 use Rattle.step_forms.specs.Built.{form_is_built}
+use Rattle.step_forms.specs.Classes.{FormIsThere, FormsAreThere}
 use Rattle.mu_step.specs.OneThread.{OneThread}
 use Rattle.mu_step.specs.Acting.{answers, went_on, acting, stepping, faulting, goes_on, gets, entered, awaited, entered_above, objects_end}
 use Rattle.mu_step.specs.StepLaws.{step_stands, step_acts}
@@ -120,6 +123,10 @@ asks_at bundle s v f b xs i view e left room h there listed is =
 pub asks_built : (bundle : List Item) (s : OneThread) (f : Activation) (b : BlockCode) (i j : Code) → IsBuilt bundle → slice_get (bundle_blocks bundle) f.block ≡ Some b → AsksAt bundle s f b i → i ≡ j → form_is_built j.form ≡ true
 asks_built bundle s f b i j built there at same = subst (λ (i : Code). form_is_built i.form ≡ true) same (built_at bundle f.block f.at b i built there at.there)
 
+pub asks_classes : (bundle : List Item) (s : OneThread) (f : Activation) (b : BlockCode) (i j : Code) → FormsAreThere → first_unmet (name_demands bundle) ≡ None → first_unmet (check_demands bundle) ≡ None
+    → slice_get (bundle_blocks bundle) f.block ≡ Some b → AsksAt bundle s f b i → i ≡ j → FormIsThere (bundle_tables bundle).types.definitions j.form
+asks_classes bundle s f b i j forms are met there at same = subst (λ (i : Code). FormIsThere (bundle_tables bundle).types.definitions i.form) same (forms bundle are met f.block f.at b i there at.there)
+
 pub asks_same : (bundle : List Item) (s : OneThread) (f : Activation) (b : BlockCode) (i j : Code) (cs : List ℕ) (vs : List Value) → AsksAt bundle s f b i → i ≡ j → cs ≡ b.classes → vs ≡ f.vars → IsSome (act_at bundle cs vs j.form)
 asks_same bundle s f b i j cs vs at same classes vars = subst (λ (j : Code). IsSome (act_at bundle cs vs j.form)) same (subst (λ cs. IsSome (act_at bundle cs vs i.form)) (sym classes) (subst (λ vs. IsSome (act_at bundle b.classes vs i.form)) (sym vars) at.asks))
 
@@ -131,7 +138,7 @@ asked_so bundle s f b i j cs vs (Err e) act at same classes vars h = tt
 
 -- ---- faults
 
-pub fault_within : (bundle : List Item) (s v : OneThread) (k : Case) (f : Activation) (i : Code) (t : Target) (vs out : List Value) → v ≡ s → f ≡ v.frames.top → faulting bundle s k ≢ Stuck → code_at bundle f.block f.at ≡ Some i
+pub fault_within : (bundle : List Item) (s v : OneThread) (k : Ending) (f : Activation) (i : Code) (t : Target) (vs out : List Value) → v ≡ s → f ≡ v.frames.top → faulting bundle s k ≢ Stuck → code_at bundle f.block f.at ≡ Some i
     → i.exceptional ≡ Some t → vs ≡ f.vars → goal_at bundle vs t ≡ Some (record { block = t.block; values = out }) → t.block < length (bundle_blocks bundle)
 fault_within bundle s v k f i t vs out view e h code way vars goal =
     let g : Goal = record { block = t.block; values = out } in
@@ -140,7 +147,7 @@ fault_within bundle s v k f i t vs out view e h code way vars goal =
     subst (λ f. code_at bundle f.block f.at ≡ Some i → goal_at bundle f.vars t ≡ Some g → t.block < length (bundle_blocks bundle)) at
     (λ code aim. gets_there bundle s.frames.top g Null (fault_gets bundle s k i t g h code way aim)) code aim
 
-pub fault_so : (bundle : List Item) (s v : OneThread) (k : Case) (f : Activation) (i : Code) (t : Target) (vs out left : List Value) (o : Outcome) → v ≡ s → f ≡ v.frames.top → faulting bundle s k ≢ Stuck → code_at bundle f.block f.at ≡ Some i
+pub fault_so : (bundle : List Item) (s v : OneThread) (k : Ending) (f : Activation) (i : Code) (t : Target) (vs out left : List Value) (o : Outcome) → v ≡ s → f ≡ v.frames.top → faulting bundle s k ≢ Stuck → code_at bundle f.block f.at ≡ Some i
     → i.exceptional ≡ Some t → vs ≡ f.vars → goal_at bundle vs t ≡ Some (record { block = t.block; values = out })
     → ((x : Activation) → gets bundle x (record { block = t.block; values = out }) Null ≡ Some (stands x t.block 0 left))
     → o ≡ went_on (record s { frames = record s.frames { top = stands s.frames.top t.block 0 left } }) → o ≡ faulting bundle s k

@@ -22,6 +22,7 @@ use Rattle.mu_model.specs.declared.lines.Line.TheVariants as lines
 use Rattle.mu_model.specs.declared.lines.Note.TheVariants.{Returned}
 use Rattle.mu_model.specs.declared.endings.StepEnd.TheVariants.{Went}
 use Rattle.mu_model.specs.declared.endings.Case.{Case}
+use Rattle.mu_model.specs.declared.endings.Ending.{Ending}
 use Rattle.mu_model.specs.declared.endings.Case.TheVariants as cases
 use Rattle.mu_model.specs.Types.{classes_given}
 use Rattle.mu_model.specs.Configuration.{Configuration}
@@ -29,7 +30,7 @@ use Rattle.mu_model.specs.Acts.{Gives, Faults, Goes, Calls, Replaces, Returns, T
 use Rattle.mu_model.specs.Turns.{Turn, waiting}
 use Rattle.mu_model.specs.Frames.{called, passed, onward, arrived, caught, with_exception}
 use Rattle.mu_model.specs.Changes.{changed, frames_end}
-use Rattle.mu_model.specs.Outcomes.{Outcome, End, Stuck, on, next, onto, case_of, excepted, faulted, refused, unless_refused, tried}
+use Rattle.mu_model.specs.Outcomes.{Outcome, End, Stuck, on, next, onto, excepted, faulted, refused, unless_refused, tried}
 use Rattle.mu_model.specs.Exceptions.{EnteredFrames, body_or_case, returns, unwinding}
 use Rattle.mu_model.specs.Step.{performed}
 use Rattle.mu_model.specs.Programs.{some_goal}
@@ -161,7 +162,7 @@ goes_is bundle s block vs h =
 
 -- ---- undefined cases and faults
 
-pub fault_is : (bundle : List Item) (s : OneThread) (k : Case) → is_fault k ≡ true → acting bundle s (Faults k) ≡ faulting bundle s k
+pub fault_is : (bundle : List Item) (s : OneThread) (k : Case) → is_fault k ≡ true → acting bundle s (Faults k) ≡ faulting bundle s (undefined_at s k)
 unfolding acting faulting
 fault_is bundle s cases.DivideByZero h = refl
 fault_is bundle s cases.NullAccess h = refl
@@ -196,27 +197,27 @@ refused_is bundle s k plain h =
     acting_is bundle s (Faults k) r.0 r.1 ∙ refused_plainly (numbered bundle) s r.0 k plain
 
 -- its exceptional destination
-abbrev fault_with : List Item → OneThread → Case → Option Goal → Outcome
-fault_with bundle s k o = excepted (numbered bundle) (begun s) (turn s (record { act = None; exceptional = None; kept = None })) (undefined_at s k) o
+abbrev fault_with : List Item → OneThread → Ending → Option Goal → Outcome
+fault_with bundle s k o = excepted (numbered bundle) (begun s) (turn s (record { act = None; exceptional = None; kept = None })) k o
 
-with_any : (bundle : List Item) (s : OneThread) (k : Case) (d : Doing) (o : Option Goal) → excepted (numbered bundle) (begun s) (turn s d) (case_of (turn s d) k) o ≡ fault_with bundle s k o
+with_any : (bundle : List Item) (s : OneThread) (k : Ending) (d : Doing) (o : Option Goal) → excepted (numbered bundle) (begun s) (turn s d) k o ≡ fault_with bundle s k o
 with_any bundle s k d None = refl
 with_any bundle s k d (Some g) = refl
 
-record FaultAt (bundle : List Item) (s : OneThread) (k : Case) (i : Code) : Type 0 where
+record FaultAt (bundle : List Item) (s : OneThread) (k : Ending) (i : Code) : Type 0 where
   pub goal : Option Goal
   pub exceptional : optional_goal_at bundle s.frames.top.vars i.exceptional ≡ Some goal
   pub going : fault_with bundle s k goal ≢ Stuck
   pub is : faulting bundle s k ≡ fault_with bundle s k goal
 
-fault_by : (bundle : List Item) (s : OneThread) (k : Case) → faulting bundle s k ≢ Stuck
+fault_by : (bundle : List Item) (s : OneThread) (k : Ending) → faulting bundle s k ≢ Stuck
     → (b : BlockCode) × (slice_get (bundle_blocks bundle) s.frames.top.block ≡ Some b) × (i : Code) × (slice_get b.code s.frames.top.at ≡ Some i) × FaultAt bundle s k i
 unfolding faulting
 fault_by bundle s k h =
     let p = numbered bundle in
-    let r = on_there (doing_of p s) (λ d. faulted p (begun s) (turn s d) (case_of (turn s d) k)) h in
+    let r = on_there (doing_of p s) (λ d. faulted p (begun s) (turn s d) k) h in
     let q = doing_at bundle s.frames.top r.0 r.1 in
-    let o = on_there r.0.exceptional (excepted p (begun s) (turn s r.0) (case_of (turn s r.0) k)) r.2 in
+    let o = on_there r.0.exceptional (excepted p (begun s) (turn s r.0) k) r.2 in
     let any = with_any bundle s k r.0 o.0 in (
       q.0,
       q.1,
@@ -226,42 +227,42 @@ fault_by bundle s k h =
         goal = o.0;
         exceptional = sym (ap (λ (d : Doing). d.exceptional) q.4) ∙ o.1;
         going = λ e. o.2 (any ∙ e);
-        is = on_is (doing_of p s) r.0 (λ d. faulted p (begun s) (turn s d) (case_of (turn s d) k)) r.1 ∙ on_is r.0.exceptional o.0 (excepted p (begun s) (turn s r.0) (case_of (turn s r.0) k)) o.1 ∙ any;
+        is = on_is (doing_of p s) r.0 (λ d. faulted p (begun s) (turn s d) k) r.1 ∙ on_is r.0.exceptional o.0 (excepted p (begun s) (turn s r.0) k) o.1 ∙ any;
       },
     )
 
-pub fault_there : (bundle : List Item) (s : OneThread) (k : Case) → faulting bundle s k ≢ Stuck → IsSome (code_at bundle s.frames.top.block s.frames.top.at)
+pub fault_there : (bundle : List Item) (s : OneThread) (k : Ending) → faulting bundle s k ≢ Stuck → IsSome (code_at bundle s.frames.top.block s.frames.top.at)
 fault_there bundle s k h =
     let r = fault_by bundle s k h in
     some_there (code_at bundle s.frames.top.block s.frames.top.at) r.2 (code_is bundle s.frames.top.block s.frames.top.at r.0 r.2 r.1 r.3)
 
-fault_at : (bundle : List Item) (s : OneThread) (k : Case) (i : Code) → faulting bundle s k ≢ Stuck → code_at bundle s.frames.top.block s.frames.top.at ≡ Some i → FaultAt bundle s k i
+fault_at : (bundle : List Item) (s : OneThread) (k : Ending) (i : Code) → faulting bundle s k ≢ Stuck → code_at bundle s.frames.top.block s.frames.top.at ≡ Some i → FaultAt bundle s k i
 fault_at bundle s k i h e =
     let r = fault_by bundle s k h in
     let there = code_is bundle s.frames.top.block s.frames.top.at r.0 r.2 r.1 r.3 in
     let same : r.2 ≡ i = cc in
     subst (FaultAt bundle s k) same r.4
 
-pub fault_ends : (bundle : List Item) (s : OneThread) (k : Case) (i : Code) → faulting bundle s k ≢ Stuck → code_at bundle s.frames.top.block s.frames.top.at ≡ Some i → i.exceptional ≡ None
-    → faulting bundle s k ≡ End [] (undefined_at s k)
+pub fault_ends : (bundle : List Item) (s : OneThread) (k : Ending) (i : Code) → faulting bundle s k ≢ Stuck → code_at bundle s.frames.top.block s.frames.top.at ≡ Some i → i.exceptional ≡ None
+    → faulting bundle s k ≡ End [] k
 fault_ends bundle s k i h e none =
     let r = fault_at bundle s k i h e in
     let same : r.goal ≡ None = let there = ap (optional_goal_at bundle s.frames.top.vars) none in let found = r.exceptional in cc in
     r.is ∙ ap (fault_with bundle s k) same
 
-pub fault_goal : (bundle : List Item) (s : OneThread) (k : Case) (i : Code) (t : Target) → faulting bundle s k ≢ Stuck → code_at bundle s.frames.top.block s.frames.top.at ≡ Some i → i.exceptional ≡ Some t
+pub fault_goal : (bundle : List Item) (s : OneThread) (k : Ending) (i : Code) (t : Target) → faulting bundle s k ≢ Stuck → code_at bundle s.frames.top.block s.frames.top.at ≡ Some i → i.exceptional ≡ Some t
     → IsSome (goal_at bundle s.frames.top.vars t)
 fault_goal bundle s k i t h e way =
     let r = fault_at bundle s k i h e in
     goal_of_some bundle s.frames.top.vars i.exceptional t r.goal way r.exceptional
 
-fault_goal_is : (bundle : List Item) (s : OneThread) (k : Case) (i : Code) (t : Target) (g : Goal) → (r : FaultAt bundle s k i) → i.exceptional ≡ Some t → goal_at bundle s.frames.top.vars t ≡ Some g → r.goal ≡ Some g
+fault_goal_is : (bundle : List Item) (s : OneThread) (k : Ending) (i : Code) (t : Target) (g : Goal) → (r : FaultAt bundle s k i) → i.exceptional ≡ Some t → goal_at bundle s.frames.top.vars t ≡ Some g → r.goal ≡ Some g
 fault_goal_is bundle s k i t g r way e =
     let is = optional_is bundle s.frames.top.vars i.exceptional t g way e in
     let found = r.exceptional in
     cc
 
-pub fault_gets : (bundle : List Item) (s : OneThread) (k : Case) (i : Code) (t : Target) (g : Goal) → faulting bundle s k ≢ Stuck → code_at bundle s.frames.top.block s.frames.top.at ≡ Some i → i.exceptional ≡ Some t
+pub fault_gets : (bundle : List Item) (s : OneThread) (k : Ending) (i : Code) (t : Target) (g : Goal) → faulting bundle s k ≢ Stuck → code_at bundle s.frames.top.block s.frames.top.at ≡ Some i → i.exceptional ≡ Some t
     → goal_at bundle s.frames.top.vars t ≡ Some g → IsSome (gets bundle s.frames.top g Null)
 unfolding gets
 fault_gets bundle s k i t g h e way there =
@@ -272,7 +273,7 @@ fault_gets bundle s k i t g h e way there =
     let n = next_there (begun s) u (with_some (caught (numbered bundle) s.frames.top g Null) (onto u)) going in
     onto_there u (caught (numbered bundle) s.frames.top g Null) n.0 n.1
 
-pub fault_goes : (bundle : List Item) (s : OneThread) (k : Case) (i : Code) (t : Target) (g : Goal) (f : Activation) → faulting bundle s k ≢ Stuck → code_at bundle s.frames.top.block s.frames.top.at ≡ Some i → i.exceptional ≡ Some t
+pub fault_goes : (bundle : List Item) (s : OneThread) (k : Ending) (i : Code) (t : Target) (g : Goal) (f : Activation) → faulting bundle s k ≢ Stuck → code_at bundle s.frames.top.block s.frames.top.at ≡ Some i → i.exceptional ≡ Some t
     → goal_at bundle s.frames.top.vars t ≡ Some g → gets bundle s.frames.top g Null ≡ Some f → faulting bundle s k ≡ went_on (record s { frames = record s.frames { top = f } })
 unfolding gets
 fault_goes bundle s k i t g f h e way there caught_so =

@@ -20,7 +20,7 @@ use Rattle.mu_model.specs.Acts.{Act, Doing, Program}
 use Rattle.mu_model.specs.Turns.{Turn}
 use Rattle.mu_model.specs.Frames.{passed, caught}
 use Rattle.mu_model.specs.Changes.{changed}
-use Rattle.mu_model.specs.Outcomes.{Outcome, Next, on, faulted, case_of}
+use Rattle.mu_model.specs.Outcomes.{Outcome, Next, on, faulted}
 use Rattle.mu_model.specs.Step.{performed, step}
 use Rattle.model_numbers.specs.Numbered.{numbered}
 use Rattle.mu_step.specs.Outcome.{outcome_of}
@@ -58,9 +58,9 @@ went_on s = Next (begun s)
 unfoldable pub acting : List Item → OneThread → Act → Outcome
 acting bundle s a = on (doing_of (numbered bundle) s) (λ d. performed (numbered bundle) (begun s) (turn s d) a)
 
--- its instruction meets a fault
-unfoldable pub faulting : List Item → OneThread → Case → Outcome
-faulting bundle s k = on (doing_of (numbered bundle) s) (λ d. faulted (numbered bundle) (begun s) (turn s d) (case_of (turn s d) k))
+-- its instruction meets a fault, which is the ending where it has no exceptional destination
+unfoldable pub faulting : List Item → OneThread → Ending → Outcome
+faulting bundle s k = on (doing_of (numbered bundle) s) (λ d. faulted (numbered bundle) (begun s) (turn s d) k)
 
 abbrev pub undefined_at : OneThread → Case → Ending
 undefined_at s k = Undefined k 0 s.frames.top.block s.frames.top.at None

@@ -5,6 +5,8 @@ pub mod BuiltLaws
 pub mod Kept
 pub mod Lists
 pub mod Machines
+pub mod Making
+pub mod ObjectLaws
 pub mod OneThread
 pub mod Outcome
 pub mod Plain

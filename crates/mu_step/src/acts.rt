@@ -1,20 +1,24 @@
 // What one thread does.
 ghost use Rattle.std.specs.Prelude.{◌≡◌, ◌≢◌, ◌+◌, ◌<◌, [], ◌∷◌, ◌++◌, IsSome, Some, IfOk, OnErr, true};
+ghost use Rattle.typed_heap.specs.Heap.{AreNarrow};
 ghost use Rattle.frames.specs.Activations.{Value};
 ghost use Rattle.frames.specs.Chains.{stands};
 ghost use Rattle.mu_model.specs.Outcomes.{Stuck};
 ghost use Rattle.mu_model.specs.Acts as acts;
 ghost use Rattle.step_forms.specs.Asked.{asked};
+ghost use Rattle.step_forms.specs.Classes.{ActIsThere};
 ghost use Rattle.mu_step.specs.Built.{IsBuilt};
 ghost use Rattle.mu_step.specs.Acting.{answers, went_on, acting, stepping};
+ghost use Rattle.mu_step.specs.Making.{graph_of};
 
 use crate::flow::{passing, push_on_top, stand};
 use crate::state::{State, ended};
 use bundle_check::Checked;
+use bundle_facts::widths_are_narrow;
 use mu_model::{Ending, StepEnd};
 use mu_values::{Scalar, Slots};
 use std::alloc::{AllocError, Global};
-use step_forms::{Act, Room, Variables, decide};
+use step_forms::{Act, Room, Variables, decide, forms_are_there};
 
 impl State {
     /// The thread's instruction has these results.
@@ -70,7 +74,7 @@ impl State {
 
     /// The thread's instruction has one result, of one scalar.
     #[tactic(auto, using(crate::specs::ActLaws::giving_next))]
-    fn give_scalar(
+    pub(crate) fn give_scalar(
         &mut self,
         alloc: Global,
         code: &Checked,
@@ -116,6 +120,8 @@ impl State {
     ) -> Result<StepEnd, AllocError>
         requires left { self.old.left ≡ true }
         requires room { self.old.steps < self.old.budget }
+        requires narrow { AreNarrow (graph_of code.now) }
+        requires classes { ActIsThere (graph_of code.now) act }
         requires there { acting code.now self.old (asked act room.old.values.values room.old.types.members) ≢ Stuck }
         ensures ok { IfOk result (λ end. answers end self.new ≡ acting code.now self.old (asked act room.old.values.values room.old.types.members)) }
         ensures err { OnErr result (self.new ≡ self.old) }
@@ -131,6 +137,32 @@ impl State {
             }
             Act::Returns => self.give_back(alloc, code, room, out),
             Act::Throws(exception) => self.throw(alloc, code, exception, out),
+            Act::Casts { class, scalar } => self.cast(
+                alloc,
+                code,
+                class,
+                scalar,
+                &mut room.values,
+                out,
+            ),
+            Act::Finds { way, scalar } => self.find(
+                alloc,
+                code,
+                way,
+                scalar,
+                &mut room.values,
+                out,
+            ),
+            Act::Makes { class } => self.make(alloc, code, class, &mut room.values, out),
+            Act::MakesHybrid { class, many } => self.make_hybrid(
+                alloc,
+                code,
+                class,
+                many,
+                &mut room.values,
+                out,
+            ),
+            Act::MakesOwn { class } => self.make_own(alloc, code, class, &mut room.values, out),
         }
     }
 
@@ -141,8 +173,11 @@ impl State {
         requires left { self.now.left ≡ true }
         requires room { self.now.steps < self.now.budget }
         requires there { stepping code.now self.now ≢ Stuck }
-        ensures { IfOk result (λ act. stepping code.now self.now ≡ acting code.now self.now (asked act room.new.values.values room.new.types.members)) }
+        ensures act { IfOk result (λ act. stepping code.now self.now ≡ acting code.now self.now (asked act room.new.values.values room.new.types.members)) }
+        ensures classes { IfOk result (ActIsThere (graph_of code.now)) }
     {
+        let _items = code.items();
+        forms_are_there();
         let top = self.frames.top();
         let block = code.block(top.block);
         let form = &block.code.as_slice()[top.at as usize].form;
@@ -170,6 +205,8 @@ impl State {
         ensures ok { IfOk result (λ end. answers end self.new ≡ stepping code.now self.old) }
         ensures err { OnErr result (self.new ≡ self.old) }
     {
+        let _items = code.items();
+        widths_are_narrow();
         let act = self.asks(code, room)?;
         self.perform(alloc, code, act, room, out)
     }

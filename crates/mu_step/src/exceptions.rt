@@ -11,10 +11,10 @@ ghost use Rattle.mu_step.specs.Acting.{answers, went_on, acting, faulting, is_fa
 
 use crate::flow::copy;
 use crate::objects::leave_frames;
-use crate::state::State;
+use crate::state::{State, ended};
 use bundle_check::Checked;
 use frames::{Frame, Unwound};
-use mu_model::{Case, StepEnd};
+use mu_model::{Case, Ending, StepEnd};
 use mu_values::{Scalar, Slots};
 use std::alloc::{AllocError, Global};
 use step_forms::{Variables, read_goal};
@@ -86,30 +86,30 @@ impl State {
         ensures err { OnErr result (self.new ≡ self.old) }
     {
         if is_fault(case) {
-            self.fault(alloc, code, case, out)
+            self.fault(alloc, code, self.case_ending(case), out)
         } else {
             Ok(self.undefined(alloc, case))
         }
     }
 
-    /// A fault goes to the exceptional destination of its instruction, with NULL, or ends the run.
+    /// A fault goes to the exceptional destination of its instruction, with NULL, or ends the run so.
     #[tactic(auto, using(crate::specs::ActLaws::faults))]
-    fn fault(
+    pub(crate) fn fault(
         &mut self,
         alloc: Global,
         code: &Checked,
-        case: Case,
+        ending: Ending,
         out: &mut Slots,
     ) -> Result<StepEnd, AllocError>
         requires left { self.old.left ≡ true }
         requires room { self.old.steps < self.old.budget }
-        requires there { faulting code.now self.old case ≢ Stuck }
-        ensures ok { IfOk result (λ end. answers end self.new ≡ faulting code.now self.old case) }
+        requires there { faulting code.now self.old ending ≢ Stuck }
+        ensures ok { IfOk result (λ end. answers end self.new ≡ faulting code.now self.old ending) }
         ensures err { OnErr result (self.new ≡ self.old) }
     {
         let top = self.frames.top();
         match &code.code(top.block, top.at).exceptional {
-            None => Ok(self.undefined(alloc, case)),
+            None => Ok(ended(alloc, ending)),
             Some(target) => {
                 read_goal(code, &Variables::of(&top.slots), target, out)?;
                 add_exception(code, target.block, Scalar::Null, out)?;

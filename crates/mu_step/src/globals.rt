@@ -10,6 +10,7 @@ ghost use Rattle.mu_step.specs.Acting.{entered};
 ghost use Rattle.mu_step.specs.OneThread.{configuration};
 ghost use Rattle.mu_step.specs.Starting.{global_object, starting};
 
+use crate::objects::MOST_OBJECTS;
 use crate::state::State;
 use crate::waiting::entered;
 use bundle_check::Checked;
@@ -18,9 +19,6 @@ use mu_types::{Classes, TypeDef};
 use mu_values::Slots;
 use std::alloc::{AllocError, Global};
 use typed_heap::Heap;
-
-/// No heap has more objects.
-const MOST_OBJECTS: u32 = 4294967293;
 
 /// Adds the object of a global with the leaves of that type.
 fn add_object(classes: &Classes, t: u32, heap: &mut Heap) -> Result<(), AllocError>

@@ -1,4 +1,4 @@
-// Frames that end, with their objects.
+// How many objects there may be, and frames that end with theirs.
 ghost use Rattle.std.specs.Prelude.{◌≡◌, ◌<◌, length, take, drop};
 ghost use Rattle.std.specs.List.{flat_map};
 ghost use Rattle.frames.specs.Activations.{Activation};
@@ -9,6 +9,9 @@ ghost use Rattle.mu_step.specs.Acting.{objects_end};
 
 use frames::Frames;
 use typed_heap::Heap;
+
+/// No heap has more objects.
+pub(crate) const MOST_OBJECTS: u32 = 4294967293;
 
 /// The cells of an object are dead, where it is there.
 #[tactic(auto, using(crate::specs::Lists::change_so, crate::specs::Lists::change_beyond))]

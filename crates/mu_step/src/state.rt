@@ -54,20 +54,24 @@ impl State {
         StepEnd::Went(Lines::new(alloc))
     }
 
+    /// The undefined case is the ending of the run, at the thread's instruction.
+    pub(crate) fn case_ending(&self, case: Case) -> Ending
+        ensures { result ≡ undefined_at self.now case }
+    {
+        let top = self.frames.top();
+        Ending::Undefined {
+            case,
+            thread: 0,
+            block: top.block,
+            at: top.at,
+            race: None,
+        }
+    }
+
     /// The thread's instruction has no meaning.
     pub(crate) fn undefined(&self, alloc: Global, case: Case) -> StepEnd
         ensures { (s : OneThread) → answers result s ≡ End [] (undefined_at self.now case) }
     {
-        let top = self.frames.top();
-        ended(
-            alloc,
-            Ending::Undefined {
-                case,
-                thread: 0,
-                block: top.block,
-                at: top.at,
-                race: None,
-            },
-        )
+        ended(alloc, self.case_ending(case))
     }
 }

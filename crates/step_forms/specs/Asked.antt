@@ -5,6 +5,15 @@ use Rattle.frames.specs.Activations.{Value}
 use Rattle.mu_model.specs.Acts as acts
 use Rattle.step_forms.specs.declared.act.Act.{Act}
 use Rattle.step_forms.specs.declared.act.Act.TheVariants as made
+use Rattle.step_forms.specs.declared.way.Way.{Way}
+use Rattle.step_forms.specs.declared.way.Way.TheVariants as ways
+use Rattle.typed_heap.specs.Places as places
+
+abbrev pub way_of : Way → places.Way
+way_of (ways.Field c n) = places.Field c n
+way_of (ways.Element c i) = places.Element c i
+way_of (ways.Shift c i) = places.Shift c i
+way_of (ways.VarPart c) = places.VarPart c
 
 abbrev pub asked : Act → List Value → List ℕ → acts.Act
 asked (made.Gives s) vs cs = acts.Gives ((s ∷ []) ∷ [])
@@ -15,3 +24,8 @@ asked (made.Calls f) vs cs = acts.Calls f vs
 asked (made.Replaces f) vs cs = acts.Replaces f vs
 asked made.Returns vs cs = acts.Returns (record { types = cs; values = vs })
 asked (made.Throws e) vs cs = acts.Throws e
+asked (made.Casts c s) vs cs = acts.Casts c s
+asked (made.Finds w s) vs cs = acts.Finds (way_of w) s
+asked (made.Makes c) vs cs = acts.Makes c
+asked (made.MakesHybrid c n) vs cs = acts.MakesHybrid c n
+asked (made.MakesOwn c) vs cs = acts.MakesOwn c

@@ -1,5 +1,6 @@
 pub mod Asked
 pub mod Built
+pub mod Classes
 pub mod ConstantLaws
 pub mod OperandLaws
 pub mod OperandLists

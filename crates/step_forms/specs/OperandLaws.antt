@@ -20,6 +20,7 @@ use Rattle.mu_model.specs.Acts.{Act}
 use Rattle.mu_model.specs.Operands.{scalar_in, is_integer, bits_of_width, all_some}
 use Rattle.mu_model.specs.ComputationForms.{bit, are_comparable, leads_to}
 use Rattle.mu_model.specs.ControlForms.{function_act}
+use Rattle.mu_model.specs.ObjectForms.{object_act}
 
 -- ---- one operand
 
@@ -134,6 +135,16 @@ some_function act (Place o a) h = cc
 some_function act (Stack k) h = cc
 some_function act (Thread t) h = cc
 
+-- an object, or none
+pub some_object : (s : Scalar) → IsSome (object_act s) → (s ≡ Null) ⊎ ((n : ℕ) × (s ≡ Object n))
+some_object (Object n) h = inr (n, refl)
+some_object Null h = inl refl
+some_object (Int w n) h = cc
+some_object (Place o a) h = cc
+some_object (Func f) h = cc
+some_object (Stack k) h = cc
+some_object (Thread t) h = cc
+
 -- the test of two scalars, by what it tells
 only_true : (r x : Bool) → (r ≡ true → x ≡ true) → (x ≡ true → r ≡ true) → r ≡ x
 only_true true x h k = sym (h refl)
@@ -164,6 +175,8 @@ pub ruleset widths = (width_within)
 pub ruleset conversions_there = (with_some_some, some_scalar, some_bits, some_conversion)
 
 pub ruleset functions = (with_some_some, some_scalar, some_function)
+
+pub ruleset objects = (with_some_some, some_scalar, some_object)
 
 pub ruleset classes = (some_map, some_and_then, is_some_within)
 

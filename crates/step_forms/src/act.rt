@@ -1,9 +1,10 @@
 // Acts.
+use crate::way::Way;
 use mu_model::Case;
 use mu_values::Scalar;
 
-/// What an instruction does, once its operands are read. Blocks and functions stand by number; the values and classes that go with an
-/// act stand in the room that its operands were read into.
+/// What an instruction does, once its operands are read. Types stand by class, blocks and functions by number; the values and classes
+/// that go with an act stand in the room that its operands were read into.
 #[derive(Clone, Copy, Debug, PartialEq, Eq)]
 pub enum Act {
     /// It gives its one result this value of one scalar.
@@ -22,4 +23,14 @@ pub enum Act {
     Returns,
     /// An exception.
     Throws(Scalar),
+    /// A reference as one of the class.
+    Casts { class: u32, scalar: Scalar },
+    /// A place, found from another.
+    Finds { way: Way, scalar: Scalar },
+    /// An object of the class.
+    Makes { class: u32 },
+    /// An object of the class, with so many elements.
+    MakesHybrid { class: u32, many: u128 },
+    /// An object of the class, which the frame owns.
+    MakesOwn { class: u32 },
 }

@@ -1,33 +1,30 @@
 // What an instruction does.
-ghost use Rattle.std.specs.Prelude.{◌≡◌, true, Some, IsSome, IfOk};
-ghost use Rattle.model_numbers.specs.Forms.{computation_at, control_at, act_at};
+ghost use Rattle.std.specs.Prelude.{◌≡◌, ℕ, true, List, Some, IsSome, IfOk};
+ghost use Rattle.bundle_check.specs.Checking.{bundle_tables};
+ghost use Rattle.frames.specs.Activations.{Value};
+ghost use Rattle.model_numbers.specs.Forms.{computation_at, control_at, allocation_at, addressing_at, act_at};
 ghost use Rattle.step_forms.specs.Asked.{asked};
-ghost use Rattle.step_forms.specs.Built.{computation_is_built, form_is_built};
+ghost use Rattle.step_forms.specs.Built.{form_is_built};
+ghost use Rattle.step_forms.specs.Classes.{ActIsThere, FormIsThere};
 
 use crate::act::Act;
-use crate::computing::{binary, compare, convert, extractvalue, insertvalue, select};
+use crate::computing::{binary, compare, convert, extractvalue, insertvalue, refcast, select};
 use crate::control::{branch, branch2, call, ret, switch, tailcall, throw};
+use crate::objects::{getelemiref, getfieldiref, getiref, getvarpartiref, newhybrid, shiftiref};
 use crate::room::Room;
 use crate::variables::Variables;
 use bundle_check::Checked;
-use code_check::{ComputationForm, ControlForm, Form};
+use code_check::{AddressingForm, AllocationForm, ComputationForm, ControlForm, Form};
 use std::alloc::AllocError;
-
-fn computation_is_built(form: &ComputationForm) -> bool
-    ensures { result ≡ computation_is_built form.now }
-{
-    !matches!(form, ComputationForm::Refcast { .. })
-}
 
 /// Whether the machine has a rule for the form.
 pub fn form_is_built(form: &Form) -> bool
     ensures { result ≡ form_is_built form.now }
 {
-    match form {
-        Form::Computation(form) => computation_is_built(form),
-        Form::Control(_) => true,
-        _ => false,
-    }
+    matches!(
+        form,
+        Form::Computation(_) | Form::Control(_) | Form::Allocation(_) | Form::Addressing(_)
+    )
 }
 
 /// What a computation does.
@@ -37,8 +34,7 @@ fn compute(
     form: &ComputationForm,
     room: &mut Room,
 ) -> Result<Act, AllocError>
-    requires built { computation_is_built form.now ≡ true }
-    requires there { IsSome (computation_at code.now vars.now form.now) }
+    requires { IsSome (computation_at code.now vars.now form.now) }
     ensures { IfOk result (λ act. computation_at code.now vars.now form.now ≡ Some (asked act room.new.values.values room.new.types.members)) }
 {
     match form {
@@ -60,7 +56,7 @@ fn compute(
             to,
             operand,
         } => Ok(convert(code, vars, *op, *from, *to, *operand)),
-        ComputationForm::Refcast { .. } => unreachable!(),
+        ComputationForm::Refcast { to, operand, .. } => Ok(refcast(code, vars, *to, *operand)),
         ComputationForm::Select {
             condition,
             if_one,
@@ -120,8 +116,55 @@ fn go_on(
     }
 }
 
+/// What an instruction does that makes an object.
+fn make(code: &Checked, vars: &Variables, form: &AllocationForm) -> Act
+    requires { IsSome (allocation_at code.now vars.now form.now) }
+    ensures { (vs : List Value) (cs : List ℕ) → allocation_at code.now vars.now form.now ≡ Some (asked result vs cs) }
+{
+    match form {
+        AllocationForm::New { class } => Act::Makes { class: *class },
+        AllocationForm::Newhybrid {
+            class,
+            length_class,
+            length,
+        } => newhybrid(code, vars, *class, *length_class, *length),
+        AllocationForm::Alloca { class } => Act::MakesOwn { class: *class },
+    }
+}
+
+/// What an instruction does that finds a place.
+fn find(code: &Checked, vars: &Variables, form: &AddressingForm) -> Act
+    requires { IsSome (addressing_at code.now vars.now form.now) }
+    ensures { (vs : List Value) (cs : List ℕ) → addressing_at code.now vars.now form.now ≡ Some (asked result vs cs) }
+{
+    match form {
+        AddressingForm::Getiref { reference, .. } => getiref(code, vars, *reference),
+        AddressingForm::Getfieldiref {
+            class,
+            field,
+            location,
+        } => getfieldiref(code, vars, *class, *field, *location),
+        AddressingForm::Getelemiref {
+            class,
+            index_class,
+            location,
+            index,
+        } => getelemiref(code, vars, *class, *index_class, *location, *index),
+        AddressingForm::Shiftiref {
+            class,
+            offset_class,
+            location,
+            offset,
+        } => shiftiref(code, vars, *class, *offset_class, *location, *offset),
+        AddressingForm::Getvarpartiref { class, location } => getvarpartiref(
+            code, vars, *class, *location,
+        ),
+    }
+}
+
 /// What an instruction does, with the values of its block's variables, of which the classes are told. The values and classes that go
-/// with the act stand in the room, which is changed even where no memory is found.
+/// with the act stand in the room, which is changed even where no memory is found. A class that the act names is in the graph where that
+/// of the form is.
 pub fn decide(
     code: &Checked,
     types: &[u32],
@@ -131,11 +174,15 @@ pub fn decide(
 ) -> Result<Act, AllocError>
     requires built { form_is_built form.now ≡ true }
     requires there { IsSome (act_at code.now types.now vars.now form.now) }
-    ensures { IfOk result (λ act. act_at code.now types.now vars.now form.now ≡ Some (asked act room.new.values.values room.new.types.members)) }
+    requires classes { FormIsThere (bundle_tables code.now).types.definitions form.now }
+    ensures act { IfOk result (λ act. act_at code.now types.now vars.now form.now ≡ Some (asked act room.new.values.values room.new.types.members)) }
+    ensures classes { IfOk result (ActIsThere (bundle_tables code.now).types.definitions) }
 {
     match form {
         Form::Computation(form) => compute(code, vars, form, room),
         Form::Control(form) => go_on(code, types, vars, form, room),
+        Form::Allocation(form) => Ok(make(code, vars, form)),
+        Form::Addressing(form) => Ok(find(code, vars, form)),
         _ => unreachable!(),
     }
 }

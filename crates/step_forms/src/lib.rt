@@ -6,13 +6,18 @@ mod act;
 mod computing;
 mod control;
 mod deciding;
+mod laws;
+mod objects;
 mod operands;
 mod parts;
 mod room;
 mod variables;
+mod way;
 
 pub use act::Act;
 pub use deciding::{decide, form_is_built};
+pub use laws::forms_are_there;
 pub use operands::{push_value, read_classes, read_goal, read_kept, read_values, scalar};
 pub use room::Room;
 pub use variables::Variables;
+pub use way::Way;

@@ -1,0 +1,30 @@
+use Rattle.std.proofs.Common.{subst, []}
+use Rattle.code_check.specs.declared.code.Form.TheVariants as forms
+use Rattle.bundle_check.specs.Checking.{bundle_tables}
+use Rattle.step_forms.specs.Classes.{FormIsThere}
+use Rattle.step_forms.proofs.Classes.{act_is_there, decided_is_there}
+use Rattle.step_forms.proofs.deciding.decide.Goals as goal
+
+pub returns-in-Computation-clause-classes : goal.returns-in-Computation-clause-classes
+returns-in-Computation-clause-classes c =
+    let graph = (bundle_tables c.args.code.now).types.definitions in
+    let there = subst (FormIsThere graph) c.in-Computation.is c.requires.classes in
+    decided_is_there graph c.args.code.now c.args.types.now c.args.vars.now (forms.Computation c.in-Computation.form) c.compute.result _ _ there c.compute.ensures
+
+pub returns-in-Control-clause-classes : goal.returns-in-Control-clause-classes
+returns-in-Control-clause-classes c =
+    let graph = (bundle_tables c.args.code.now).types.definitions in
+    let there = subst (FormIsThere graph) c.in-Control.is c.requires.classes in
+    decided_is_there graph c.args.code.now c.args.types.now c.args.vars.now (forms.Control c.in-Control.form) c.go_on.result _ _ there c.go_on.ensures
+
+pub returns-in-Allocation-clause-classes : goal.returns-in-Allocation-clause-classes
+returns-in-Allocation-clause-classes c =
+    let graph = (bundle_tables c.args.code.now).types.definitions in
+    let there = subst (FormIsThere graph) c.in-Allocation.is c.requires.classes in
+    act_is_there graph c.args.code.now c.args.types.now c.args.vars.now (forms.Allocation c.in-Allocation.form) c.make.result [] [] there (c.make.ensures [] [])
+
+pub returns-in-Addressing-clause-classes : goal.returns-in-Addressing-clause-classes
+returns-in-Addressing-clause-classes c =
+    let graph = (bundle_tables c.args.code.now).types.definitions in
+    let there = subst (FormIsThere graph) c.in-Addressing.is c.requires.classes in
+    act_is_there graph c.args.code.now c.args.types.now c.args.vars.now (forms.Addressing c.in-Addressing.form) c.find.result [] [] there (c.find.ensures [] [])
