@@ -1,2 +1,5 @@
 pub mod Elements
 pub mod Grammatical
+pub mod InsideLoops
+pub mod EntryLoops
+pub mod TokenJudging

@@ -6,3 +6,6 @@ pub mod Meaning
 pub mod Texts
 pub mod Judged
 pub mod Laws
+pub mod Samples
+pub mod Examples
+pub mod FaultExamples
