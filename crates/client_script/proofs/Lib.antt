@@ -3,3 +3,5 @@ pub mod Grammatical
 pub mod InsideLoops
 pub mod EntryLoops
 pub mod TokenJudging
+pub mod FirstUnmet
+pub mod Answering

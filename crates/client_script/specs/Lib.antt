@@ -5,6 +5,7 @@ pub mod Demands
 pub mod Meaning
 pub mod Texts
 pub mod Judged
+pub mod ScriptAnswers
 pub mod Laws
 pub mod Samples
 pub mod Examples

@@ -34,11 +34,7 @@ fn alone(alloc: Global, scalar: Scalar) -> Result<Listing<Scalar>, AllocError>
 }
 
 /// The value of a constant, a global or a function.
-fn scalars(
-    alloc: Global,
-    code: &Checked,
-    sort: Option<Sort>,
-) -> Result<Listing<Scalar>, AllocError>
+fn scalars(alloc: Global, code: &Checked, sort: Option<Sort>) -> Result<Listing<Scalar>, AllocError>
     requires { IsSome (global_class (bundle_tables code.now) sort) }
     ensures { IfOk result (λ value. global_value code.now sort ≡ Some value) }
 {
