@@ -11,7 +11,6 @@ use Rattle.ir_tree.specs.Lists.{globals}
 use Rattle.bundle_names.specs.declared.globals.Sort.{Sort}
 use Rattle.client_script.specs.declared.fault.ScriptKind.{ScriptKind}
 use Rattle.client_script.specs.Demands.{token_demand, token_demands}
-use Rattle.client_script.specs.Texts.{tokens_before}
 use Rattle.client_script.specs.Judged.{is_before, judged_tokens}
 
 -- what is judged from here on

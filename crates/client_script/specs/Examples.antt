@@ -1,5 +1,5 @@
 -- Worked examples: what texts of scripts mean, each action and each reply once.
-use Rattle.std.specs.Prelude.{◌≡◌, refl, true, false, List, [], ◌∷◌, codes}
+use Rattle.std.specs.Prelude.{◌≡◌, refl, true, false, [], ◌∷◌, codes}
 use Rattle.type_laws.specs.Same.{alike}
 use Rattle.type_laws.specs.Leaves.{leaves_to}
 use Rattle.bundle_constants.specs.Values.{values_to}
