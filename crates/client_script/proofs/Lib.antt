@@ -5,3 +5,4 @@ pub mod EntryLoops
 pub mod TokenJudging
 pub mod FirstUnmet
 pub mod Answering
+pub mod ToldValues

@@ -1,5 +1,5 @@
 //! Laws of the grammar: each function is proved, and does nothing.
-ghost use Rattle.client_script.specs.Laws.{ScriptIsGrammar};
+ghost use Rattle.client_script.specs.Laws.{ScriptIsGrammar, ValuesAreTold};
 ghost use Rattle.client_script.specs.ScriptAnswers.{TextsAreAnswered};
 
 /// A script is read with one token of look-ahead: the next token always decides how it goes on. So a text has one script, or one first
@@ -13,4 +13,9 @@ pub fn script_is_grammar()
 /// good.
 pub fn texts_are_answered()
     ensures { TextsAreAnswered }
+{}
+
+/// In a bundle that is accepted each name that may stand in a script has a class and a value, and no other name has them.
+pub fn values_are_told()
+    ensures { ValuesAreTold }
 {}
