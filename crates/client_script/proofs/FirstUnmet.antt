@@ -63,7 +63,7 @@ front_by : (place : ℕ) (t : Tok) (before us : List Tok) → Front place us bef
 front_by place t before us f true h = record { rest = f.rest; is = rw h (ap (λ (x : List Tok). t ∷ x) f.is) }
 front_by place t before us f false h = record { rest = t ∷ before; is = rw h refl }
 
-not_below : (n : ℕ) → nat_lt n n ≡ false
+pub not_below : (n : ℕ) → nat_lt n n ≡ false
 not_below n = grind arith
 
 pub front_is : (place : ℕ) (before after : List Tok) (here : Tok) → place ≡ here.place → Front place (before ++ here ∷ after) before

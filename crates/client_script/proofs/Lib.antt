@@ -5,4 +5,6 @@ pub mod EntryLoops
 pub mod TokenJudging
 pub mod FirstUnmet
 pub mod Answering
+pub mod Limitless
+pub mod OneAnswer
 pub mod ToldValues

@@ -1,5 +1,5 @@
 -- To believe: which answer a text has, in the words of the grammar.
-use Rattle.std.specs.Prelude.{◌≡◌, ℕ, List, [], ◌∷◌, ◌++◌, Option, Some, None, Result, Ok, Err}
+use Rattle.std.specs.Prelude.{◌≡◌, ℕ, List, [], ◌∷◌, ◌++◌, Option, Some, None, Result, Ok, Err, ◌↔◌}
 use Rattle.text_forms.specs.declared.fault.Fault.{Fault}
 use Rattle.text_forms.specs.Tokens.{Tok}
 use Rattle.text_forms.specs.Derives.{Derives}
@@ -52,3 +52,7 @@ script_answer bundle bytes = answer_by (first_unmet (script_demands bundle bytes
 -- what is computed is an answer of the text
 abbrev pub TextsAreAnswered : Type 0
 TextsAreAnswered = (bundle : List Item) (bytes : List ℕ) → IsAnswer bundle bytes (script_answer bundle bytes)
+
+-- and it is the only one
+abbrev pub AnswerIsOne : Type 0
+AnswerIsOne = (bundle : List Item) (bytes : List ℕ) (r : Answer) → IsAnswer bundle bytes r ↔ (script_answer bundle bytes ≡ r)

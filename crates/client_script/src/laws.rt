@@ -1,6 +1,6 @@
 //! Laws of the grammar: each function is proved, and does nothing.
 ghost use Rattle.client_script.specs.Laws.{ScriptIsGrammar, ValuesAreTold};
-ghost use Rattle.client_script.specs.ScriptAnswers.{TextsAreAnswered};
+ghost use Rattle.client_script.specs.ScriptAnswers.{TextsAreAnswered, AnswerIsOne};
 
 /// A script is read with one token of look-ahead: the next token always decides how it goes on. So a text has one script, or one first
 /// fault of its grammar.
@@ -13,6 +13,11 @@ pub fn script_is_grammar()
 /// good.
 pub fn texts_are_answered()
     ensures { TextsAreAnswered }
+{}
+
+/// The two say the same, so a text has one answer.
+pub fn answer_is_one()
+    ensures { AnswerIsOne }
 {}
 
 /// In a bundle that is accepted each name that may stand in a script has a class and a value, and no other name has them.

@@ -12,7 +12,7 @@ mod told;
 mod tree;
 
 pub use fault::{ScriptFault, ScriptKind};
-pub use laws::{script_is_grammar, texts_are_answered, values_are_told};
+pub use laws::{answer_is_one, script_is_grammar, texts_are_answered, values_are_told};
 pub use reading::read_script;
 pub use script::Script;
 pub use tree::{Action, Argument, Entry, Reply, With};
