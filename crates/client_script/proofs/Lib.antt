@@ -1,0 +1,10 @@
+pub mod Elements
+pub mod Grammatical
+pub mod InsideLoops
+pub mod EntryLoops
+pub mod TokenJudging
+pub mod FirstUnmet
+pub mod Answering
+pub mod Limitless
+pub mod OneAnswer
+pub mod ToldValues

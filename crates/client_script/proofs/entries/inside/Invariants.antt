@@ -1,0 +1,11 @@
+use Rattle.std.proofs.Common.{◌≡◌, length}
+use Rattle.text_forms.specs.Reading.{read}
+use Rattle.client_script.specs.Grammar.{inside}
+use Rattle.client_script.proofs.InsideLoops.{so_far}
+use Rattle.client_script.proofs.entries.inside.Given as goal
+
+abbrev pub invariant-each : goal.invariant-each
+invariant-each l = so_far l.code l.actions l.cursor ≡ read (inside l.code) l.fn.cursor
+
+abbrev pub decreases-each : goal.decreases-each
+decreases-each l = length l.cursor

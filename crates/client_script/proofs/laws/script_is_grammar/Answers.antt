@@ -1,0 +1,5 @@
+use Rattle.client_script.proofs.Grammatical.{is_grammar}
+use Rattle.client_script.proofs.laws.script_is_grammar.Goals as goal
+
+pub returns : goal.returns
+returns c = is_grammar

@@ -1,0 +1,12 @@
+pub mod Numbers
+pub mod Told
+pub mod Grammar
+pub mod Demands
+pub mod Meaning
+pub mod Texts
+pub mod Judged
+pub mod ScriptAnswers
+pub mod Laws
+pub mod Samples
+pub mod Examples
+pub mod FaultExamples

@@ -1,0 +1,58 @@
+//! The entries of a script.
+ghost use Rattle.text_forms.specs.Reading.{read, whole};
+ghost use Rattle.text_forms.specs.Answers.{Gives, GivesAll};
+ghost use Rattle.client_script.specs.Grammar.{inside, entry, script};
+
+use crate::parts::{action, reply};
+use crate::tree::Entry;
+use bundle_check::Checked;
+use ir_lex::Cursor;
+use std::alloc::Global;
+use text_forms::{Listing, ReadError, Symbol};
+
+/// The words that replies begin with.
+const REPLIES: [Symbol; 5] = [
+    Symbol::Pass,
+    Symbol::ThrowReply,
+    Symbol::Rebind,
+    Symbol::Exit,
+    Symbol::Stop,
+];
+
+/// `action* reply`
+fn inside(cursor: &mut Cursor, alloc: Global, code: &Checked) -> Result<Entry, ReadError>
+    ensures { Gives result cursor.new (read (inside code.now) cursor.old) }
+{
+    let mut actions = Listing::new(alloc);
+    'each: while !cursor.at_any(&REPLIES) {
+        actions.push(action(cursor)?)?;
+    }
+    let reply = reply(cursor, alloc, code)?;
+    Ok(Entry { actions, reply })
+}
+
+/// `{ action* reply }`
+#[tactic(auto, unfolding(crate::specs::Grammar::entry))]
+fn entry(cursor: &mut Cursor, alloc: Global, code: &Checked) -> Result<Entry, ReadError>
+    ensures { Gives result cursor.new (read (entry code.now) cursor.old) }
+{
+    cursor.mark(Symbol::BraceOpen)?;
+    let entry = inside(cursor, alloc, code)?;
+    cursor.mark(Symbol::BraceClose)?;
+    Ok(entry)
+}
+
+/// The entries up to the end of the text.
+pub fn entries(
+    cursor: &mut Cursor,
+    alloc: Global,
+    code: &Checked,
+) -> Result<Listing<Entry>, ReadError>
+    ensures { GivesAll result (whole (script code.now) cursor.old) }
+{
+    let mut entries = Listing::new(alloc);
+    'each: while !cursor.at(Symbol::End) {
+        entries.push(entry(cursor, alloc, code)?)?;
+    }
+    Ok(entries)
+}

@@ -1,0 +1,18 @@
+//! The script of a client: what answers the traps of a run.
+#![tactic(auto)]
+
+mod entries;
+mod fault;
+mod judging;
+mod laws;
+mod parts;
+mod reading;
+mod script;
+mod told;
+mod tree;
+
+pub use fault::{ScriptFault, ScriptKind};
+pub use laws::{answer_is_one, script_is_grammar, texts_are_answered, values_are_told};
+pub use reading::read_script;
+pub use script::Script;
+pub use tree::{Action, Argument, Entry, Reply, With};

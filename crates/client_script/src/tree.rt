@@ -1,0 +1,52 @@
+// A script as it is read: a name is what it stands for in the bundle.
+use mu_values::Scalar;
+use text_forms::Listing;
+
+/// A value that a script gives.
+#[derive(Drop)]
+pub enum Argument {
+    /// A constant, a global or a function: the class of its type, and its scalars
+    Told { class: u32, value: Listing<Scalar> },
+    /// A kept value of a frame, by the numbers of the frame, where 0 is the top, and of the value
+    KeptValue { frame: u32, value: u32 },
+}
+
+/// What an entry does before its reply.
+#[derive(Clone, Copy, Debug, PartialEq, Eq)]
+pub enum Action {
+    /// Records all frames from the top
+    TellFrames,
+    /// Records the kept values of a frame
+    TellKept(u32),
+    /// Enables a watchpoint, or disables it
+    Watch { watchpoint: u32, enabled: bool },
+}
+
+/// What a stack is entered with.
+#[derive(Drop)]
+pub enum With {
+    /// Values
+    Pass(Listing<Argument>),
+    /// An exception
+    Throw(Argument),
+}
+
+/// How an entry ends.
+#[derive(Drop)]
+pub enum Reply {
+    /// The trapped stack is entered
+    Resume(With),
+    /// Another stack is entered
+    Rebind { stack: Argument, with: With },
+    /// The thread ends
+    Exit,
+    /// The run ends
+    Stop,
+}
+
+/// What answers one trap.
+#[derive(Drop)]
+pub struct Entry {
+    pub actions: Listing<Action>,
+    pub reply: Reply,
+}
