@@ -1,5 +1,4 @@
--- Inner: nothing that a reader believes of a run rests on this. It is for which forms of instructions a machine over checked code has
--- a rule.
+-- To believe: the forms of instructions that the machine has rules for so far.
 use Rattle.std.specs.Prelude.{Bool, true, false}
 use Rattle.code_check.specs.declared.code.Form.{Form}
 use Rattle.code_check.specs.declared.code.Form.TheVariants as forms
