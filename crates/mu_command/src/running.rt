@@ -166,7 +166,14 @@ fn write_steps<S: Sink>(
 
 // Runs a function, and writes the lines of the run and its ending.
 #[tactic(auto, using(crate::proofs::InSteps::running))]
-fn write_run<S: Sink>(alloc: Global, out: &mut S, code: &Checked, entry: u32, budget: u32, cells: u32) -> Status
+fn write_run<S: Sink>(
+    alloc: Global,
+    out: &mut S,
+    code: &Checked,
+    entry: u32,
+    budget: u32,
+    cells: u32,
+) -> Status
     requires { IsRunnable code.now entry budget cells }
     ensures writes { Writes (run_answer code.now (run_of code.now entry budget cells)) (S.written out.old) (S.written out.new) (S.ends out.old) (S.ends out.new) result }
     ensures never_falls { S.faults out.old ≤ S.faults out.new }
