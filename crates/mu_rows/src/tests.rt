@@ -242,7 +242,9 @@ fn counts_cells(rt: HostRuntime) -> Result<(), Fail> {
     each_answers_behind(&rt, rt.alloc(), enough, &ENOUGH_CELLS)?;
     let too_few = &["run", "b", "--entry", "@main", "--cells", "2"];
     each_answers_behind(&rt, rt.alloc(), too_few, &TOO_FEW_CELLS)?;
-    let without = &["run", "b", "--entry", "@main", "--steps", "10", "--cells", "0"];
+    let without = &[
+        "run", "b", "--entry", "@main", "--steps", "10", "--cells", "0",
+    ];
     each_answers_behind(&rt, rt.alloc(), without, &WITHOUT_CELLS)?;
     Ok(())
 }
