@@ -20,9 +20,9 @@ use Rattle.mu_command.specs.Central.{Answered, OfJob, IsAccepted}
 asking : (words : List (List ℕ)) (job : Job) (bytes : List ℕ) → StopsShort (asked words job bytes)
 asking words (Check file) bytes = then (accepted bytes) (λ code. Ok ready.Accepted) (accepting bytes) (λ code. tt)
 asking words (Print file) bytes = then (as_written bytes) (λ bundle. Ok (ready.Canonical bundle)) (writing bytes) (λ bundle. tt)
-asking words (Run file name budget) bytes =
-    then (accepted bytes >>= built) (λ code. entered code (word words name) >>= λ n. Ok (ready.Entered code n budget)) (building bytes)
-    (λ code. then (entered code (word words name)) (λ n. Ok (ready.Entered code n budget)) (entering_named code (word words name)) (λ n. tt))
+asking words (Run file name budget cells) bytes =
+    then (accepted bytes >>= built) (λ code. entered code (word words name) >>= λ n. Ok (ready.Entered code n budget cells)) (building bytes)
+    (λ code. then (entered code (word words name)) (λ n. Ok (ready.Entered code n budget cells)) (entering_named code (word words name)) (λ n. tt))
 
 -- the same status is one of these too
 ends : (s t : Status) → s ≡ t → is_end t ≡ true → is_end s ≡ true

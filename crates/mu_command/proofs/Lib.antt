@@ -6,3 +6,4 @@ pub mod Accepting
 pub mod Causes
 pub mod InSteps
 pub mod Beginning
+pub mod Reading

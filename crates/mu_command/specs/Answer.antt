@@ -17,11 +17,11 @@ fetched what (got bytes) = Ok bytes
 fetched what failed = Err (line (codes "read fault " ++ name_of what) ReadFault)
 fetched what too_long = Err (line (codes "too long " ++ name_of what) TooLong)
 
--- what a job asks of the bundle's text is what its command asks; a run is to begin with the function that a word names, and makes so many steps at most
+-- what a job asks of the bundle's text is what its command asks; a run is to begin with the function that a word names, and makes so many steps and cells at most
 abbrev pub asked : List (List ℕ) → Job → List ℕ → Part Ready
 asked words (Check file) bytes = for_check bytes
 asked words (Print file) bytes = for_print bytes
-asked words (Run file name budget) bytes = for_run bytes (word words name) budget
+asked words (Run file name budget cells) bytes = for_run bytes (word words name) budget cells
 
 -- what is found on the way: the bundle's file, and what the job asks of it
 abbrev pub found : List (List ℕ) → Job → Outcome → Part Ready

@@ -10,17 +10,42 @@ use Rattle.mu_command.specs.Answer.{answer_of}
 abbrev words : List (List ℕ)
 words = codes "run" ∷ codes "b" ∷ codes "--entry" ∷ codes "@main" ∷ []
 
-a_run : job_of words ≡ Some (Run 1 3 200000)
+a_run : job_of words ≡ Some (Run 1 3 200000 100000)
 unfolding job_of
 a_run = refl
 
-fewer_steps : job_of (codes "run" ∷ codes "b" ∷ codes "--steps" ∷ codes "007" ∷ codes "--entry" ∷ codes "@main" ∷ []) ≡ Some (Run 1 5 7)
+fewer_steps : job_of (codes "run" ∷ codes "b" ∷ codes "--steps" ∷ codes "007" ∷ codes "--entry" ∷ codes "@main" ∷ []) ≡ Some (Run 1 5 7 100000)
 unfolding job_of
 fewer_steps = refl
 
 too_many_steps : job_of (codes "run" ∷ codes "b" ∷ codes "--entry" ∷ codes "@main" ∷ codes "--steps" ∷ codes "1000001" ∷ []) ≡ None
 unfolding job_of
 too_many_steps = refl
+
+fewer_cells : job_of (codes "run" ∷ codes "b" ∷ codes "--cells" ∷ codes "0" ∷ codes "--entry" ∷ codes "@main" ∷ codes "--steps" ∷ codes "12" ∷ []) ≡ Some (Run 1 5 12 0)
+unfolding job_of
+fewer_cells = refl
+
+more_cells : job_of (codes "run" ∷ codes "b" ∷ codes "--entry" ∷ codes "@main" ∷ codes "--cells" ∷ codes "1000000" ∷ []) ≡ Some (Run 1 3 200000 1000000)
+unfolding job_of
+more_cells = refl
+
+too_many_cells : job_of (codes "run" ∷ codes "b" ∷ codes "--entry" ∷ codes "@main" ∷ codes "--cells" ∷ codes "1000001" ∷ []) ≡ None
+unfolding job_of
+too_many_cells = refl
+
+-- the value of an option is the next word, whatever it is
+a_name_like_an_option : job_of (codes "run" ∷ codes "b" ∷ codes "--entry" ∷ codes "--cells" ∷ codes "--cells" ∷ codes "3" ∷ []) ≡ Some (Run 1 3 200000 3)
+unfolding job_of
+a_name_like_an_option = refl
+
+twice : job_of (codes "run" ∷ codes "b" ∷ codes "--cells" ∷ codes "3" ∷ codes "--entry" ∷ codes "@main" ∷ codes "--cells" ∷ codes "3" ∷ []) ≡ None
+unfolding job_of
+twice = refl
+
+no_value : job_of (codes "run" ∷ codes "b" ∷ codes "--entry" ∷ codes "@main" ∷ codes "--cells" ∷ []) ≡ None
+unfolding job_of
+no_value = refl
 
 no_entry : job_of (codes "run" ∷ codes "b" ∷ []) ≡ None
 unfolding job_of
@@ -33,8 +58,8 @@ another_command = refl
 usage : answer_of words None (λ _. got []) ≡ record { pieces = codes "usage\n" ∷ []; status = Usage }
 usage = refl
 
-no_such_file : answer_of words (Some (Run 1 3 200000)) (λ _. failed) ≡ record { pieces = codes "read fault bundle\n" ∷ []; status = ReadFault }
+no_such_file : answer_of words (Some (Run 1 3 200000 100000)) (λ _. failed) ≡ record { pieces = codes "read fault bundle\n" ∷ []; status = ReadFault }
 no_such_file = refl
 
-a_long_file : answer_of words (Some (Run 1 3 200000)) (λ _. too_long) ≡ record { pieces = codes "too long bundle\n" ∷ []; status = TooLong }
+a_long_file : answer_of words (Some (Run 1 3 200000 100000)) (λ _. too_long) ≡ record { pieces = codes "too long bundle\n" ∷ []; status = TooLong }
 a_long_file = refl

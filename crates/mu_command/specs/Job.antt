@@ -1,7 +1,9 @@
 -- What the words of a command line ask for, and the files of that.
-use Rattle.std.specs.Prelude.{ℕ, ◌+◌, ◌-◌, ◌*◌, ◌<◌, Bool, nat_eq, nat_le, List, [], ◌∷◌, length, Option, None, Some, codes, bytes_eq, if◌then◌else◌, ◌&&◌, slice_index_or}
+use Rattle.std.specs.Prelude.{ℕ, ◌+◌, ◌-◌, ◌*◌, ◌<◌, Bool, nat_eq, nat_le, List, [], ◌∷◌, length, Option, None, Some, codes, bytes_eq, if◌then◌else◌, ◌&&◌, drop, slice_index_or}
+use Rattle.std.specs.Option.{unwrap_or, option_map, option_and_then}
 use Rattle.mu_command.specs.declared.job.Job.{Job}
 use Rattle.mu_command.specs.declared.job.Job.TheVariants.{Check, Print, Run}
+use Rattle.mu_command.specs.declared.options.Options.{Options}
 use Rattle.mu_texts.specs.declared.what.What.{What}
 use Rattle.mu_texts.specs.declared.what.What.TheVariants.{Bundle}
 
@@ -35,31 +37,64 @@ usual_steps = 200000
 abbrev pub most_steps : ℕ
 most_steps = 1000000
 
-abbrev pub file_job : List (List ℕ) → Option Job
-file_job words = if is_word words 0 (codes "check") then Some (Check 1) else (if is_word words 0 (codes "print") then Some (Print 1) else None)
+-- how many cells it may make beside those of the globals where no word says it, and how many a word may say
+abbrev pub usual_cells : ℕ
+usual_cells = 100000
 
-abbrev pub run_job : ℕ → Option ℕ → Option Job
-run_job entry None = None
-run_job entry (Some budget) = Some (Run 1 entry budget)
+abbrev pub most_cells : ℕ
+most_cells = 1000000
 
--- the options of a run, in any order
-abbrev pub stepped_job : List (List ℕ) → Option Job
-stepped_job words =
-    if is_word words 2 (codes "--entry") && is_word words 4 (codes "--steps") then run_job 3 (number_up_to most_steps (word words 5))
-    else (if is_word words 2 (codes "--steps") && is_word words 4 (codes "--entry") then run_job 5 (number_up_to most_steps (word words 3)) else None)
+-- ---- the options of a run
 
--- `check FILE`, `print FILE` and `run FILE --entry NAME [--steps N]`, whose options come in any order; all other words ask for nothing
+abbrev pub no_options : Options
+no_options = record { entry = None; steps = None; cells = None }
+
+-- the value of an option that was given before or not, and is given now
+abbrev pub given_once : {A : Type 0} → Option A → Option A → Option A
+given_once None value = value
+given_once (Some earlier) value = None
+
+abbrev pub with_entry : Options → Option ℕ → Option Options
+with_entry options value = option_map (λ n. record options { entry = Some n }) (given_once options.entry value)
+
+abbrev pub with_steps : Options → Option ℕ → Option Options
+with_steps options value = option_map (λ n. record options { steps = Some n }) (given_once options.steps value)
+
+abbrev pub with_cells : Options → Option ℕ → Option Options
+with_cells options value = option_map (λ n. record options { cells = Some n }) (given_once options.cells value)
+
+-- the options with one more, of that name; its value is the word with number n
+abbrev pub with_option : Options → List ℕ → ℕ → List ℕ → Option Options
+with_option options name n value =
+    if bytes_eq name (codes "--entry") then with_entry options (Some n)
+    else (if bytes_eq name (codes "--steps") then with_steps options (number_up_to most_steps value)
+    else (if bytes_eq name (codes "--cells") then with_cells options (number_up_to most_cells value) else None))
+
+-- the options with those of all these words, the first of which has number n: names, each with its value behind it
+abbrev pub with_all : Options → ℕ → List (List ℕ) → Option Options
+with_all options n [] = Some options
+with_all options n (name ∷ []) = None
+with_all options n (name ∷ value ∷ words) = option_and_then (λ more. with_all more (n + 2) words) (with_option options name (n + 1) value)
+
+-- ---- jobs
+
+-- the run of the file that word 1 names
+abbrev pub run_with : Options → Option Job
+run_with options = option_map (λ entry. Run 1 entry (unwrap_or options.steps usual_steps) (unwrap_or options.cells usual_cells)) options.entry
+
+-- `check FILE`, `print FILE`, and `run FILE` with options in any order, each at most once: `--entry NAME`, which is required,
+-- `--steps N` and `--cells N`; all other words ask for nothing
 unfoldable pub job_of : List (List ℕ) → Option Job
 job_of words =
-    if nat_eq (length words) 2 then file_job words
-    else (if nat_eq (length words) 4 && is_word words 0 (codes "run") then (if is_word words 2 (codes "--entry") then Some (Run 1 3 usual_steps) else None)
-    else (if nat_eq (length words) 6 && is_word words 0 (codes "run") then stepped_job words else None))
+    if nat_eq (length words) 2 && is_word words 0 (codes "check") then Some (Check 1)
+    else (if nat_eq (length words) 2 && is_word words 0 (codes "print") then Some (Print 1)
+    else (if nat_le 2 (length words) && is_word words 0 (codes "run") then option_and_then run_with (with_all no_options 2 (drop 2 words)) else None))
 
 -- the word that names the bundle
 abbrev pub bundle_word : Job → ℕ
 bundle_word (Check file) = file
 bundle_word (Print file) = file
-bundle_word (Run file entry budget) = file
+bundle_word (Run file entry budget cells) = file
 
 -- the word that names a file of the job, where the job has that file
 abbrev pub file_of : Job → What → Option ℕ
@@ -69,4 +104,4 @@ file_of job Bundle = Some (bundle_word job)
 abbrev pub AreThere : List (List ℕ) → Job → Type 0
 AreThere words (Check file) = file < length words
 AreThere words (Print file) = file < length words
-AreThere words (Run file entry budget) = (file < length words) × (entry < length words)
+AreThere words (Run file entry budget cells) = (file < length words) × (entry < length words)

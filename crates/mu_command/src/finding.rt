@@ -21,7 +21,12 @@ fn judge(alloc: Global, words: &Words, job: Job, bytes: &[u8]) -> Result<Ready, 
     match job {
         Job::Check { .. } => judge_for_check(alloc, bytes),
         Job::Print { .. } => judge_for_print(alloc, bytes),
-        Job::Run { entry, budget, .. } => judge_for_run(alloc, bytes, words.word(entry), budget),
+        Job::Run {
+            entry,
+            budget,
+            cells,
+            ..
+        } => judge_for_run(alloc, bytes, words.word(entry), budget, cells),
     }
 }
 

@@ -12,11 +12,13 @@ pub enum Job {
     Print {
         file: usize,
     },
-    /// Runs the bundle in a file, from the function with that name. The run may make so many steps.
+    /// Runs the bundle in a file, from the function with that name. The run may make so many steps,
+    /// and so many cells beside those of the globals.
     Run {
         file: usize,
         entry: usize,
         budget: u32,
+        cells: u32,
     },
 }
 

@@ -4,6 +4,7 @@
 mod finding;
 mod job;
 mod loading;
+mod options;
 mod program;
 mod running;
 mod words;

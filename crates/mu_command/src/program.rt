@@ -38,8 +38,9 @@ fn answer<I: Inputs, S: Sink>(alloc: Global, words: &Words, inputs: &mut I, out:
 ///
 /// - `check FILE`: the bundle in the file is read and checked; `ok` is written.
 /// - `print FILE`: it is read, and written as its canonical text.
-/// - `run FILE --entry NAME [--steps N]`: it is read, checked, and run from the function with that name, for N steps at most; the text of
-///   the run is written. The options come in any order, N is at most 1,000,000, and where it is not given 200,000.
+/// - `run FILE --entry NAME [--steps N] [--cells N]`: it is read, checked, and run from the function with that name, for so many steps at
+///   most, and so many cells beside those of the globals; the text of the run is written. The options come in any order. Each N is at
+///   most 1,000,000; where they are not given there are 200,000 steps and 100,000 cells.
 ///
 /// Else one line is written that names the first fault of what was given. After every status a prefix of the text was written;
 /// after each but `SinkFault` and `Memory` it is the whole text.

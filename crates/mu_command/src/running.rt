@@ -26,9 +26,6 @@ use mu_texts::Ready;
 use run_print::{ending_status, ending_text, lines_text};
 use std::alloc::{AllocError, Global};
 
-// How many cells a run may make beside those of the globals.
-const CELL_LIMIT: u32 = 100_000;
-
 // Puts a text in one piece; a put that fails gives the status that goes with it.
 fn put<S: Sink>(out: &mut S, text: &[u8]) -> Result<(), Status>
     ensures whole { OnOk result (PutsWhole text.now (S.written out.old) (S.written out.new) (S.ends out.old) (S.ends out.new)) }
@@ -169,13 +166,20 @@ fn write_steps<S: Sink>(
 
 // Runs a function, and writes the lines of the run and its ending.
 #[tactic(auto, using(crate::proofs::InSteps::running))]
-fn write_run<S: Sink>(alloc: Global, out: &mut S, code: &Checked, entry: u32, budget: u32) -> Status
-    requires { IsRunnable code.now entry budget }
-    ensures writes { Writes (run_answer code.now (run_of code.now entry budget)) (S.written out.old) (S.written out.new) (S.ends out.old) (S.ends out.new) result }
+fn write_run<S: Sink>(
+    alloc: Global,
+    out: &mut S,
+    code: &Checked,
+    entry: u32,
+    budget: u32,
+    cells: u32,
+) -> Status
+    requires { IsRunnable code.now entry budget cells }
+    ensures writes { Writes (run_answer code.now (run_of code.now entry budget cells)) (S.written out.old) (S.written out.new) (S.ends out.old) (S.ends out.new) result }
     ensures never_falls { S.faults out.old ≤ S.faults out.new }
     ensures fault { result ≡ Status.SinkFault → Rose (S.faults out.old) (S.faults out.new) }
 {
-    match Machine::new(alloc, code, entry, CELL_LIMIT, budget) {
+    match Machine::new(alloc, code, entry, cells, budget) {
         Ok(mut machine) => write_steps(alloc, out, code, &mut machine, budget as u64 + 1),
         Err(_) => Status::Memory,
     }
@@ -211,6 +215,7 @@ pub fn write<S: Sink>(alloc: Global, ready: &Ready, out: &mut S) -> Status
             code,
             entry,
             budget,
-        } => write_run(alloc, out, code, *entry, *budget),
+            cells,
+        } => write_run(alloc, out, code, *entry, *budget, *cells),
     }
 }

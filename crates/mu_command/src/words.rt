@@ -1,8 +1,9 @@
 // Reads the words of the command line.
-ghost use Rattle.std.specs.Prelude.{◌≡◌, IfSome, length};
-ghost use Rattle.mu_command.specs.Job.{is_digit, digits_up_to, number_up_to, stepped_job, job_of, AreThere};
+ghost use Rattle.std.specs.Prelude.{◌≡◌, ◌+◌, ◌<◌, ◌≤◌, IfSome, length, drop};
+ghost use Rattle.mu_command.specs.Job.{word, is_digit, digits_up_to, number_up_to, no_options, with_option, with_all, run_with, job_of, AreThere};
 
-use crate::Job;
+use crate::job::Job;
+use crate::options::Options;
 use mu_base::Words;
 
 // How many steps a run may make where no word says it.
@@ -10,6 +11,12 @@ const USUAL_STEPS: u32 = 200_000;
 
 // How many steps a word may say.
 const MOST_STEPS: u32 = 1_000_000;
+
+// How many cells a run may make beside those of the globals where no word says it.
+const USUAL_CELLS: u32 = 100_000;
+
+// How many cells a word may say.
+const MOST_CELLS: u32 = 1_000_000;
 
 fn is_digit(byte: u8) -> bool
     ensures { result ≡ is_digit byte }
@@ -48,54 +55,77 @@ fn number_up_to(limit: u32, text: &[u8]) -> Option<u32>
     }
 }
 
-// A run with both options.
-fn stepped_job(words: &Words) -> Option<Job>
-    requires { length words.now ≡ 6 }
-    ensures job { result ≡ stepped_job words.now }
-    ensures there { IfSome result (AreThere words.now) }
+// The options with one more, of that name; its value is the word with number n.
+fn with_option(words: &Words, options: Options, name: &str, n: usize) -> Option<Options>
+    requires value { n < length words.now }
+    requires there { IfSome options.entry (λ e. e < length words.now) }
+    ensures more { result ≡ with_option options name.now n (word words.now n) }
+    ensures there { IfSome result (λ more. IfSome more.entry (λ e. e < length words.now)) }
 {
-    let (entry, steps) = if words.word(2) == "--entry" && words.word(4) == "--steps" {
-        (3, 5)
-    } else if words.word(2) == "--steps" && words.word(4) == "--entry" {
-        (5, 3)
+    let value = words.word(n);
+    if name == "--entry" {
+        options.with_entry(Some(n))
+    } else if name == "--steps" {
+        options.with_steps(number_up_to(MOST_STEPS, value.as_bytes()))
+    } else if name == "--cells" {
+        options.with_cells(number_up_to(MOST_CELLS, value.as_bytes()))
     } else {
-        return None;
-    };
-    let budget = number_up_to(MOST_STEPS, words.word(steps).as_bytes())?;
+        None
+    }
+}
+
+// All options behind the file.
+#[tactic(auto, using(crate::proofs::Reading::reading))]
+fn all_options(words: &Words) -> Option<Options>
+    requires { 2 ≤ length words.now }
+    ensures all { result ≡ with_all no_options 2 (drop 2 words.now) }
+    ensures there { IfSome result (λ options. IfSome options.entry (λ e. e < length words.now)) }
+{
+    let count = words.len();
+    let mut options = Options::none();
+    let mut n = 2;
+    'each: while n < count {
+        if n + 1 == count {
+            return None;
+        }
+        match with_option(words, options, words.word(n), n + 1) {
+            Some(more) => options = more,
+            None => return None,
+        }
+        n += 2;
+    }
+    Some(options)
+}
+
+// The run with these options.
+fn run_with(options: Options) -> Option<Job>
+    ensures { result ≡ run_with options }
+{
+    let entry = options.entry?;
     Some(Job::Run {
         file: 1,
         entry,
-        budget,
+        budget: options.steps.unwrap_or(USUAL_STEPS),
+        cells: options.cells.unwrap_or(USUAL_CELLS),
     })
 }
 
-/// What the words ask for: `check FILE`, `print FILE` or `run FILE --entry NAME [--steps N]`, whose options come in any order. None
-/// exactly where they are no such words. It takes no memory.
+/// What the words ask for: `check FILE`, `print FILE`, or `run FILE` with options in any order, each at most once: `--entry NAME`,
+/// which is required, `--steps N` and `--cells N`. None exactly where they are no such words. It takes no memory.
 #[tactic(auto, unfolding(crate::specs::Job::job_of))]
 pub fn read_words(words: &Words) -> Option<Job>
     ensures job { result ≡ job_of words.now }
     ensures there { IfSome result (AreThere words.now) }
 {
-    if words.len() == 2 {
-        if words.word(0) == "check" {
-            Some(Job::Check { file: 1 })
-        } else if words.word(0) == "print" {
-            Some(Job::Print { file: 1 })
-        } else {
-            None
+    if words.len() == 2 && words.word(0) == "check" {
+        Some(Job::Check { file: 1 })
+    } else if words.len() == 2 && words.word(0) == "print" {
+        Some(Job::Print { file: 1 })
+    } else if 2 <= words.len() && words.word(0) == "run" {
+        match all_options(words) {
+            Some(options) => run_with(options),
+            None => None,
         }
-    } else if words.len() == 4 && words.word(0) == "run" {
-        if words.word(2) == "--entry" {
-            Some(Job::Run {
-                file: 1,
-                entry: 3,
-                budget: USUAL_STEPS,
-            })
-        } else {
-            None
-        }
-    } else if words.len() == 6 && words.word(0) == "run" {
-        stepped_job(words)
     } else {
         None
     }

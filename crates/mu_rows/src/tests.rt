@@ -211,6 +211,44 @@ fn counts_steps(rt: HostRuntime) -> Result<(), Fail> {
     Ok(())
 }
 
+const TWO_OBJECTS: &str =
+    ".typedef @p = struct<@i64 @i64> .funcdef @main VERSION %v <@mi> { %e(): %a = NEW <@p> %b = NEW <@i64> RET (@c0) }";
+
+const ENOUGH_CELLS: [Row; 1] = [(TWO_OBJECTS, "returned t0 0\ndone\n", Status::Done)];
+
+const TOO_FEW_CELLS: [Row; 1] = [(
+    TWO_OBJECTS,
+    "heap full t0 asked 1 left 0\n",
+    Status::HeapFull,
+)];
+
+// An object of no cells is thrown, and caught or not.
+const WITHOUT_CELLS: [Row; 2] = [
+    (
+        ".funcdef @t VERSION %v <@m> { %e(): %o = NEW <@void> THROW %o } .funcdef @main VERSION %v <@mi> { %e(): CALL <@m> @t () EXC(%n() %x()) %n(): RET (@c0) %x() [%q]: %z = NE <@rv> %q @nul %k = ZEXT <@i1 @i64> %z RET (%k) }",
+        "returned t0 1\ndone\n",
+        Status::Done,
+    ),
+    (
+        ".funcdef @t VERSION %v <@m> { %e(): %o = NEW <@void> THROW %o } .funcdef @main VERSION %v <@mi> { %e(): CALL <@m> @t () RET (@c0) }",
+        "undefined Uncaught t0 @t.v.e 1\n",
+        Status::Undefined,
+    ),
+];
+
+#[test]
+fn counts_cells(rt: HostRuntime) -> Result<(), Fail> {
+    let enough = &["run", "b", "--cells", "3", "--entry", "@main"];
+    each_answers_behind(&rt, rt.alloc(), enough, &ENOUGH_CELLS)?;
+    let too_few = &["run", "b", "--entry", "@main", "--cells", "2"];
+    each_answers_behind(&rt, rt.alloc(), too_few, &TOO_FEW_CELLS)?;
+    let without = &[
+        "run", "b", "--entry", "@main", "--steps", "10", "--cells", "0",
+    ];
+    each_answers_behind(&rt, rt.alloc(), without, &WITHOUT_CELLS)?;
+    Ok(())
+}
+
 const CHECKS: [Row; 11] = [
     (ADDS_40_AND_2, "ok\n", Status::Done),
     ("", "ok\n", Status::Done),

@@ -10,13 +10,13 @@ stops : {A B C : Type 0} (part : Part A) (f : A → Part B) (g : A → B → Par
 stops (Ok x) f g answer e = rw e refl
 stops (Err a) f g answer e = cc
 
-module _ (bytes name : List ℕ) (budget : ℕ) (code : List Item) (is : accepted bytes ≡ Ok code) where
+module _ (bytes name : List ℕ) (budget cells : ℕ) (code : List Item) (is : accepted bytes ≡ Ok code) where
   -- the bundle is not built, or no function may be entered
-  pub entry_stops : (answer : Answer) → begun code name ≡ Err answer → for_run bytes name budget ≡ Err answer
-  entry_stops answer e = rw is (stops (built code) (λ c. entered c name) (λ c n. Ok (ready.Entered c n budget)) answer e)
+  pub entry_stops : (answer : Answer) → begun code name ≡ Err answer → for_run bytes name budget cells ≡ Err answer
+  entry_stops answer e = rw is (stops (built code) (λ c. entered c name) (λ c n. Ok (ready.Entered c n budget cells)) answer e)
 
   -- the function is there
-  pub entry_found : (n : ℕ) → built code ≡ Ok code → begun code name ≡ Ok n → for_run bytes name budget ≡ Ok (ready.Entered code n budget)
+  pub entry_found : (n : ℕ) → built code ≡ Ok code → begun code name ≡ Ok n → for_run bytes name budget cells ≡ Ok (ready.Entered code n budget cells)
   entry_found n b e = rw (is, b) (rw (rw b at e) refl)
 
 pub ruleset entering = (entry_stops, entry_found)

@@ -27,4 +27,4 @@ no_run_is_refused bundle Unfinished e = cc
 pub nothing_ready_is_refused : (r : Ready) → (ready_answer r).status ≡ Refused → ⊥
 nothing_ready_is_refused ready.Accepted e = cc
 nothing_ready_is_refused (ready.Canonical bundle) e = cc
-nothing_ready_is_refused (ready.Entered code n budget) e = no_run_is_refused code (run_of code n budget) e
+nothing_ready_is_refused (ready.Entered code n budget cells) e = no_run_is_refused code (run_of code n budget cells) e

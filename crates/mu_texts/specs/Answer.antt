@@ -93,23 +93,19 @@ abbrev pub entered : List Item → List ℕ → Part ℕ
 entered bundle name = entry_part (entry bundle name)
 
 -- what `mu check`, `mu print` and `mu run` ask of a text: that it is accepted; the bundle as it is written; or a bundle that is accepted
--- and built, a function of it, and how many steps its run may make
+-- and built, a function of it, and how many steps its run may make, with how many cells beside those of the globals
 abbrev pub for_check : List ℕ → Part Ready
 for_check bytes = accepted bytes >>= λ code. Ok ready.Accepted
 
 abbrev pub for_print : List ℕ → Part Ready
 for_print bytes = as_written bytes >>= λ bundle. Ok (ready.Canonical bundle)
 
-abbrev pub for_run : List ℕ → List ℕ → ℕ → Part Ready
-for_run bytes name budget = accepted bytes >>= built >>= λ code. entered code name >>= λ n. Ok (ready.Entered code n budget)
+abbrev pub for_run : List ℕ → List ℕ → ℕ → ℕ → Part Ready
+for_run bytes name budget cells = accepted bytes >>= built >>= λ code. entered code name >>= λ n. Ok (ready.Entered code n budget cells)
 
--- how many cells a run may make beside those of the globals
-abbrev pub cell_limit : ℕ
-cell_limit = 100000
-
--- the run of a function of a bundle, which may make so many steps
-unfoldable pub run_of : List Item → ℕ → ℕ → Run
-run_of code n budget = program_run (program code) (plain_setting (bundle_tables code) cell_limit budget) n
+-- the run of a function of a bundle, which may make so many steps, and so many cells beside those of the globals
+unfoldable pub run_of : List Item → ℕ → ℕ → ℕ → Run
+run_of code n budget cells = program_run (program code) (plain_setting (bundle_tables code) cells budget) n
 
 -- the text of the run in its pieces; a run without an ending would have no answer
 abbrev pub run_answer : List Item → Run → Answer
@@ -137,7 +133,7 @@ is_end _ = false
 abbrev pub ready_answer : Ready → Answer
 ready_answer ready.Accepted = line (codes "ok") Finished
 ready_answer (ready.Canonical bundle) = record { pieces = in_one_piece (bundle_text bundle); status = Finished }
-ready_answer (ready.Entered code n budget) = run_answer code (run_of code n budget)
+ready_answer (ready.Entered code n budget cells) = run_answer code (run_of code n budget cells)
 
 abbrev pub ready_part : Part Ready → Answer
 ready_part (Ok r) = ready_answer r

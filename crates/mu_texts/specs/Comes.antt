@@ -12,7 +12,7 @@ use Rattle.model_laws.specs.Bounds.{HasEnding}
 use Rattle.mu_step.specs.Built.{IsBuilt}
 use Rattle.mu_step.specs.Plain.{plain_setting}
 use Rattle.ir_tree.specs.declared.items.Item.{Item}
-use Rattle.mu_texts.specs.Answer.{Part, ◌>>=◌, line, refused, built, entered, cell_limit, run_of}
+use Rattle.mu_texts.specs.Answer.{Part, ◌>>=◌, line, refused, built, entered, run_of}
 
 -- the function that the run of a bundle begins with, where all its functions are built
 abbrev pub begun : List Item → List ℕ → Part ℕ
@@ -36,13 +36,13 @@ IsRefusal (Line text status) place fault = line text.items status ≡ refused Bu
 IsRefusal Memory place fault = ⊥
 
 -- what the machine asks of a bundle and of a function that its run begins with, and that the run comes to its ending
-pub record IsRunnable (code : List Item) (n budget : ℕ) : Type 0 where
+pub record IsRunnable (code : List Item) (n budget cells : ℕ) : Type 0 where
   pub built : IsBuilt code
-  pub begins : IsSome (first_configuration (program code) (plain_setting (bundle_tables code) cell_limit budget) n)
-  pub ends : HasEnding (run_of code n budget)
+  pub begins : IsSome (first_configuration (program code) (plain_setting (bundle_tables code) cells budget) n)
+  pub ends : HasEnding (run_of code n budget cells)
 
 -- what is to be run can be run
 abbrev pub CanRun : Ready → Type 0
 CanRun ready.Accepted = ⊤
 CanRun (ready.Canonical bundle) = ⊤
-CanRun (ready.Entered code n budget) = IsRunnable code n budget
+CanRun (ready.Entered code n budget cells) = IsRunnable code n budget cells

@@ -82,11 +82,11 @@ fn judge_built(alloc: Global, code: &Checked) -> Result<(), Stop>
     }
 }
 
-// The number of the function with that name, whose run may make so many steps.
-fn enter(alloc: Global, code: &Checked, name: &str, budget: u32) -> Result<u32, Stop>
+// The number of the function with that name, whose run may make so many steps and cells.
+fn enter(alloc: Global, code: &Checked, name: &str, budget: u32, cells: u32) -> Result<u32, Stop>
     requires { first_unmet (built_demands code.now) ≡ None }
     ensures number { Comes (entered code.now name.now) result }
-    ensures there { IfOk result (λ n. IsRunnable code.now n budget) }
+    ensures there { IfOk result (λ n. IsRunnable code.now n budget cells) }
 {
     let _items = code.items();
     match code.entry(name) {
@@ -100,13 +100,13 @@ fn enter(alloc: Global, code: &Checked, name: &str, budget: u32) -> Result<u32, 
 }
 
 // The number of the function that a run begins with, in a bundle whose functions are built.
-fn entry_of(alloc: Global, code: &Checked, name: &str, budget: u32) -> Result<u32, Stop>
+fn entry_of(alloc: Global, code: &Checked, name: &str, budget: u32, cells: u32) -> Result<u32, Stop>
     ensures built { IfOk result (λ n. built code.now ≡ Ok code.now) }
     ensures number { Comes (begun code.now name.now) result }
-    ensures there { IfOk result (λ n. IsRunnable code.now n budget) }
+    ensures there { IfOk result (λ n. IsRunnable code.now n budget cells) }
 {
     judge_built(alloc, code)?;
-    enter(alloc, code, name, budget)
+    enter(alloc, code, name, budget, cells)
 }
 
 // A checked bundle is lent on the way, so that each function drops it at one place at most: the proof of a drop goes through all
@@ -128,18 +128,25 @@ pub fn judge_for_print(alloc: Global, bytes: &[u8]) -> Result<Ready, Stop>
 }
 
 /// What `mu run` asks of a text: a bundle that meets all demands on it, whose functions are built, with a function of that name
-/// which a run may begin with. The run may make so many steps.
+/// which a run may begin with. The run may make so many steps, and so many cells beside those of the globals.
 #[tactic(auto, using(crate::proofs::Entering::entering))]
-pub fn judge_for_run(alloc: Global, bytes: &[u8], name: &str, budget: u32) -> Result<Ready, Stop>
-    ensures asked { Comes (for_run bytes.now name.now budget) result }
+pub fn judge_for_run(
+    alloc: Global,
+    bytes: &[u8],
+    name: &str,
+    budget: u32,
+    cells: u32,
+) -> Result<Ready, Stop>
+    ensures asked { Comes (for_run bytes.now name.now budget cells) result }
     ensures there { IfOk result CanRun }
 {
     let code = accept(alloc, bytes)?;
-    match entry_of(alloc, &code, name, budget) {
+    match entry_of(alloc, &code, name, budget, cells) {
         Ok(entry) => Ok(Ready::Entered {
             code,
             entry,
             budget,
+            cells,
         }),
         Err(stop) => Err(stop),
     }

@@ -9,10 +9,12 @@ pub enum Ready {
     Accepted,
     /// The bundle in canonical text.
     Canonical(Bundle),
-    /// The run of a function of a checked bundle, by its number, which may make so many steps.
+    /// The run of a function of a checked bundle, by its number, which may make so many steps, and so many cells beside
+    /// those of the globals.
     Entered {
         code: Checked,
         entry: u32,
         budget: u32,
+        cells: u32,
     },
 }

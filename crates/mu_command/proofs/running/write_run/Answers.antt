@@ -11,9 +11,9 @@ pub returns-in-Err-clause-writes : goal.returns-in-Err-clause-writes
 returns-in-Err-clause-writes g c = no_memory _ _ _
 
 pub write_steps-requires-clause-ends : goal.write_steps-requires-clause-ends
-write_steps-requires-clause-ends g c = subst HasEnding (run_is c.args.code.now c.args.entry c.args.budget c.in-Ok.machine.configuration c.in-Ok.ensures.first) c.requires.ends
+write_steps-requires-clause-ends g c = subst HasEnding (run_is c.args.code.now c.args.entry c.args.budget c.args.cells c.in-Ok.machine.configuration c.in-Ok.ensures.first) c.requires.ends
 
 pub returns-in-Ok-clause-writes : goal.returns-in-Ok-clause-writes
 returns-in-Ok-clause-writes g c =
     subst (λ (r : Run). Writes (run_answer c.args.code.now r) (g.S.Sink.written c.args.out.now) (g.S.Sink.written c.write_steps.new.out) (g.S.Sink.ends c.args.out.now) (g.S.Sink.ends c.write_steps.new.out) c.write_steps.result)
-    (sym (run_is c.args.code.now c.args.entry c.args.budget c.in-Ok.machine.configuration c.in-Ok.ensures.first)) c.write_steps.ensures.writes
+    (sym (run_is c.args.code.now c.args.entry c.args.budget c.args.cells c.in-Ok.machine.configuration c.in-Ok.ensures.first)) c.write_steps.ensures.writes
