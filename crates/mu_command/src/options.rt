@@ -11,7 +11,6 @@ pub struct Options {
 }
 
 impl Options {
-    ghost use Rattle.std.specs.Prelude.{ℕ};
     ghost use Rattle.mu_command.specs.Job.{no_options, with_entry, with_steps, with_cells};
 
     /// None of them is given.

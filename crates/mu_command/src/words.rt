@@ -1,5 +1,5 @@
 // Reads the words of the command line.
-ghost use Rattle.std.specs.Prelude.{◌≡◌, ◌+◌, ◌<◌, ◌≤◌, IfSome, length, drop};
+ghost use Rattle.std.specs.Prelude.{◌≡◌, ◌<◌, ◌≤◌, IfSome, length, drop};
 ghost use Rattle.mu_command.specs.Job.{word, is_digit, digits_up_to, number_up_to, no_options, with_option, with_all, run_with, job_of, AreThere};
 
 use crate::job::Job;
