@@ -1,5 +1,5 @@
 -- To believe: accesses of memory: what a thread may read, what it logs, and races.
-use Rattle.std.specs.Prelude.{ℕ, suc, List, [], ◌∷◌, Option, Some, None, map, option_map, length, slice_get, if◌then◌else◌}
+use Rattle.std.specs.Prelude.{ℕ, suc, List, [], ◌∷◌, Option, Some, None, map, option_map, length, slice_get, nat_eq, ◌&&◌, if◌then◌else◌}
 use Rattle.mu_values.specs.declared.scalars.Scalar.{Scalar}
 use Rattle.mu_values.specs.declared.scalars.Scalar.TheVariants.{Int}
 use Rattle.mu_values.specs.declared.operators.UpdateOp.{UpdateOp}
@@ -24,6 +24,7 @@ use Rattle.mu_model.specs.declared.endings.Raced.{Raced}
 use Rattle.mu_model.specs.declared.endings.Ending.TheVariants.{Undefined}
 use Rattle.mu_model.specs.Configuration.{Configuration}
 use Rattle.mu_model.specs.Acts.{Access, Loads, Stores, Compares, Updates, Program}
+use Rattle.mu_model.specs.Operands.{is_integer}
 use Rattle.mu_model.specs.ComputationForms.{bit}
 use Rattle.mu_model.specs.Frames.{passed}
 use Rattle.mu_model.specs.Changes.{pick, event, logged_event}
@@ -38,10 +39,10 @@ wanted (Stores o v) = Swap
 wanted (Compares weak o f expected v) = Compare o f expected weak
 wanted (Updates o op v) = Swap
 
--- what an update makes of the value that it reads; one of integers has their width
+-- what an update makes of the value that it reads; any but an exchange is of integers of one width
 abbrev pub updated : UpdateOp → Scalar → Scalar → Option Scalar
 updated updates.Xchg old v = Some v
-updated op (Int w a) (Int v b) = Some (Int w (updated_bits op w a b))
+updated op (Int w a) (Int v b) = if nat_eq w v && is_integer w a && is_integer w b then Some (Int w (updated_bits op w a b)) else None
 updated op _ _ = None
 
 -- what is logged of an access of a cell by the option that was picked

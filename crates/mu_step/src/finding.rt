@@ -33,26 +33,18 @@ fn case_of(fault: PlaceFault) -> Case
     }
 }
 
-/// What is found on the way from a place. A field whose number no list has is want of memory.
-fn found(
-    heap: &Heap,
-    code: &Checked,
-    way: Way,
-    scalar: Scalar,
-) -> Result<Result<Scalar, PlaceFault>, AllocError>
+/// What is found on the way from a place.
+fn found(heap: &Heap, code: &Checked, way: Way, scalar: Scalar) -> Result<Scalar, PlaceFault>
     requires class { class_of_way way < length (graph_of code.now) }
     requires there { IsSome (find_place (graph_of code.now) heap.now.objects (move (graph_of code.now) (way_of way)) scalar) }
-    ensures { IfOk result (λ found. find_place (graph_of code.now) heap.now.objects (move (graph_of code.now) (way_of way)) scalar ≡ Some found) }
+    ensures { find_place (graph_of code.now) heap.now.objects (move (graph_of code.now) (way_of way)) scalar ≡ Some result }
 {
     let classes = code.classes();
     match way {
-        Way::Field { class, field } => match u32::try_from(field) {
-            Ok(index) => Ok(heap.field(classes, scalar, class, index)),
-            Err(_) => Err(AllocError),
-        },
-        Way::Element { class, index } => Ok(heap.element(classes, scalar, class, index)),
-        Way::Shift { class, by } => Ok(heap.shift(classes, scalar, class, by)),
-        Way::VarPart { class } => Ok(heap.var_part(classes, scalar, class)),
+        Way::Field { class, field } => heap.field(classes, scalar, class, field),
+        Way::Element { class, index } => heap.element(classes, scalar, class, index),
+        Way::Shift { class, by } => heap.shift(classes, scalar, class, by),
+        Way::VarPart { class } => heap.var_part(classes, scalar, class),
     }
 }
 
@@ -128,7 +120,7 @@ impl State {
         ensures ok { IfOk result (λ end. answers end self.new ≡ acting code.now self.old (acts.Finds (way_of way) scalar)) }
         ensures err { OnErr result (self.new ≡ self.old) }
     {
-        let found = found(&self.heap, code, way, scalar)?;
+        let found = found(&self.heap, code, way, scalar);
         self.tell(alloc, code, found, values, out)
     }
 

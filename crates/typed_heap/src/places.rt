@@ -22,7 +22,7 @@ impl Heap {
         classes: &Classes,
         place: Scalar,
         t: u32,
-        index: u32,
+        index: usize,
     ) -> Result<Scalar, PlaceFault>
         requires graph { IsGraph classes.now.definitions }
         requires t { t < length classes.now.definitions }
@@ -33,7 +33,6 @@ impl Heap {
             return Err(PlaceFault::Null);
         };
         let fields = fixed_fields(classes.definition(t));
-        let index = index as usize;
         let before = leaves_before(classes, &fields[..index]);
         self.land(classes, object, moved(at, 1, before), fields[index])
     }

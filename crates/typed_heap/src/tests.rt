@@ -139,12 +139,12 @@ fn var_part(heap: &Heap, classes: &Classes, object: u32) -> Result<Scalar, Place
 }
 
 #[tactic(auto, using(crate::proofs::Found::some_at_place))]
-fn field(heap: &Heap, classes: &Classes, object: u32, index: u32) -> Result<Scalar, PlaceFault>
+fn field(heap: &Heap, classes: &Classes, object: u32, index: usize) -> Result<Scalar, PlaceFault>
     requires graph { IsGraph classes.now.definitions }
     requires t { 1 < length classes.now.definitions }
 {
     match classes.definition(1) {
-        TypeDef::Struct { fields } if object < heap.objects() && (index as usize) < fields.len() =>
+        TypeDef::Struct { fields } if object < heap.objects() && index < fields.len() =>
             { heap.field(classes, Scalar::Place { object, at: 0 }, 1, index) }
         _ => Err(PlaceFault::BadCast),
     }

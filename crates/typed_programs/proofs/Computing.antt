@@ -60,7 +60,7 @@ gives_one bundle w block at c d s gs k h same gives = some_is _ _ (c ∷ []) (gi
 
 -- ---- tests that well typed operands pass
 
-integers_compare : (v m n : ℕ) → 1 ≤ v → v ≤ 128 → m < 2 ^ v → n < 2 ^ v → (nat_eq v v && is_integer v m && is_integer v n) ≡ true
+pub integers_compare : (v m n : ℕ) → 1 ≤ v → v ≤ 128 → m < 2 ^ v → n < 2 ^ v → (nat_eq v v && is_integer v m && is_integer v n) ≡ true
 integers_compare v m n least most low also = grind (arith, nat_tests)
 
 comparable : (graph : List TypeDef) (w : World) (d : TypeDef) (x y : Scalar) → DefinitionFits graph w d x → DefinitionFits graph w d y →

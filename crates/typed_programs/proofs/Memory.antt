@@ -1,5 +1,5 @@
 -- Accesses of memory, waits and wakes do what fits.
-use Rattle.std.proofs.Common.{◌≡◌, ◌<◌, ◌^◌, ◌==◌, ◌&&◌, ◌||◌, nat_lt, ℕ, zero, suc, Bool, true, false, List, [], ◌∷◌, Option, Some, None, IsSomeAnd, length, drop, slice_get, if◌then◌else◌, refl, sym, ◌∙◌, ap, subst, inl, inr, arith}
+use Rattle.std.proofs.Common.{◌≡◌, ◌<◌, ◌≤◌, ◌^◌, ◌==◌, ◌&&◌, ◌||◌, nat_eq, nat_lt, ℕ, zero, suc, Bool, true, false, List, [], ◌∷◌, Option, Some, None, IsSomeAnd, length, drop, slice_get, if◌then◌else◌, refl, sym, ◌∙◌, ap, subst, inl, inr, arith}
 use Rattle.std.proofs.lemmas.Bool.{and_parts}
 use Rattle.std.proofs.lemmas.Bool.Decides.{eqb_tells, nat_tests}
 use Rattle.ir_tree.specs.declared.items.Item.{Item}
@@ -30,7 +30,7 @@ use Rattle.mu_model.specs.Acts.{Act, Access}
 use Rattle.mu_model.specs.Accesses.{updated}
 use Rattle.mu_model.specs.AccessForms.{cell_act, access_act, update_op}
 use Rattle.mu_model.specs.StackForms.{futex_wait_act, futex_wait_timeout_act, futex_wake_act}
-use Rattle.mu_model.specs.Operands.{scalar_in, bits_in}
+use Rattle.mu_model.specs.Operands.{scalar_in, is_integer, bits_in}
 use Rattle.model_laws.specs.Places.{IsScalarClass}
 use Rattle.model_laws.specs.AccessesFit.{CellFits, AccessOf, access_gives}
 use Rattle.model_laws.proofs.Basics.{some_is, some_at, and_then}
@@ -39,7 +39,7 @@ use Rattle.model_numbers.specs.Forms.{access_at}
 use Rattle.bundle_facts.proofs.Accepted as facts
 use Rattle.typed_programs.proofs.Classes.{int_class, int_is, scalar_class}
 use Rattle.typed_programs.proofs.Sources.{graph_of, Moment, one_leaf, one_scalar, scalar_of, bits_of_one, bits_fit}
-use Rattle.typed_programs.proofs.Computing.{FitsAt, DoesFit, GivesAt}
+use Rattle.typed_programs.proofs.Computing.{FitsAt, DoesFit, GivesAt, integers_compare}
 use Rattle.typed_programs.proofs.Shapes.{same_leaves, class_is}
 use Rattle.typed_programs.proofs.Making.{PlaceOf, place_of}
 
@@ -72,24 +72,31 @@ is_int64_there : (d : Option TypeDef) → is_int64 d ≡ true → d ≡ Some (ty
 is_int64_there (Some (types.Int w)) h = let e : w ≡ 64 = grind (arith, nat_tests) in ap (λ (x : ℕ). Some (types.Int x)) e
 is_int64_there _ h = cc
 
+abbrev of_one_width : UpdateOp → ℕ → ℕ → ℕ → ℕ → Option Scalar
+of_one_width op w a v b = if nat_eq w v && is_integer w a && is_integer w b then Some (Int w (updated_bits op w a b)) else None
+
 module _ (bundle : List Item) (r : Moment bundle) where
-  integers_updated : (op : UpdateOp) (c width : ℕ) → IsScalarClass (bundle_tables bundle) c (types.Int width) → ((w a v b : ℕ) → updated op (Int w a) (Int v b) ≡ Some (Int w (updated_bits op w a b))) →
+  integers_updated : (op : UpdateOp) (c width : ℕ) → IsScalarClass (bundle_tables bundle) c (types.Int width) → 1 ≤ width → width ≤ 128 → ((w a v b : ℕ) → updated op (Int w a) (Int v b) ≡ of_one_width op w a v b) →
       (y x : Scalar) → ScalarFits (graph_of bundle) r.world c y → ScalarFits (graph_of bundle) r.world c x → IsSomeAnd (updated op x y) (ScalarFits (graph_of bundle) r.world c)
-  integers_updated op c width k e y x hy hx =
+  integers_updated op c width k least most e y x hy hx =
       by y x (some_at _ (λ d. DefinitionFits (graph_of bundle) r.world d y) (types.Int width) k.definition hy) (some_at _ (λ d. DefinitionFits (graph_of bundle) r.world d x) (types.Int width) k.definition hx)
     where
       low : (w a b : ℕ) → w ≡ width → a < 2 ^ width → b < 2 ^ width → updated_bits op w a b < 2 ^ width
       low w a b same la lb = subst (λ v. updated_bits op v a b < 2 ^ width) (sym same) (updated_below op width a b la lb)
 
+      of_width : (w a v b : ℕ) → w ≡ width → v ≡ width → a < 2 ^ width → b < 2 ^ width → (nat_eq w v && is_integer w a && is_integer w b) ≡ true
+      of_width w a v b left right low also = rw (left, right) (integers_compare width a b least most low also)
+
       by : (y x : Scalar) → DefinitionFits (graph_of bundle) r.world (types.Int width) y → DefinitionFits (graph_of bundle) r.world (types.Int width) x → IsSomeAnd (updated op x y) (ScalarFits (graph_of bundle) r.world c)
-      by (Int v b) (Int w a) hy hx = some_is (updated op (Int w a) (Int v b)) (ScalarFits (graph_of bundle) r.world c) (Int w (updated_bits op w a b)) (e w a v b)
+      by (Int v b) (Int w a) hy hx = some_is (updated op (Int w a) (Int v b)) (ScalarFits (graph_of bundle) r.world c) (Int w (updated_bits op w a b))
+          (e w a v b ∙ ap (λ t. if t then Some (Int w (updated_bits op w a b)) else None) (of_width w a v b hx.0 hy.0 hx.1 hy.1))
           (some_is _ (λ d. DefinitionFits (graph_of bundle) r.world d (Int w (updated_bits op w a b))) (types.Int width) k.definition (hx.0, low w a b hx.0 hx.1 hy.1))
       by (Int v b) _ hy hx = absurd hx
       by _ x hy hx = absurd hy
 
-  ints_updated : (op : UpdateOp) (c : ℕ) → HasType (bundle_tables bundle) is_int c → ((w a v b : ℕ) → updated op (Int w a) (Int v b) ≡ Some (Int w (updated_bits op w a b))) →
+  ints_updated : (op : UpdateOp) (c : ℕ) → HasType (bundle_tables bundle) is_int c → ((w a v b : ℕ) → updated op (Int w a) (Int v b) ≡ of_one_width op w a v b) →
       (y : Scalar) → ScalarFits (graph_of bundle) r.world c y → (x : Scalar) → ScalarFits (graph_of bundle) r.world c x → IsSomeAnd (updated op x y) (ScalarFits (graph_of bundle) r.world c)
-  ints_updated op c h e y hy x hx = let k = int_class bundle r.names r.checked c h in integers_updated op c k.width k.wide.class e y x hy hx
+  ints_updated op c h e y hy x hx = let k = int_class bundle r.names r.checked c h in integers_updated op c k.width k.wide.class k.wide.least k.wide.most e y x hy hx
 
   updates_fit : (op : UpdateWord) (c : ℕ) → HasType (bundle_tables bundle) (updates_type op) c → (y : Scalar) → ScalarFits (graph_of bundle) r.world c y →
       (x : Scalar) → ScalarFits (graph_of bundle) r.world c x → IsSomeAnd (updated (update_op op) x y) (ScalarFits (graph_of bundle) r.world c)
