@@ -1,6 +1,6 @@
 -- Objects in rows: what stands where, and what stays when rows change.
 use Rattle.std.proofs.Common.{◌≡◌, ◌⊎◌, inl, inr, zero-add, ℕ, zero, suc, ◌+◌, ◌-◌, ◌<◌, ◌≤◌, ◌^◌, Bool, true, List, [], ◌∷◌, ◌++◌, length, take, drop, map, Some, None, IsSomeAnd, slice_get, slice_index_or, refl, sym, ap, subst, ◌∙◌, arith}
-use Rattle.std.specs.Prelude.{slice_range, slice_set}
+use Rattle.std.specs.Prelude.{min, slice_range, slice_set}
 use Rattle.std.proofs.lemmas.List.{length-drop, length-take, take-append-le, drop-append-le, drop_at, take_all, take-append-drop, append_assoc, length-append, take-set-le, drop-set-lt, drop-set-add}
 use Rattle.std.proofs.lemmas.Option.{slice_get_within, slice_get_read, slice_get_cases, slice_get_past}
 use Rattle.std.proofs.Math.Seq.{take-set-lt}
@@ -43,6 +43,19 @@ leaves_at es cs ss n l =
     let h = some_at es n l in
     let e : end es n ≡ h.0.end = rw h.1 refl in
     rw (object_at 0 es cs ss n h.0 h.1, e) refl
+
+range_even : (cs : List ℕ) (ss : List Scalar) (from to : ℕ) → length ss ≡ length cs → length (slice_range ss from to) ≡ length (slice_range cs from to)
+range_even cs ss from to e =
+    let left : length (drop from ss) ≡ length (drop from cs) = length-drop from ss ∙ ap (λ n. n - from) e ∙ sym (length-drop from cs) in
+    length-take (to - from) (drop from ss) ∙ ap (min (to - from)) left ∙ sym (length-take (to - from) (drop from cs))
+
+-- it has one initial scalar for each
+pub initials_at : (es : List Extent) (cs : List ℕ) (ss : List Scalar) (n : ℕ) → length ss ≡ length cs → n < length es →
+    IsSomeAnd (slice_get (objects_in 0 es cs ss) n) (λ o. length o.initial ≡ length (slice_range cs (begin 0 es n) (end es n)))
+initials_at es cs ss n even l =
+    let h = some_at es n l in
+    let e : end es n ≡ h.0.end = rw h.1 refl in
+    rw (object_at 0 es cs ss n h.0 h.1, e) (range_even cs ss (begin 0 es n) h.0.end even)
 
 pub within : (from : ℕ) (es : List Extent) (many : ℕ) → IsCut from es many → from ≤ many
 within from [] many h = omega (arith, h)

@@ -197,10 +197,11 @@ impl Heap {
         self.objects.len()
     }
 
-    /// How many cells an object has.
+    /// How many cells an object has: one for each leaf, with one scalar that each begins with.
     pub fn size(&self, object: u32) -> u32
         requires { object < length self.now.objects }
-        ensures { IsSomeAnd (slice_get self.now.objects object) (λ o. length o.leaves ≡ result) }
+        ensures leaves { IsSomeAnd (slice_get self.now.objects object) (λ o. length o.leaves ≡ result) }
+        ensures initials { IsSomeAnd (slice_get self.now.objects object) (λ o. length o.initial ≡ result) }
     {
         self.objects.size(object)
     }

@@ -85,6 +85,7 @@ impl Objects {
     pub fn leaves(&self, n: u32) -> (&[u32], Rhythm)
         requires { n < length self.now.objects }
         ensures leaves { IsSomeAnd (slice_get self.now.objects n) (λ o. o.leaves ≡ result.0.now) }
+        ensures initials { IsSomeAnd (slice_get self.now.objects n) (λ o. length o.initial ≡ length result.0.now) }
         ensures few { length result.0.now < 2 ^ 32 }
         ensures repeats { Repeats result.1.fixed result.1.run result.0.now }
     {
@@ -96,7 +97,8 @@ impl Objects {
     /// How many cells an object has, in constant time.
     pub fn size(&self, n: u32) -> u32
         requires { n < length self.now.objects }
-        ensures { IsSomeAnd (slice_get self.now.objects n) (λ o. length o.leaves ≡ result) }
+        ensures leaves { IsSomeAnd (slice_get self.now.objects n) (λ o. length o.leaves ≡ result) }
+        ensures initials { IsSomeAnd (slice_get self.now.objects n) (λ o. length o.initial ≡ result) }
     {
         self.leaves(n).0.len() as u32
     }

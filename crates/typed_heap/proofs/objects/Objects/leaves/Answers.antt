@@ -1,9 +1,10 @@
 use Rattle.std.proofs.Common.{◌≡◌, length, map, refl, sym, ap, ◌∙◌, subst, IsSomeAnd, slice_get, arith, rules}
 use Rattle.std.specs.Vec.{vec_len}
+use Rattle.std.proofs.lemmas.List.{length-map}
 use Rattle.std.proofs.lemmas.Option.{slice_get_read}
 use Rattle.std.specs.Prelude.{slice_range}
 use Rattle.typed_heap.specs.Rows.{RoomyObjects, initial_of, begin, end}
-use Rattle.typed_heap.proofs.Rows.{objects_length, leaves_at, counted}
+use Rattle.typed_heap.proofs.Rows.{objects_length, leaves_at, initials_at, counted}
 use Rattle.typed_heap.proofs.Rowed.{repeats_at}
 use Rattle.typed_heap.proofs.objects.Objects.leaves.Goals as goal
 
@@ -19,6 +20,16 @@ returns-clause-leaves c =
     let many : length c.args.self.now.objects ≡ length o.extents.items = ap (λ (v : RoomyObjects). length v.objects) (sym c.self.view_is) ∙ objects_length 0 o.extents.items o.leaves.items (map (initial_of o.given.items) o.initials.items) in
     let there = leaves_at o.extents.items o.leaves.items (map (initial_of o.given.items) o.initials.items) c.args.n (rw many at c.requires) in
     let P = λ (v : RoomyObjects). IsSomeAnd (slice_get v.objects c.args.n) (λ p. p.leaves ≡ slice_range o.leaves.items (begin 0 o.extents.items c.args.n) (end o.extents.items c.args.n)) in
+    rw (c.bounds-begin.ensures.begin, c.bounds-begin.ensures.end, c.deref-2.ensures.value, c.deref-3.ensures.value) (subst P c.self.view_is there)
+
+pub returns-clause-initials : goal.returns-clause-initials
+returns-clause-initials c =
+    let o = c.self.inside in
+    let ss = map (initial_of o.given.items) o.initials.items in
+    let many : length c.args.self.now.objects ≡ length o.extents.items = ap (λ (v : RoomyObjects). length v.objects) (sym c.self.view_is) ∙ objects_length 0 o.extents.items o.leaves.items ss in
+    let even : length ss ≡ length o.leaves.items = length-map o.initials.items (initial_of o.given.items) ∙ c.self.invariant.even in
+    let there = initials_at o.extents.items o.leaves.items ss c.args.n even (rw many at c.requires) in
+    let P = λ (v : RoomyObjects). IsSomeAnd (slice_get v.objects c.args.n) (λ p. length p.initial ≡ length (slice_range o.leaves.items (begin 0 o.extents.items c.args.n) (end o.extents.items c.args.n))) in
     rw (c.bounds-begin.ensures.begin, c.bounds-begin.ensures.end, c.deref-2.ensures.value, c.deref-3.ensures.value) (subst P c.self.view_is there)
 
 pub index-requires : goal.index-requires
