@@ -39,11 +39,15 @@ wanted (Stores o v) = Swap
 wanted (Compares weak o f expected v) = Compare o f expected weak
 wanted (Updates o op v) = Swap
 
--- what an update makes of the value that it reads; any but an exchange is of integers of one width
+-- integers of one width
+abbrev pub updated_integer : UpdateOp → Scalar → Scalar → Option Scalar
+updated_integer op (Int w a) (Int v b) = if nat_eq w v && is_integer w a && is_integer w b then Some (Int w (updated_bits op w a b)) else None
+updated_integer op _ _ = None
+
+-- what an update makes of the value that it reads; all but the exchange are of integers
 abbrev pub updated : UpdateOp → Scalar → Scalar → Option Scalar
 updated updates.Xchg old v = Some v
-updated op (Int w a) (Int v b) = if nat_eq w v && is_integer w a && is_integer w b then Some (Int w (updated_bits op w a b)) else None
-updated op _ _ = None
+updated op old v = updated_integer op old v
 
 -- what is logged of an access of a cell by the option that was picked
 abbrev pub kind_of : Access → CellId → Chosen → Option Kind
