@@ -6,7 +6,7 @@
 .const @forty_two <@i8> = 42
 .global @g <@i8>
 .funcdef @main VERSION %v <@six> {
-%e():
+%begin():
   %a = ATOMICRMW SEQ_CST SUB <@i8> @g @two          // 0 - 2 wraps to 254; each update gives what was there before
   %b = ATOMICRMW ACQ_REL UMAX <@i8> @g @one         // without sign 254 is more than 1
   %c = ATOMICRMW RELEASE MAX <@i8> @g @one          // with sign it is -2, which is less
