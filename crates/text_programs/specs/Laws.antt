@@ -39,6 +39,9 @@ RunsOfTextsNeverBreak = OfAcceptedTexts (λ bundle. (s : Setting) (function : �
     first_configuration (named bundle) s function ≡ Some c → program_run (named bundle) s function ≢ Breaks)
 
 -- a plain run of a function that may be entered begins, and has an ending
+abbrev pub EnteredRunsEnd : List Item → Type 0
+EnteredRunsEnd bundle = (s : Setting) (name : List ℕ) (function : ℕ) → IsPlain bundle s → entry bundle name ≡ Ok function →
+    IsSome (first_configuration (named bundle) s function) × HasEnding (program_run (named bundle) s function)
+
 abbrev pub EnteredRunsHaveAnEnding : Type 0
-EnteredRunsHaveAnEnding = OfAcceptedTexts (λ bundle. (s : Setting) (name : List ℕ) (function : ℕ) → IsPlain bundle s → entry bundle name ≡ Ok function →
-    IsSome (first_configuration (named bundle) s function) × HasEnding (program_run (named bundle) s function))
+EnteredRunsHaveAnEnding = OfAcceptedTexts EnteredRunsEnd
