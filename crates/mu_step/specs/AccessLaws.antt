@@ -1,6 +1,7 @@
 -- Laws of the accesses of one thread.
-use Rattle.std.specs.Prelude.{◌≡◌, ◌≢◌, ℕ, suc, ◌&&◌, Bool, true, false, List, [], ◌∷◌, Option, Some, None, IsSome, Result, Ok, Err, length, option_map, slice_get, nat_eq, if◌then◌else◌, refl}
+use Rattle.std.specs.Prelude.{◌≡◌, ◌≢◌, ℕ, suc, ◌≤◌, nat_le, ◌&&◌, Bool, true, false, List, [], ◌∷◌, Option, Some, None, IsSome, Result, Ok, Err, length, option_map, slice_get, nat_eq, if◌then◌else◌, refl}
 use Rattle.std.proofs.Common.{sym, ◌∙◌, ap, subst, arith, ◌⊎◌, inl, inr}
+use Rattle.std.proofs.lemmas.Bool.{and_parts}
 use Rattle.std.proofs.lemmas.Bool.Decides.{nat_tests}
 use Rattle.ir_tree.specs.declared.items.Item.{Item}
 use Rattle.mu_base.specs.declared.order.Order.{Order}
@@ -19,15 +20,18 @@ use Rattle.mem_axioms.specs.declared.types.Mode.TheVariants.{Read, Write, Update
 use Rattle.mem_axioms.specs.declared.types.Kind.{Kind}
 use Rattle.mem_axioms.specs.declared.types.Kind.TheVariants as kinds
 use Rattle.mem_axioms.specs.declared.types.Event.{Event}
+use Rattle.mem_axioms.specs.declared.types.Wanted.{Wanted}
 use Rattle.mem_axioms.specs.declared.types.Chosen.{Chosen}
 use Rattle.mem_axioms.specs.Objects.{initial_of, HasCell}
-use Rattle.mem_axioms.specs.Logs.{newest}
-use Rattle.mem_axioms.specs.Form.{value_at}
+use Rattle.mem_axioms.specs.Events.{modifies}
+use Rattle.mem_axioms.specs.Logs.{count_events, newest}
+use Rattle.mem_axioms.specs.Form.{value_at, fits_form, has_form}
+use Rattle.mem_axioms.specs.Axioms.{meets_axioms}
 use Rattle.mem_axioms.specs.Rooms.{HasRoom}
-use Rattle.mem_axioms.specs.Choices.{is_option}
+use Rattle.mem_axioms.specs.Choices.{read_at, is_option}
 use Rattle.mem_axioms.specs.Races.{race}
 use Rattle.mem_axioms.specs.EventFits.{EventFits}
-use Rattle.mem_axioms.specs.OptionTheorems.{ChoiceStands}
+use Rattle.mem_axioms.specs.OptionTheorems.{order_to_read, ChoiceStands}
 use Rattle.mem_axioms.specs.Lemmas.Options.{choice-stands}
 use Rattle.mem_axioms.specs.Lemmas.Fitting.{others-race}
 use Rattle.mu_model.specs.declared.endings.Case.{Case}
@@ -212,6 +216,36 @@ pub access_room : (s : OneThread) (a : Access) (cell : CellId) (n : ℕ) (k : Ch
     → HasRoom (record { thread = 0; cell = Some cell; events = 1 }) (event 0 x)
 access_room s a cell n k x there g e = (fits_by s a cell n k x there g e).room
 
+-- ---- the next position
+
+count_low : (test : Event → Bool) (log : List Event) → count_events test log ≤ length log
+count_low test [] = omega arith
+count_low test (e ∷ log) = by (test e) (count_low test log)
+  where
+    by : (b : Bool) → count_events test log ≤ length log → (if b then suc (count_events test log) else count_events test log) ≤ suc (length log)
+    by true h = omega (arith, h)
+    by false h = omega (arith, h)
+
+low_is : (m n : ℕ) → nat_le m n ≡ true → m ≤ n
+low_is m n h = grind (arith, nat_tests)
+
+option_low : (rule : Rule) (initial : CellId → Scalar) (log : List Event) (cell : CellId) (o : Order) (n : ℕ) → is_option rule initial log 0 cell o n ≡ true → n ≤ newest log cell
+unfolding meets_axioms
+option_low rule initial log cell o n h =
+    let form = and_parts (has_form initial (read_at initial log 0 cell o n ∷ log)) _ h in
+    let fits = and_parts (fits_form initial log (read_at initial log 0 cell o n)) _ form.0 in
+    let low = and_parts (nat_le n (newest log cell)) _ fits.0 in
+    low_is n (newest log cell) low.0
+
+stands_low : (rule : Rule) (initial : CellId → Scalar) (log : List Event) (cell : CellId) (w : Wanted) (k : Chosen) → ChoiceStands rule initial log 0 cell w k → (b : Bool) → k.success ≡ b → k.position ≤ newest log cell
+stands_low rule initial log cell w k s true e = let same = s.success e in omega (arith, same)
+stands_low rule initial log cell w k s false e = option_low rule initial log cell (order_to_read w) k.position (s.failure e)
+
+pub position_low : (s : OneThread) (a : Access) (cell : CellId) (n : ℕ) (k : Chosen) → slice_get (options_of s a cell) n ≡ Some k → k.position ≤ length s.log
+position_low s a cell n k g =
+    let low = stands_low s.rule (initial_of (initials s.objects)) s.log cell (wanted a) k (choice-stands s.rule (initial_of (initials s.objects)) s.log 0 cell (wanted a) n k g) k.success refl in
+    omega (arith, low, count_low (modifies cell) s.log)
+
 -- ---- updates
 
 integer_is : (w v a b : ℕ) → (nat_eq w v && is_integer w a && is_integer w b) ≡ true → (w ≡ v) × IsInteger w a × IsInteger w b
@@ -252,3 +286,7 @@ update_there updates.Max x y h = inr (integers_there updates.Max x y h)
 update_there updates.Min x y h = inr (integers_there updates.Min x y h)
 update_there updates.Umax x y h = inr (integers_there updates.Umax x y h)
 update_there updates.Umin x y h = inr (integers_there updates.Umin x y h)
+
+pub ruleset accessing = (cell_there, access_is)
+
+pub ruleset fencing = (fence_there, fence_is)

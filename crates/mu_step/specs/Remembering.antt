@@ -62,7 +62,11 @@ none_known os known h = h
 pub all_known : (os : List HeapObject) (n : ℕ) (known : List (List Scalar)) → known ≡ initials (take n os) → n ≡ length os → known ≡ initials os
 all_known os n known h e = h ∙ ap (λ m. initials (take m os)) e ∙ ap initials (take_whole os)
 
-pub ruleset remembering = (newest_unknown, one_more_known, none_known, all_known)
+pub ruleset remembering = (one_more_known, none_known, all_known)
+
+-- the newest is known
+pub newest_known : (os : List HeapObject) (n : ℕ) (is : List Scalar) (before after : List (List Scalar)) → before ≡ initials (take n os) → n + 1 ≡ length os → IsSomeAnd (slice_get os n) (λ o. o.initial ≡ is) → after ≡ before ++ is ∷ [] → after ≡ initials os
+newest_known os n is before after h many there e = all_known os (n + 1) after (one_more_known os n is before after h there e) many
 
 -- ---- the scalars of an object, one by one
 
@@ -94,6 +98,8 @@ all_scalars (Some o) n xs h many = sym (h ∙ ap (λ m. take m o.initial) (sym m
 pub within_leaves : (o : Option HeapObject) (k n : ℕ) → IsSomeAnd o (λ o. length o.leaves ≡ k) → n < k → IsSomeAnd o (λ o. n < length o.leaves)
 within_leaves None k n h low = absurd h
 within_leaves (Some o) k n h low = omega (arith, h, low)
+
+pub ruleset scalars = (none_so_far, one_more_scalar, all_scalars, within_leaves)
 
 -- ---- a cell that is there is known
 
