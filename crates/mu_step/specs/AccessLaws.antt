@@ -26,7 +26,7 @@ use Rattle.mem_axioms.specs.Objects.{initial_of, HasCell}
 use Rattle.mem_axioms.specs.Events.{modifies}
 use Rattle.mem_axioms.specs.Logs.{count_events, newest}
 use Rattle.mem_axioms.specs.Form.{value_at, fits_form, has_form}
-use Rattle.mem_axioms.specs.Axioms.{meets_axioms}
+use Rattle.mem_axioms.specs.Axioms.{is_coherent, meets_axioms}
 use Rattle.mem_axioms.specs.Rooms.{HasRoom}
 use Rattle.mem_axioms.specs.Choices.{read_at, is_option}
 use Rattle.mem_axioms.specs.Races.{race}
@@ -174,27 +174,27 @@ fence_fits rule objects log o = record { thread = refl; child = tt; cell = tt; w
 
 -- it may come next, and needs room for its own cell
 record Fits (rule : Rule) (objects : List (List Scalar)) (log : List Event) (cell : CellId) (x : Kind) : Type 0 where
-  pub event : EventFits rule objects log (event 0 x)
+  pub next : EventFits rule objects log (event 0 x)
   pub room : HasRoom (record { thread = 0; cell = Some cell; events = 1 }) (event 0 x)
 
 compared_fits : (rule : Rule) (objects : List (List Scalar)) (log : List Event) (cell : CellId) (o f : Order) (v : Scalar) (k : Chosen) → HasCell objects cell → k.value ≡ value_at (initial_of objects) log cell k.position
     → (b : Bool) → (b ≡ true → k.position ≡ newest log cell) → (b ≡ false → is_option rule (initial_of objects) log 0 cell f k.position ≡ true)
     → Fits rule objects log cell (if b then kinds.Access Update cell o (suc k.position) v else kinds.Access Read cell f k.position k.value)
 compared_fits rule objects log cell o f v k there value true won lost =
-    record { event = record { thread = refl; child = tt; cell = there; wake = tt; position = ap suc (won refl) }; room = (omega arith, refl, refl) }
+    record { next = record { thread = refl; child = tt; cell = there; wake = tt; position = ap suc (won refl) }; room = (omega arith, (refl, refl)) }
 compared_fits rule objects log cell o f v k there value false won lost =
-    record { event = record { thread = refl; child = tt; cell = there; wake = tt; position = (lost refl, value) }; room = (omega arith, refl, refl) }
+    record { next = record { thread = refl; child = tt; cell = there; wake = tt; position = (lost refl, value) }; room = (omega arith, (refl, refl)) }
 
 kind_fits : (rule : Rule) (objects : List (List Scalar)) (log : List Event) (cell : CellId) (a : Access) (k : Chosen) (x : Kind) → HasCell objects cell → ChoiceStands rule (initial_of objects) log 0 cell (wanted a) k
     → kind_of a cell k ≡ Some x → Fits rule objects log cell x
 kind_fits rule objects log cell (Loads o) k x there s e =
     let same : kinds.Access Read cell o k.position k.value ≡ x = cc in
     subst (Fits rule objects log cell) same
-    (record { event = record { thread = refl; child = tt; cell = there; wake = tt; position = (s.failure s.certain, s.value) }; room = (omega arith, refl, refl) })
+    (record { next = record { thread = refl; child = tt; cell = there; wake = tt; position = (s.failure s.certain, s.value) }; room = (omega arith, (refl, refl)) })
 kind_fits rule objects log cell (Stores o v) k x there s e =
     let same : kinds.Access Write cell o (suc k.position) v ≡ x = cc in
     subst (Fits rule objects log cell) same
-    (record { event = record { thread = refl; child = tt; cell = there; wake = tt; position = ap suc (s.success s.certain) }; room = (omega arith, refl, refl) })
+    (record { next = record { thread = refl; child = tt; cell = there; wake = tt; position = ap suc (s.success s.certain) }; room = (omega arith, (refl, refl)) })
 kind_fits rule objects log cell (Compares weak o f expected v) k x there s e =
     let same : (if k.success then kinds.Access Update cell o (suc k.position) v else kinds.Access Read cell f k.position k.value) ≡ x = cc in
     subst (Fits rule objects log cell) same (compared_fits rule objects log cell o f v k there s.value k.success s.success s.failure)
@@ -202,7 +202,7 @@ kind_fits rule objects log cell (Updates o op v) k x there s e =
     let r = with_there (updated op k.value v) (λ z. Some (kinds.Access Update cell o (suc k.position) z)) x e in
     let same : kinds.Access Update cell o (suc k.position) r.0 ≡ x = let is = r.2 in cc in
     subst (Fits rule objects log cell) same
-    (record { event = record { thread = refl; child = tt; cell = there; wake = tt; position = ap suc (s.success s.certain) }; room = (omega arith, refl, refl) })
+    (record { next = record { thread = refl; child = tt; cell = there; wake = tt; position = ap suc (s.success s.certain) }; room = (omega arith, (refl, refl)) })
 
 fits_by : (s : OneThread) (a : Access) (cell : CellId) (n : ℕ) (k : Chosen) (x : Kind) → HasCell (initials s.objects) cell → slice_get (options_of s a cell) n ≡ Some k → kind_of a cell k ≡ Some x
     → Fits s.rule (initials s.objects) s.log cell x
@@ -210,7 +210,7 @@ fits_by s a cell n k x there g e = kind_fits s.rule (initials s.objects) s.log c
 
 pub access_fits : (s : OneThread) (a : Access) (cell : CellId) (n : ℕ) (k : Chosen) (x : Kind) → HasCell (initials s.objects) cell → slice_get (options_of s a cell) n ≡ Some k → kind_of a cell k ≡ Some x
     → EventFits s.rule (initials s.objects) s.log (event 0 x)
-access_fits s a cell n k x there g e = (fits_by s a cell n k x there g e).event
+access_fits s a cell n k x there g e = (fits_by s a cell n k x there g e).next
 
 pub access_room : (s : OneThread) (a : Access) (cell : CellId) (n : ℕ) (k : Chosen) (x : Kind) → HasCell (initials s.objects) cell → slice_get (options_of s a cell) n ≡ Some k → kind_of a cell k ≡ Some x
     → HasRoom (record { thread = 0; cell = Some cell; events = 1 }) (event 0 x)
@@ -232,8 +232,10 @@ low_is m n h = grind (arith, nat_tests)
 option_low : (rule : Rule) (initial : CellId → Scalar) (log : List Event) (cell : CellId) (o : Order) (n : ℕ) → is_option rule initial log 0 cell o n ≡ true → n ≤ newest log cell
 unfolding meets_axioms
 option_low rule initial log cell o n h =
-    let form = and_parts (has_form initial (read_at initial log 0 cell o n ∷ log)) _ h in
-    let fits = and_parts (fits_form initial log (read_at initial log 0 cell o n)) _ form.0 in
+    let e = read_at initial log 0 cell o n in
+    let coherent = and_parts (has_form initial (e ∷ log) && is_coherent rule (e ∷ log)) _ h in
+    let form = and_parts (has_form initial (e ∷ log)) _ coherent.0 in
+    let fits = and_parts (fits_form initial log e) _ form.0 in
     let low = and_parts (nat_le n (newest log cell)) _ fits.0 in
     low_is n (newest log cell) low.0
 
@@ -286,6 +288,22 @@ update_there updates.Max x y h = inr (integers_there updates.Max x y h)
 update_there updates.Min x y h = inr (integers_there updates.Min x y h)
 update_there updates.Umax x y h = inr (integers_there updates.Umax x y h)
 update_there updates.Umin x y h = inr (integers_there updates.Umin x y h)
+
+pub update_integers : (op : UpdateOp) (x y : Scalar) (w a v b : ℕ) → IsSome (updated op x y) → (op ≡ updates.Xchg → ⊥) → x ≡ Int w a → y ≡ Int v b
+    → (IsInteger w a × IsInteger w b) × (updated op x y ≡ Some (Int w (updated_bits op w a b)))
+update_integers op x y w a v b h other old by =
+    elim (update_there op x y h) [
+      | inl e ↦ absurd (other e)
+      | inr i ↦ (
+          let width : i.width ≡ w = let found = i.first in cc in
+          let before : i.old ≡ a = let found = i.first in cc in
+          let operand : i.bits ≡ b = let found = i.second in cc in
+          let first : IsInteger w a = subst (λ w. IsInteger w a) width (subst (λ a. IsInteger i.width a) before i.first_is) in
+          let second : IsInteger w b = subst (λ w. IsInteger w b) width (subst (λ b. IsInteger i.width b) operand i.second_is) in
+          let is : updated op x y ≡ Some (Int w (updated_bits op w a b)) =
+          i.updates ∙ ap (λ w. Some (Int w (updated_bits op w i.old i.bits))) width ∙ ap (λ a. Some (Int w (updated_bits op w a i.bits))) before ∙ ap (λ b. Some (Int w (updated_bits op w a b))) operand in
+          ((first, second), is))
+    ]
 
 pub ruleset accessing = (cell_there, access_is)
 

@@ -1,5 +1,5 @@
 -- Inner: nothing that a reader believes of a run rests on this. It is what a memory is to know of the objects of a heap.
-use Rattle.std.specs.Prelude.{◌≡◌, ℕ, zero, suc, ◌+◌, ◌<◌, List, [], ◌∷◌, ◌++◌, Option, Some, None, IsSomeAnd, map, fold, length, slice_get, slice_index_or, slice_set, take, refl}
+use Rattle.std.specs.Prelude.{◌≡◌, ℕ, zero, suc, ◌+◌, ◌<◌, List, [], ◌∷◌, ◌++◌, Option, Some, None, IsSomeAnd, Result, Ok, Err, OnOk, map, fold, length, slice_get, slice_index_or, slice_set, take, refl}
 use Rattle.std.proofs.Common.{sym, ◌∙◌, ap, subst, arith, add-one}
 use Rattle.std.proofs.Math.Seq.{take-suc}
 use Rattle.mu_values.specs.declared.scalars.Scalar.{Scalar}
@@ -50,7 +50,7 @@ initial_at (o ∷ os) (suc n) is h = ap (λ is. o.initial ∷ is) (initial_at os
 -- one more is known
 pub one_more_known : (os : List HeapObject) (n : ℕ) (is : List Scalar) (before after : List (List Scalar)) → before ≡ initials (take n os) → IsSomeAnd (slice_get os n) (λ o. o.initial ≡ is) → after ≡ before ++ is ∷ []
     → after ≡ initials (take (n + 1) os)
-one_more_known os n is before after h there e = e ∙ ap (λ b. b ++ is ∷ []) h ∙ sym (initial_at os n is there) ∙ ap (λ m. initials (take m os)) (sym add-one)
+one_more_known os n is before after h there e = e ∙ ap (λ b. b ++ is ∷ []) h ∙ sym (initial_at os n is there) ∙ ap (λ m. initials (take m os)) (sym (add-one n))
 
 take_whole : (os : List HeapObject) → take (length os) os ≡ os
 take_whole [] = refl
@@ -67,6 +67,11 @@ pub ruleset remembering = (one_more_known, none_known, all_known)
 -- the newest is known
 pub newest_known : (os : List HeapObject) (n : ℕ) (is : List Scalar) (before after : List (List Scalar)) → before ≡ initials (take n os) → n + 1 ≡ length os → IsSomeAnd (slice_get os n) (λ o. o.initial ≡ is) → after ≡ before ++ is ∷ [] → after ≡ initials os
 newest_known os n is before after h many there e = all_known os (n + 1) after (one_more_known os n is before after h there e) many
+
+-- what comes of an answer that is Ok
+pub after_ok : {A E P Q : Type 0} (r : Result A E) → (P → Q) → OnOk r P → OnOk r Q
+after_ok (Ok a) f h = f h
+after_ok (Err e) f h = tt
 
 -- ---- the scalars of an object, one by one
 

@@ -30,6 +30,7 @@ use std::alloc::{AllocError, Global};
 use std::marker::Brand;
 use std::sync::ledger::{Blank, Ledger};
 use step_forms::Access;
+use typed_heap::what_is_found_fits;
 
 /// An access in the words of memory.
 fn wanted(access: Access) -> Wanted
@@ -170,20 +171,24 @@ impl<M: Memory> State<M> {
         ensures err { OnErr result (self.new ≡ self.old) }
         ensures stays { IfOk result (λ end. Stays end self.old self.new) }
     {
+        what_is_found_fits();
         let place = Scalar::Place {
             object: cell.object,
             at: cell.at,
         };
         match self.heap.cell_of(place) {
-            Ok(cell) => self.access_cell::<Brand>(
-                alloc,
-                code,
-                access,
-                cell,
-                values,
-                out,
-                Blank::new(1),
-            ),
+            Ok(cell) => {
+                let _cells = self.heap.size(cell.object);
+                self.access_cell::<Brand>(
+                    alloc,
+                    code,
+                    access,
+                    cell,
+                    values,
+                    out,
+                    Blank::new(1),
+                )
+            }
             Err(fault) => self.refuse(alloc, code, case_of(fault), out),
         }
     }
