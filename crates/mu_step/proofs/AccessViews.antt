@@ -1,5 +1,5 @@
 -- Lemmas of accesses, over the view of a state and its parts.
-use Rattle.std.proofs.Common.{◌≡◌, ◌≢◌, ℕ, zero, suc, ◌+◌, ◌<◌, true, false, List, [], ◌∷◌, drop, Option, Some, None, IsSome, IsSomeAnd, Result, Ok, Err, IfOk, length, slice_get, refl, sym, ◌∙◌, ap, subst, arith, add-one}
+use Rattle.std.proofs.Common.{◌≡◌, ◌≢◌, ℕ, zero, suc, ◌+◌, ◌<◌, ◌≤◌, true, false, List, [], ◌∷◌, drop, Option, Some, None, IsSome, IsSomeAnd, Result, Ok, Err, IfOk, length, slice_get, refl, sym, ◌∙◌, ap, subst, arith, add-one}
 use Rattle.std.specs.Prelude.{reverse}
 use Rattle.ir_tree.specs.declared.items.Item.{Item}
 use Rattle.mu_values.specs.declared.scalars.Scalar.{Scalar}
@@ -11,7 +11,9 @@ use Rattle.typed_heap.specs.Places.{cell_of}
 use Rattle.frames.specs.Activations.{Value, Activation}
 use Rattle.frames.specs.Chains.{Chain, stands}
 use Rattle.mem_axioms.specs.declared.types.Rule.{Rule}
+use Rattle.mu_base.specs.declared.order.Order.{Order}
 use Rattle.mem_axioms.specs.declared.types.Kind.{Kind}
+use Rattle.mem_axioms.specs.declared.types.Kind.TheVariants.{Fence}
 use Rattle.mem_axioms.specs.declared.types.Event.{Event}
 use Rattle.mem_axioms.specs.declared.types.Wanted.{Wanted}
 use Rattle.mem_axioms.specs.declared.types.Chosen.{Chosen}
@@ -25,8 +27,9 @@ use Rattle.mu_model.specs.declared.lines.Line.{Line}
 use Rattle.mu_model.specs.declared.lines.Line.TheVariants as lines
 use Rattle.mu_model.specs.declared.endings.StepEnd.{StepEnd}
 use Rattle.mu_model.specs.declared.endings.StepEnd.TheVariants.{Went}
+use Rattle.mu_model.specs.declared.endings.Case.{Case}
 use Rattle.mu_model.specs.declared.endings.Ending.{Ending}
-use Rattle.mu_model.specs.Acts.{Access, Accesses, Faults}
+use Rattle.mu_model.specs.Acts.{Access, Accesses, Faults, Fences}
 use Rattle.mu_model.specs.Accesses.{wanted, kind_of, access_results}
 use Rattle.mu_model.specs.Changes.{pick, event}
 use Rattle.mu_model.specs.Outcomes.{Outcome, Next, End, Stuck, case_of_fault}
@@ -35,7 +38,7 @@ use Rattle.mu_step.specs.Acting.{left_configuration, answers, went_with, acting,
 use Rattle.mu_step.specs.Remembering.{initials, has_cell}
 use Rattle.mu_step.specs.Accessing.{options_of, picking, accesses_found, race_at, logs_unless, logs}
 use Rattle.mu_step.specs.StepLaws.{configuration_left}
-use Rattle.mu_step.specs.AccessLaws.{cell_there, access_is, option_there, option_is, position_low, access_fits, access_room}
+use Rattle.mu_step.specs.AccessLaws.{cell_there, access_is, option_there, option_is, position_low, access_fits, access_room, fence_there, fence_is}
 
 -- ---- picks
 
@@ -66,10 +69,10 @@ pub found_picks : (bundle : List Item) (s v : OneThread) (a : Access) (cell ther
 found_picks bundle s v a cell there r view h e is =
     access_is bundle s a cell r h (ap (λ (s : OneThread). cell_of s.objects (Place cell.object cell.at)) (sym view) ∙ e) ∙ ap (accesses_found bundle s a) is
 
-pub found_fails : (bundle : List Item) (s v : OneThread) (a : Access) (cell : CellId) (f : PlaceFault) (r : Result CellId PlaceFault) → v ≡ s → acting bundle s (Accesses a cell) ≢ Stuck → cell_of v.objects (Place cell.object cell.at) ≡ Some r → r ≡ Err f
-    → acting bundle s (Accesses a cell) ≡ acting bundle s (Faults (case_of_fault f))
-found_fails bundle s v a cell f r view h e is =
-    access_is bundle s a cell r h (ap (λ (s : OneThread). cell_of s.objects (Place cell.object cell.at)) (sym view) ∙ e) ∙ ap (accesses_found bundle s a) is
+pub found_fails : (bundle : List Item) (s v : OneThread) (a : Access) (cell : CellId) (f : PlaceFault) (k : Case) (r : Result CellId PlaceFault) → v ≡ s → acting bundle s (Accesses a cell) ≢ Stuck → cell_of v.objects (Place cell.object cell.at) ≡ Some r → r ≡ Err f
+    → k ≡ case_of_fault f → acting bundle s (Accesses a cell) ≡ acting bundle s (Faults k)
+found_fails bundle s v a cell f k r view h e is case =
+    access_is bundle s a cell r h (ap (λ (s : OneThread). cell_of s.objects (Place cell.object cell.at)) (sym view) ∙ e) ∙ ap (accesses_found bundle s a) is ∙ ap (λ k. acting bundle s (Faults k)) (sym case)
 
 pub there_so : (o p : Outcome) → o ≢ Stuck → o ≡ p → p ≢ Stuck
 there_so o p h e = λ stuck. h (e ∙ stuck)
@@ -105,7 +108,7 @@ module _ (bundle : List Item) (s v : OneThread) (a : Access) (cell : CellId) (w 
   chosen : slice_get (options_of s a cell) (pick (length (options_of s a cell)) s.picks).0 ≡ Some k
   chosen = ap (slice_get (options_of s a cell)) (sym number) ∙ ap (λ ks. slice_get ks n) (sym same) ∙ q.choice
 
-  pub low : (count : ℕ) → count ≡ length v.log → count < 1000000 → k.position < 4294967295
+  pub low : (count : ℕ) → count ≡ length v.log → count ≤ 1000000 → k.position < 4294967295
   low count e short =
       let log : length v.log ≡ length s.log = ap (λ (s : OneThread). length s.log) q.view in
       let at = position_low s a cell (pick (length (options_of s a cell)) s.picks).0 k chosen in
@@ -153,7 +156,7 @@ answers_lines t ls e =
 abbrev logged_state : OneThread → Chain → List Event → List ℕ → Rule → OneThread
 logged_state v fr lg picks rl = record v { frames = fr; log = lg; picks = picks; rule = rl; steps = v.steps + 1 }
 
-pub logs_on : (s v : OneThread) (e : Event) (options block at number : ℕ) (out : List Value) (fr : Chain) (lg after : List Event) (rl kept : Rule) (ps : List ℕ) (ls : List Line) → v ≡ s → v.left ≡ true → lg ≡ v.log → rl ≡ v.rule → race rl lg e ≡ None
+pub logs_on : (s v : OneThread) (e : Event) (options block at number : ℕ) (out : List Value) (fr : Chain) (lg after : List Event) (rl kept : Rule) (ps : List ℕ) (ls : List Line) → v ≡ s → s.left ≡ true → lg ≡ v.log → rl ≡ v.rule → race rl lg e ≡ None
     → after ≡ e ∷ lg → kept ≡ rl → fr ≡ record v.frames { top = stands v.frames.top block at out } → ps ≡ (pick_of options v.picks).1 → number ≡ length v.log → ls ≡ lines.Event number e ∷ []
     → answers (Went ls) (logged_state v fr after ps kept) ≡ logs s e (pick options s.picks).1 (record s.frames { top = stands s.frames.top block at out })
 unfolding logs
@@ -166,7 +169,23 @@ logs_on s v e options block at number out fr lg after rl kept ps ls view left lo
     ∙ ap (λ lg. answers (Went (lines.Event number e ∷ [])) (logged_state v standing lg ps kept)) (added ∙ ap (λ lg. e ∷ lg) log)
     ∙ ap (λ ps. answers (Went (lines.Event number e ∷ [])) (logged_state v standing (e ∷ v.log) ps kept)) (picks ∙ ap (λ p. p.1) (pick_same options v.picks))
     ∙ ap (λ rl. answers (Went (lines.Event number e ∷ [])) (logged_state v standing (e ∷ v.log) taken rl)) (same ∙ rule)
-    ∙ answers_lines (record v { frames = standing; log = e ∷ v.log; picks = taken }) (lines.Event number e ∷ []) left
+    ∙ answers_lines (record v { frames = standing; log = e ∷ v.log; picks = taken }) (lines.Event number e ∷ []) (ap (λ (s : OneThread). s.left) view ∙ left)
     ∙ ap (λ n. went_with (record v { frames = standing; log = e ∷ v.log; picks = taken }) (lines.Event n e ∷ [])) count
     ∙ ap (logs_unless v e taken standing) (sym none)
     ∙ ap (λ (s : OneThread). logs_unless s e (pick options s.picks).1 (record s.frames { top = stands s.frames.top block at out }) (race s.rule s.log e)) view
+
+-- ---- a fence
+
+pub fence_goes_there : (bundle : List Item) (s v : OneThread) (o : Order) (f : Activation) (vs : List Value) → v ≡ s → acting bundle s (Fences o) ≢ Stuck → f ≡ v.frames.top → vs ≡ [] → IsSome (goes_on bundle f vs)
+fence_goes_there bundle s v o f vs view h top none =
+    let is : f ≡ s.frames.top = top ∙ ap (λ (s : OneThread). s.frames.top) view in
+    subst (λ f. IsSome (goes_on bundle f vs)) (sym is) (subst (λ vs. IsSome (goes_on bundle s.frames.top vs)) (sym none) (fence_there bundle s o h))
+
+pub fenced : {E : Type 0} (bundle : List Item) (s v t : OneThread) (o : Order) (f : Activation) (vs out : List Value) (block at : ℕ) (r : Result StepEnd E) → v ≡ s → acting bundle s (Fences o) ≢ Stuck → f ≡ v.frames.top → vs ≡ []
+    → goes_on bundle f vs ≡ Some (stands f block at out)
+    → IfOk r (λ end. answers end t ≡ logs s (event 0 (Fence o)) (pick 1 s.picks).1 (record s.frames { top = stands s.frames.top block at out })) → IfOk r (λ end. answers end t ≡ acting bundle s (Fences o))
+fenced bundle s v t o f vs out block at (Err e) view h top none way answer = tt
+fenced bundle s v t o f vs out block at (Ok end) view h top none way answer =
+    let is : f ≡ s.frames.top = top ∙ ap (λ (s : OneThread). s.frames.top) view in
+    let on : goes_on bundle s.frames.top [] ≡ Some (stands s.frames.top block at out) = ap (goes_on bundle s.frames.top) (sym none) ∙ subst (λ f. goes_on bundle f vs ≡ Some (stands f block at out)) is way in
+    answer ∙ sym (fence_is bundle s o (stands s.frames.top block at out) h on)

@@ -1,12 +1,12 @@
 -- Lemmas of acts over objects, over the view of a state and its parts.
-use Rattle.std.proofs.Common.{◌≡◌, ◌≢◌, ℕ, ◌+◌, ◌-◌, ◌^◌, ◌<◌, ◌≤◌, List, [], ◌∷◌, ◌++◌, IsSome, Some, Result, Ok, Err, IfOk, OnOk, length, take, sym, ◌∙◌, ap, subst, arith, length-append}
+use Rattle.std.proofs.Common.{◌≡◌, ◌≢◌, ℕ, ◌+◌, ◌-◌, ◌^◌, ◌<◌, ◌≤◌, Bool, List, [], ◌∷◌, ◌++◌, IsSome, Some, Result, Ok, Err, IfOk, OnOk, length, take, sym, ◌∙◌, ap, subst, arith, length-append}
 use Rattle.ir_tree.specs.declared.items.Item.{Item}
 use Rattle.mu_values.specs.declared.scalars.Scalar.{Scalar}
 use Rattle.bundle_check.specs.Checking.{bundle_tables}
 use Rattle.typed_heap.specs.declared.faults.HeapFault.{HeapFault}
 use Rattle.typed_heap.specs.declared.faults.HeapFault.TheVariants as heaps
 use Rattle.typed_heap.specs.Objects.{HeapObject, object_of}
-use Rattle.typed_heap.specs.Heap.{newest_cells}
+use Rattle.typed_heap.specs.Heap.{HeapContents, newest_cells}
 use Rattle.typed_heap.proofs.Fitted.{newest_counted}
 use Rattle.typed_heap.proofs.Fitted as fitted
 use Rattle.typed_heap.specs.Places.{Way, move, find_place}
@@ -31,6 +31,17 @@ finds_at bundle s v way x view h = subst (λ (s : OneThread). IsSome (find_place
 
 pub casts_at : (bundle : List Item) (s v : OneThread) (class : ℕ) (x : Scalar) → v ≡ s → acting bundle s (Casts class x) ≢ Stuck → IsSome (cast_any (bundle_tables bundle) v.objects (class_definition (bundle_tables bundle) class) x)
 casts_at bundle s v class x view h = subst (λ (s : OneThread). IsSome (cast_any (bundle_tables bundle) s.objects (class_definition (bundle_tables bundle) class) x)) (sym view) (casts_there bundle s class x h)
+
+-- a heap that is as before
+pub heap_same : (fr : Chain) (left : Bool) (lg : List Event) (ps : List ℕ) (rl : Rule) (steps budget : ℕ) (h k : HeapContents) (s : OneThread) → h ≡ k
+    → record { frames = fr; left = left; objects = k.objects; log = lg; picks = ps; rule = rl; cells = k.left; steps = steps; budget = budget } ≡ s
+    → record { frames = fr; left = left; objects = h.objects; log = lg; picks = ps; rule = rl; cells = h.left; steps = steps; budget = budget } ≡ s
+heap_same fr left lg ps rl steps budget h k s e view =
+    ap (λ (h : HeapContents). record { frames = fr; left = left; objects = h.objects; log = lg; picks = ps; rule = rl; cells = h.left; steps = steps; budget = budget }) e ∙ view
+
+-- so many cells were left
+pub full_here : (s v : OneThread) (f : HeapFault) (n : ℕ) → v ≡ s → IsFull f n v.cells → IsFull f n s.cells
+full_here s v f n view h = subst (λ (s : OneThread). IsFull f n s.cells) view h
 
 -- ---- objects that are made
 
@@ -81,7 +92,19 @@ gave_own bundle s v a cs n vs os left lg rl fr o view is h objects cells log rul
     λ k. e ∙ ap went_on (gave_same bundle v cs os left lg rl fr objects cells log rule) ∙ gave_at bundle (owned (made bundle v cs) n) vs fr k way below in
     subst (λ (s : OneThread). acting bundle (owned (made bundle s cs) n) (Gives vs) ≢ Stuck → o ≡ acting bundle (owned (made bundle s cs) n) (Gives vs)) view main (λ stuck. h (is ∙ stuck)) ∙ sym is
 
+-- by the view of a state
+pub made_is : (bundle : List Item) (s v : OneThread) (a : Act) (cs : List ℕ) (vs : List Value) → v ≡ s → acting bundle v a ≡ acting bundle (made bundle v cs) (Gives vs) → acting bundle s a ≡ acting bundle (made bundle s cs) (Gives vs)
+made_is bundle s v a cs vs view h = subst (λ (s : OneThread). acting bundle s a ≡ acting bundle (made bundle s cs) (Gives vs)) view h
+
+pub owned_is : (bundle : List Item) (s v : OneThread) (a : Act) (cs : List ℕ) (n : ℕ) (vs : List Value) → v ≡ s → acting bundle v a ≡ acting bundle (owned (made bundle v cs) n) (Gives vs) → acting bundle s a ≡ acting bundle (owned (made bundle s cs) n) (Gives vs)
+owned_is bundle s v a cs n vs view h = subst (λ (s : OneThread). acting bundle s a ≡ acting bundle (owned (made bundle s cs) n) (Gives vs)) view h
+
 -- where no memory is found the object is taken back
+pub back_so : (s v : OneThread) (fr : Chain) (os : List HeapObject) (left : ℕ) (lg : List Event) (rl : Rule) → v ≡ s → fr ≡ v.frames → os ≡ v.objects → left ≡ v.cells → lg ≡ v.log → rl ≡ v.rule → gave_state v os left lg rl fr ≡ s
+back_so s v fr os left lg rl view frames objects cells log rule =
+    ap (gave_state v os left lg rl) frames ∙ ap (λ os. gave_state v os left lg rl v.frames) objects ∙ ap (λ n. gave_state v v.objects n lg rl v.frames) cells ∙ ap (λ lg. gave_state v v.objects v.cells lg rl v.frames) log
+    ∙ ap (λ rl. gave_state v v.objects v.cells v.log rl v.frames) rule ∙ view
+
 pub back_cells : (bundle : List Item) (os ps : List HeapObject) (cs : List ℕ) (left now : ℕ) → ps ≡ os ++ object_of (graph_of bundle) cs ∷ [] → now ≡ left - length cs → length cs ≤ left → now + newest_cells ps ≡ left
 back_cells bundle os ps cs left now is cells enough =
     let newest : newest_cells ps ≡ length cs = ap newest_cells is ∙ newest_counted os (object_of (graph_of bundle) cs) in

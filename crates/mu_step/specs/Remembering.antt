@@ -15,7 +15,7 @@ initials os = map (λ (o : HeapObject). o.initial) os
 
 -- ---- objects that end begin with what they began with
 
-changed_same : (os : List HeapObject) (n : ℕ) → initials (changed killed n os) ≡ initials os
+pub changed_same : (os : List HeapObject) (n : ℕ) → initials (changed killed n os) ≡ initials os
 changed_same [] n = refl
 changed_same (o ∷ os) zero = refl
 changed_same (o ∷ os) (suc n) = ap (λ is. o.initial ∷ is) (changed_same os n)
