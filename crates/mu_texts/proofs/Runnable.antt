@@ -1,5 +1,5 @@
 -- A function that may be entered, of a bundle that is built, can be run.
-use Rattle.std.proofs.Common.{◌≡◌, ℕ, ◌≤◌, List, Option, Some, None, IsSome, IsSomeAnd, refl, sym, ◌∙◌, subst}
+use Rattle.std.proofs.Common.{◌≡◌, ℕ, ◌≤◌, List, Option, Some, None, IsSome, IsSomeAnd, refl, sym, ◌∙◌, ap, subst}
 use Rattle.std.specs.Prelude.{Result, Ok, Err}
 use Rattle.demands.specs.declared.fault.Fault.{Fault}
 use Rattle.demands.specs.declared.fault.Fault.TheVariants as faults
@@ -28,8 +28,11 @@ goes_on : {A B : Type 0} (part : Part A) (more : A → Part B) (b : B) → (part
 goes_on (Ok a) more b h = (a, refl, h)
 goes_on (Err answer) more b h = cc
 
+abbrev read_as : List Item → Result (List Item) TextFault
+read_as bundle = Ok bundle
+
 was_read : (r : Result (List Item) TextFault) (bundle : List Item) → read_part r ≡ Ok bundle → r ≡ Ok bundle
-was_read (Ok code) bundle h = let same : code ≡ bundle = cc in subst (λ b. Ok code ≡ Ok b) same refl
+was_read (Ok code) bundle h = let same : code ≡ bundle = cc in ap read_as same
 was_read (Err (text_faults.At kind place)) bundle h = cc
 was_read (Err text_faults.Memory) bundle h = cc
 
@@ -49,8 +52,6 @@ runs_end bytes code one law h =
     let same : names.0 ≡ code = good.1 ∙ fine.1 in
     subst EnteredRunsEnd same
     (law bytes names.0 answered good.0 (subst (λ b. first_unmet (check_demands b) ≡ None) (sym good.1) fine.0))
-
-pub ruleset ending = (runs_end)
 
 -- ---- and its functions begin
 

@@ -104,7 +104,6 @@ fn enter(alloc: Global, code: &Checked, name: &str, budget: u32, cells: u32) -> 
 }
 
 // The same of a bundle that is to be run: its runs have an ending.
-#[tactic(auto, using(crate::proofs::Runnable::ending))]
 fn accept_to_run(alloc: Global, bytes: &[u8]) -> Result<Checked, Stop>
     ensures code { Comes (accepted bytes.now) result }
     ensures ends { IfOk result (λ code. EnteredRunsEnd code) }
