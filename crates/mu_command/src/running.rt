@@ -168,7 +168,6 @@ fn write_steps<S: Sink, M: Memory + Drop>(
 }
 
 // A machine at the beginning of a function's run: over the memory of clocks, with no schedule, under the rule of C11.
-#[tactic(auto, using(mu_step::specs::Starting::globals_not_counted))]
 fn begin(
     alloc: Global,
     code: &Checked,
