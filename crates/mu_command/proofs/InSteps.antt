@@ -8,6 +8,8 @@ use Rattle.mu_base.specs.declared.status.Status.TheVariants.{Memory}
 use Rattle.mu_base.specs.Sink.{PutsWhole, PutsPart}
 use Rattle.ir_tree.specs.declared.items.Item.{Item}
 use Rattle.mu_model.specs.declared.lines.Line.{Line}
+use Rattle.mu_model.specs.declared.endings.StepEnd.{StepEnd}
+use Rattle.mu_model.specs.declared.endings.StepEnd.TheVariants.{Went}
 use Rattle.mu_model.specs.declared.endings.Ending.{Ending}
 use Rattle.mu_model.specs.Acts.{Program}
 use Rattle.mu_model.specs.Configuration.{Configuration}
@@ -17,6 +19,7 @@ use Rattle.mu_model.specs.Step.{step}
 use Rattle.mu_model.specs.Run.{Run, Ends, Breaks, Unfinished, behind, goes_on, client_answers, run}
 use Rattle.run_texts.specs.Texts.{ending_status}
 use Rattle.run_texts.specs.Pieces.{lines_text}
+use Rattle.mu_step.specs.Outcome.{outcome_of}
 use Rattle.mu_texts.specs.Answer.{Answer, run_answer}
 use Rattle.model_laws.specs.Bounds.{HasEnding}
 use Rattle.mu_command.specs.Written.{joined, cuts_from, AppendsEnds, Wrote, WrotePart, IsWhole, Writes}
@@ -155,6 +158,11 @@ module _ (bundle : List Item) (c d : Configuration) (w0 w1 e0 e1 : Option (List 
 -- no memory was found for it
 pub not_made : (bundle : List Item) (c : Configuration) (w e : Option (List ℕ)) → IsOver bundle c w w e e Memory
 not_made bundle c w e n ends = no_memory (run_answer bundle (run (named bundle) (suc n) c)) w e
+
+-- the step that was made, by what the machine answered
+pub went_is : (bundle code : List Item) (c d : Configuration) (end : StepEnd) (ls ms : List Line) → end ≡ Went ms → ls ≡ ms → bundle ≡ code → outcome_of end d ≡ step (named bundle) c → Next (record d { lines = reverse ls }) ≡ step (named code) c
+went_is bundle code c d end ls ms is same one h =
+    ap (λ ls. Next (record d { lines = reverse ls })) same ∙ ap (λ end. outcome_of end d) (sym is) ∙ h ∙ ap (λ b. step (named b) c) one
 
 -- ---- what was put so far, and what is left of the run, make the whole
 

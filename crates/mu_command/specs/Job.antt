@@ -1,5 +1,5 @@
 -- What the words of a command line ask for, and the files of that.
-use Rattle.std.specs.Prelude.{ℕ, ◌+◌, ◌-◌, ◌*◌, ◌<◌, Bool, nat_eq, nat_le, List, [], ◌∷◌, length, Option, None, Some, codes, bytes_eq, if◌then◌else◌, ◌&&◌, drop, slice_index_or}
+use Rattle.std.specs.Prelude.{ℕ, ◌+◌, ◌-◌, ◌*◌, ◌<◌, ◌≤◌, IfSome, Bool, nat_eq, nat_le, List, [], ◌∷◌, length, Option, None, Some, codes, bytes_eq, if◌then◌else◌, ◌&&◌, drop, slice_index_or}
 use Rattle.std.specs.Option.{unwrap_or, option_map, option_and_then}
 use Rattle.mu_command.specs.declared.job.Job.{Job}
 use Rattle.mu_command.specs.declared.job.Job.TheVariants.{Check, Print, Run}
@@ -100,8 +100,12 @@ bundle_word (Run file entry budget cells) = file
 abbrev pub file_of : Job → What → Option ℕ
 file_of job Bundle = Some (bundle_word job)
 
--- the words of a job are there
+-- the words of a job are there, and no more steps are asked than may be
 abbrev pub AreThere : List (List ℕ) → Job → Type 0
 AreThere words (Check file) = file < length words
 AreThere words (Print file) = file < length words
-AreThere words (Run file entry budget cells) = (file < length words) × (entry < length words)
+AreThere words (Run file entry budget cells) = (file < length words) × (entry < length words) × (budget ≤ most_steps)
+
+-- the same of options
+abbrev pub OptionsAreThere : ℕ → Options → Type 0
+OptionsAreThere count options = IfSome options.entry (λ e. e < count) × IfSome options.steps (λ n. n ≤ most_steps)

@@ -1,14 +1,14 @@
 // The second half of the program: writes what was found.
-ghost use Rattle.std.specs.Prelude.{◌≡◌, ◌≢◌, ◌≤◌, ◌∷◌, [], IfNone, IfSome, OnOk, OnErr, IfErr};
+ghost use Rattle.std.specs.Prelude.{◌≡◌, ◌≢◌, ◌≤◌, ◌∷◌, [], Some, IfNone, IfSome, IfOk, OnOk, OnErr, IfErr};
 ghost use Rattle.mu_base.specs.Faults.{Rose};
 ghost use Rattle.mu_base.specs.Sink.{PutsWhole, PutsPart};
 ghost use Rattle.mu_model.specs.Outcomes.{Stuck};
 ghost use Rattle.mu_model.specs.Programs.{named};
 ghost use Rattle.mu_model.specs.Step.{step};
-ghost use Rattle.mu_model.specs.Run.{run};
+ghost use Rattle.mu_model.specs.Run.{first_configuration, run};
 ghost use Rattle.run_texts.specs.Texts.{ending_status};
 ghost use Rattle.mu_step.specs.Built.{IsBuilt};
-ghost use Rattle.mu_texts.specs.Answer.{Answer, run_of, run_answer, ready_answer};
+ghost use Rattle.mu_texts.specs.Answer.{Answer, first_setting, run_of, run_answer, ready_answer};
 ghost use Rattle.model_laws.specs.Bounds.{HasEnding};
 ghost use Rattle.mu_texts.specs.Comes.{IsRunnable, CanRun};
 ghost use Rattle.mu_texts.specs.declared.ready.Ready.TheVariants as ready;
@@ -19,10 +19,13 @@ use crate::writing::{put_line, put_whole_text};
 use bundle_check::Checked;
 use ir_print::print_bundle;
 use ir_tree::Bundle;
+use mem_axioms::{Memory, Rule};
+use mem_views::ViewMemory;
 use mu_base::{PutFault, Sink, Status};
 use mu_model::{Ending, Line, StepEnd};
-use mu_step::Machine;
+use mu_step::{Machine, first_heap};
 use mu_texts::Ready;
+use mu_threads::Schedule;
 use run_print::{ending_status, ending_text, lines_text};
 use std::alloc::{AllocError, Global};
 
@@ -108,10 +111,10 @@ fn put_last<S: Sink>(
 
 // Makes a step and puts its lines. None where the run goes on, else the status of the program.
 #[tactic(auto, using(crate::proofs::InSteps::running))]
-fn make_step<S: Sink>(
+fn make_step<S: Sink, M: Memory + Drop>(
     out: &mut S,
     code: &Checked,
-    machine: &mut Machine,
+    machine: &mut Machine<M>,
     text: &mut Vec<u8>,
 ) -> Option<Status>
     requires built { IsBuilt code.now }
@@ -137,11 +140,11 @@ fn make_step<S: Sink>(
 }
 
 // Makes the steps of a run up to its ending, which comes within so many, and puts the lines of each.
-fn write_steps<S: Sink>(
+fn write_steps<S: Sink, M: Memory + Drop>(
     alloc: Global,
     out: &mut S,
     code: &Checked,
-    machine: &mut Machine,
+    machine: &mut Machine<M>,
     steps: u64,
 ) -> Status
     requires built { IsBuilt code.now }
@@ -164,6 +167,31 @@ fn write_steps<S: Sink>(
     Status::Memory
 }
 
+// A machine at the beginning of a function's run: over the memory of clocks, with no schedule, under the rule of C11.
+fn begin(
+    alloc: Global,
+    code: &Checked,
+    entry: u32,
+    budget: u32,
+    cells: u32,
+) -> Result<Machine<ViewMemory>, AllocError>
+    requires { IsRunnable code.now entry budget cells }
+    ensures bundle { IfOk result (λ m. m.bundle ≡ code.now) }
+    ensures first { IfOk result (λ m. first_configuration (named code.now) (first_setting code.now budget cells) entry ≡ Some m.configuration) }
+{
+    let heap = first_heap(alloc, code, cells)?;
+    let memory = ViewMemory::new(alloc, Rule::C11);
+    Machine::new(
+        alloc,
+        code,
+        entry,
+        heap,
+        memory,
+        Schedule::new(alloc),
+        budget,
+    )
+}
+
 // Runs a function, and writes the lines of the run and its ending.
 #[tactic(auto, using(crate::proofs::InSteps::running))]
 fn write_run<S: Sink>(
@@ -179,7 +207,7 @@ fn write_run<S: Sink>(
     ensures never_falls { S.faults out.old ≤ S.faults out.new }
     ensures fault { result ≡ Status.SinkFault → Rose (S.faults out.old) (S.faults out.new) }
 {
-    match Machine::new(alloc, code, entry, cells, budget) {
+    match begin(alloc, code, entry, budget, cells) {
         Ok(mut machine) => write_steps(alloc, out, code, &mut machine, budget as u64 + 1),
         Err(_) => Status::Memory,
     }

@@ -1,6 +1,6 @@
 // Reads the words of the command line.
 ghost use Rattle.std.specs.Prelude.{◌≡◌, ◌<◌, ◌≤◌, IfSome, length, drop};
-ghost use Rattle.mu_command.specs.Job.{word, is_digit, digits_up_to, number_up_to, no_options, with_option, with_all, run_with, job_of, AreThere};
+ghost use Rattle.mu_command.specs.Job.{word, is_digit, digits_up_to, number_up_to, no_options, with_option, with_all, run_with, job_of, AreThere, OptionsAreThere};
 
 use crate::job::Job;
 use crate::options::Options;
@@ -26,7 +26,8 @@ fn is_digit(byte: u8) -> bool
 
 // The number whose decimal digits the bytes are, where it is at most the limit.
 fn digits_up_to(limit: u32, text: &[u8]) -> Option<u32>
-    ensures { result ≡ digits_up_to limit 0 text.now }
+    ensures number { result ≡ digits_up_to limit 0 text.now }
+    ensures within { IfSome result (λ n. n ≤ limit) }
 {
     let mut number = 0u32;
     let mut left = text;
@@ -46,7 +47,8 @@ fn digits_up_to(limit: u32, text: &[u8]) -> Option<u32>
 
 // The number that one to ten decimal digits write, where it is at most the limit.
 fn number_up_to(limit: u32, text: &[u8]) -> Option<u32>
-    ensures { result ≡ number_up_to limit text.now }
+    ensures number { result ≡ number_up_to limit text.now }
+    ensures within { IfSome result (λ n. n ≤ limit) }
 {
     if 1 <= text.len() && text.len() <= 10 {
         digits_up_to(limit, text)
@@ -58,9 +60,9 @@ fn number_up_to(limit: u32, text: &[u8]) -> Option<u32>
 // The options with one more, of that name; its value is the word with number n.
 fn with_option(words: &Words, options: Options, name: &str, n: usize) -> Option<Options>
     requires value { n < length words.now }
-    requires there { IfSome options.entry (λ e. e < length words.now) }
+    requires there { OptionsAreThere (length words.now) options }
     ensures more { result ≡ with_option options name.now n (word words.now n) }
-    ensures there { IfSome result (λ more. IfSome more.entry (λ e. e < length words.now)) }
+    ensures there { IfSome result (OptionsAreThere (length words.now)) }
 {
     let value = words.word(n);
     if name == "--entry" {
@@ -79,7 +81,7 @@ fn with_option(words: &Words, options: Options, name: &str, n: usize) -> Option<
 fn all_options(words: &Words) -> Option<Options>
     requires { 2 ≤ length words.now }
     ensures all { result ≡ with_all no_options 2 (drop 2 words.now) }
-    ensures there { IfSome result (λ options. IfSome options.entry (λ e. e < length words.now)) }
+    ensures there { IfSome result (OptionsAreThere (length words.now)) }
 {
     let count = words.len();
     let mut options = Options::none();

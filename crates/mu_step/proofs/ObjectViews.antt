@@ -1,27 +1,30 @@
 -- Lemmas of acts over objects, over the view of a state and its parts.
-use Rattle.std.proofs.Common.{◌≡◌, ◌≢◌, ℕ, ◌-◌, ◌^◌, ◌<◌, ◌≤◌, List, [], ◌∷◌, IsSome, Some, Result, Ok, Err, IfOk, OnOk, OnErr, length, sym, ◌∙◌, ap, subst}
+use Rattle.std.proofs.Common.{◌≡◌, ◌≢◌, ℕ, ◌+◌, ◌-◌, ◌^◌, ◌<◌, ◌≤◌, Bool, List, [], ◌∷◌, ◌++◌, IsSome, Some, Result, Ok, Err, IfOk, OnOk, length, take, sym, ◌∙◌, ap, subst, arith, length-append}
 use Rattle.ir_tree.specs.declared.items.Item.{Item}
 use Rattle.mu_values.specs.declared.scalars.Scalar.{Scalar}
-use Rattle.mu_values.specs.declared.scalars.Scalar.TheVariants.{Object, Place}
 use Rattle.bundle_check.specs.Checking.{bundle_tables}
 use Rattle.typed_heap.specs.declared.faults.HeapFault.{HeapFault}
 use Rattle.typed_heap.specs.declared.faults.HeapFault.TheVariants as heaps
-use Rattle.typed_heap.specs.Objects.{leaf_classes}
-use Rattle.typed_heap.specs.Heap.{hybrid_classes}
+use Rattle.typed_heap.specs.Objects.{HeapObject, object_of}
+use Rattle.typed_heap.specs.Heap.{HeapContents, newest_cells}
+use Rattle.typed_heap.proofs.Fitted.{newest_counted}
+use Rattle.typed_heap.proofs.Fitted as fitted
 use Rattle.typed_heap.specs.Places.{Way, move, find_place}
 use Rattle.frames.specs.Activations.{Value}
-use Rattle.frames.specs.Chains.{Chain, stands}
+use Rattle.frames.specs.Chains.{Chain}
+use Rattle.mem_axioms.specs.declared.types.Rule.{Rule}
+use Rattle.mem_axioms.specs.declared.types.Event.{Event}
 use Rattle.mu_model.specs.declared.endings.StepEnd.{StepEnd}
 use Rattle.mu_model.specs.declared.endings.Ending.TheVariants.{HeapFull}
-use Rattle.mu_model.specs.Acts.{Gives, Finds, Casts, Makes, MakesHybrid, MakesOwn}
+use Rattle.mu_model.specs.Acts.{Act, Gives, Finds, Casts}
 use Rattle.mu_model.specs.Objects.{cast_any}
 use Rattle.mu_model.specs.Outcomes.{Outcome, Stuck}
 use Rattle.mu_model.specs.Types.{class_definition}
 use Rattle.mu_step.specs.OneThread.{OneThread}
 use Rattle.mu_step.specs.Acting.{answers, went_on, acting, faulting, goes_on}
-use Rattle.mu_step.specs.Making.{graph_of, made, owns, owned, taken_back, IsFull}
+use Rattle.mu_step.specs.Making.{graph_of, made, owns, owned, IsFull}
 use Rattle.mu_step.specs.ActLaws.{given_there, given_is}
-use Rattle.mu_step.specs.ObjectLaws.{finds_there, casts_there, makes_is, hybrid_is, own_is, made_back, told_exact}
+use Rattle.mu_step.specs.ObjectLaws.{finds_there, casts_there, told_exact}
 
 pub finds_at : (bundle : List Item) (s v : OneThread) (way : Way) (x : Scalar) → v ≡ s → acting bundle s (Finds way x) ≢ Stuck → IsSome (find_place (graph_of bundle) v.objects (move (graph_of bundle) way) x)
 finds_at bundle s v way x view h = subst (λ (s : OneThread). IsSome (find_place (graph_of bundle) s.objects (move (graph_of bundle) way) x)) (sym view) (finds_there bundle s way x h)
@@ -29,32 +32,86 @@ finds_at bundle s v way x view h = subst (λ (s : OneThread). IsSome (find_place
 pub casts_at : (bundle : List Item) (s v : OneThread) (class : ℕ) (x : Scalar) → v ≡ s → acting bundle s (Casts class x) ≢ Stuck → IsSome (cast_any (bundle_tables bundle) v.objects (class_definition (bundle_tables bundle) class) x)
 casts_at bundle s v class x view h = subst (λ (s : OneThread). IsSome (cast_any (bundle_tables bundle) s.objects (class_definition (bundle_tables bundle) class) x)) (sym view) (casts_there bundle s class x h)
 
+-- a heap that is as before
+pub heap_same : (fr : Chain) (left : Bool) (lg : List Event) (ps : List ℕ) (rl : Rule) (steps budget : ℕ) (h k : HeapContents) (s : OneThread) → h ≡ k
+    → record { frames = fr; left = left; objects = k.objects; log = lg; picks = ps; rule = rl; cells = k.left; steps = steps; budget = budget } ≡ s
+    → record { frames = fr; left = left; objects = h.objects; log = lg; picks = ps; rule = rl; cells = h.left; steps = steps; budget = budget } ≡ s
+heap_same fr left lg ps rl steps budget h k s e view =
+    ap (λ (h : HeapContents). record { frames = fr; left = left; objects = h.objects; log = lg; picks = ps; rule = rl; cells = h.left; steps = steps; budget = budget }) e ∙ view
+
+-- so many cells were left
+pub full_here : (s v : OneThread) (f : HeapFault) (n : ℕ) → v ≡ s → IsFull f n v.cells → IsFull f n s.cells
+full_here s v f n view h = subst (λ (s : OneThread). IsFull f n s.cells) view h
+
 -- ---- objects that are made
 
-pub makes_so : (bundle : List Item) (s t : OneThread) (class n : ℕ) → length (leaf_classes (graph_of bundle) class) ≤ s.cells → n ≡ length s.objects → t ≡ made bundle s (leaf_classes (graph_of bundle) class)
-    → acting bundle s (Makes class) ≡ acting bundle t (Gives ((Object n ∷ []) ∷ []))
-makes_so bundle s t class n enough number is = makes_is bundle s class n enough number ∙ ap (λ t. acting bundle t (Gives ((Object n ∷ []) ∷ []))) (sym is)
-
-pub hybrid_so : (bundle : List Item) (s t : OneThread) (class many n : ℕ) → length (hybrid_classes (graph_of bundle) class many) ≤ s.cells → n ≡ length s.objects → t ≡ made bundle s (hybrid_classes (graph_of bundle) class many)
-    → acting bundle s (MakesHybrid class many) ≡ acting bundle t (Gives ((Object n ∷ []) ∷ []))
-hybrid_so bundle s t class many n enough number is = hybrid_is bundle s class many n enough number ∙ ap (λ t. acting bundle t (Gives ((Object n ∷ []) ∷ []))) (sym is)
-
-pub own_so : (bundle : List Item) (s t : OneThread) (class n : ℕ) → length (leaf_classes (graph_of bundle) class) ≤ s.cells → n ≡ length s.objects → t ≡ made bundle s (leaf_classes (graph_of bundle) class)
-    → acting bundle s (MakesOwn class) ≡ acting bundle (owned t n) (Gives ((Place n 0 ∷ []) ∷ []))
-own_so bundle s t class n enough number is = own_is bundle s class n enough number ∙ ap (λ t. acting bundle (owned t n) (Gives ((Place n 0 ∷ []) ∷ []))) (sym is)
-
--- what is given is there, and is answered
 pub there_so : (o p : Outcome) → o ≢ Stuck → o ≡ p → p ≢ Stuck
 there_so o p h e = λ stuck. h (e ∙ stuck)
 
-pub answered_so : {E : Type 0} (r : Result StepEnd E) (t : OneThread) (o p : Outcome) → IfOk r (λ end. answers end t ≡ p) → o ≡ p → IfOk r (λ end. answers end t ≡ o)
-answered_so (Ok end) t o p h e = h ∙ sym e
-answered_so (Err f) t o p h e = tt
+-- so many were made before it
+pub number_so : (os ps : List HeapObject) (o : HeapObject) (n : ℕ) → ps ≡ os ++ o ∷ [] → n ≡ length os → n + 1 ≡ length ps
+number_so os ps o n is number = ap (λ n. n + 1) number ∙ sym (length-append os (o ∷ [])) ∙ ap length (sym is)
 
--- where no memory is found all is as before
-pub back_so : {A E : Type 0} (bundle : List Item) (r : Result A E) (s t u : OneThread) (cs : List ℕ) → OnErr r (u ≡ taken_back t) → t ≡ made bundle s cs → length cs ≤ s.cells → OnErr r (u ≡ s)
-back_so bundle (Ok a) s t u cs h is enough = tt
-back_so bundle (Err e) s t u cs h is enough = h ∙ ap taken_back is ∙ made_back bundle s cs enough
+pub given_there_so : (bundle : List Item) (s v : OneThread) (a : Act) (cs : List ℕ) (vs : List Value) → v ≡ s → acting bundle s a ≡ acting bundle (made bundle s cs) (Gives vs) → acting bundle s a ≢ Stuck → IsSome (goes_on bundle v.frames.top vs)
+given_there_so bundle s v a cs vs view is h =
+    subst (λ (s : OneThread). IsSome (goes_on bundle s.frames.top vs)) (sym view) (given_there bundle (made bundle s cs) vs (λ stuck. h (is ∙ stuck)))
+
+pub own_there_so : (bundle : List Item) (s v : OneThread) (a : Act) (cs : List ℕ) (n : ℕ) (vs : List Value) → v ≡ s → acting bundle s a ≡ acting bundle (owned (made bundle s cs) n) (Gives vs) → acting bundle s a ≢ Stuck
+    → IsSome (goes_on bundle (owns v.frames.top n) vs)
+own_there_so bundle s v a cs n vs view is h =
+    subst (λ (s : OneThread). IsSome (goes_on bundle (owns s.frames.top n) vs)) (sym view) (given_there bundle (owned (made bundle s cs) n) vs (λ stuck. h (is ∙ stuck)))
+
+gave_at : (bundle : List Item) (u : OneThread) (vs : List Value) (fr : Chain) → acting bundle u (Gives vs) ≢ Stuck → goes_on bundle u.frames.top vs ≡ Some fr.top → fr.below ≡ u.frames.below → went_on (record u { frames = fr }) ≡ acting bundle u (Gives vs)
+gave_at bundle u vs fr h way below =
+    ap (λ bs. went_on (record u { frames = record { top = fr.top; below = bs } })) below ∙ sym (given_is bundle u vs fr.top h way)
+
+-- what the state holds once the object is made and given
+abbrev gave_state : OneThread → List HeapObject → ℕ → List Event → Rule → Chain → OneThread
+gave_state v os left lg rl fr = record v { frames = fr; objects = os; cells = left; log = lg; rule = rl }
+
+gave_same : (bundle : List Item) (v : OneThread) (cs : List ℕ) (os : List HeapObject) (left : ℕ) (lg : List Event) (rl : Rule) (fr : Chain) → os ≡ v.objects ++ object_of (graph_of bundle) cs ∷ [] → left ≡ v.cells - length cs → lg ≡ v.log → rl ≡ v.rule
+    → gave_state v os left lg rl fr ≡ record (made bundle v cs) { frames = fr }
+gave_same bundle v cs os left lg rl fr objects cells log rule =
+    ap (λ os. gave_state v os left lg rl fr) objects ∙ ap (λ n. gave_state v (v.objects ++ object_of (graph_of bundle) cs ∷ []) n lg rl fr) cells
+    ∙ ap (λ lg. gave_state v (v.objects ++ object_of (graph_of bundle) cs ∷ []) (v.cells - length cs) lg rl fr) log
+    ∙ ap (λ rl. gave_state v (v.objects ++ object_of (graph_of bundle) cs ∷ []) (v.cells - length cs) v.log rl fr) rule
+
+pub gave_new : (bundle : List Item) (s v : OneThread) (a : Act) (cs : List ℕ) (vs : List Value) (os : List HeapObject) (left : ℕ) (lg : List Event) (rl : Rule) (fr : Chain) (o : Outcome) → v ≡ s → acting bundle s a ≡ acting bundle (made bundle s cs) (Gives vs)
+    → acting bundle s a ≢ Stuck → os ≡ v.objects ++ object_of (graph_of bundle) cs ∷ [] → left ≡ v.cells - length cs → lg ≡ v.log → rl ≡ v.rule → goes_on bundle v.frames.top vs ≡ Some fr.top → fr.below ≡ v.frames.below
+    → o ≡ went_on (gave_state v os left lg rl fr) → o ≡ acting bundle s a
+gave_new bundle s v a cs vs os left lg rl fr o view is h objects cells log rule way below e =
+    let main : acting bundle (made bundle v cs) (Gives vs) ≢ Stuck → o ≡ acting bundle (made bundle v cs) (Gives vs) =
+    λ k. e ∙ ap went_on (gave_same bundle v cs os left lg rl fr objects cells log rule) ∙ gave_at bundle (made bundle v cs) vs fr k way below in
+    subst (λ (s : OneThread). acting bundle (made bundle s cs) (Gives vs) ≢ Stuck → o ≡ acting bundle (made bundle s cs) (Gives vs)) view main (λ stuck. h (is ∙ stuck)) ∙ sym is
+
+pub gave_own : (bundle : List Item) (s v : OneThread) (a : Act) (cs : List ℕ) (n : ℕ) (vs : List Value) (os : List HeapObject) (left : ℕ) (lg : List Event) (rl : Rule) (fr : Chain) (o : Outcome) → v ≡ s
+    → acting bundle s a ≡ acting bundle (owned (made bundle s cs) n) (Gives vs) → acting bundle s a ≢ Stuck → os ≡ v.objects ++ object_of (graph_of bundle) cs ∷ [] → left ≡ v.cells - length cs → lg ≡ v.log → rl ≡ v.rule
+    → goes_on bundle (owns v.frames.top n) vs ≡ Some fr.top → fr.below ≡ v.frames.below → o ≡ went_on (gave_state v os left lg rl fr) → o ≡ acting bundle s a
+gave_own bundle s v a cs n vs os left lg rl fr o view is h objects cells log rule way below e =
+    let main : acting bundle (owned (made bundle v cs) n) (Gives vs) ≢ Stuck → o ≡ acting bundle (owned (made bundle v cs) n) (Gives vs) =
+    λ k. e ∙ ap went_on (gave_same bundle v cs os left lg rl fr objects cells log rule) ∙ gave_at bundle (owned (made bundle v cs) n) vs fr k way below in
+    subst (λ (s : OneThread). acting bundle (owned (made bundle s cs) n) (Gives vs) ≢ Stuck → o ≡ acting bundle (owned (made bundle s cs) n) (Gives vs)) view main (λ stuck. h (is ∙ stuck)) ∙ sym is
+
+-- by the view of a state
+pub made_is : (bundle : List Item) (s v : OneThread) (a : Act) (cs : List ℕ) (vs : List Value) → v ≡ s → acting bundle v a ≡ acting bundle (made bundle v cs) (Gives vs) → acting bundle s a ≡ acting bundle (made bundle s cs) (Gives vs)
+made_is bundle s v a cs vs view h = subst (λ (s : OneThread). acting bundle s a ≡ acting bundle (made bundle s cs) (Gives vs)) view h
+
+pub owned_is : (bundle : List Item) (s v : OneThread) (a : Act) (cs : List ℕ) (n : ℕ) (vs : List Value) → v ≡ s → acting bundle v a ≡ acting bundle (owned (made bundle v cs) n) (Gives vs) → acting bundle s a ≡ acting bundle (owned (made bundle s cs) n) (Gives vs)
+owned_is bundle s v a cs n vs view h = subst (λ (s : OneThread). acting bundle s a ≡ acting bundle (owned (made bundle s cs) n) (Gives vs)) view h
+
+-- where no memory is found the object is taken back
+pub back_so : (s v : OneThread) (fr : Chain) (os : List HeapObject) (left : ℕ) (lg : List Event) (rl : Rule) → v ≡ s → fr ≡ v.frames → os ≡ v.objects → left ≡ v.cells → lg ≡ v.log → rl ≡ v.rule → gave_state v os left lg rl fr ≡ s
+back_so s v fr os left lg rl view frames objects cells log rule =
+    ap (gave_state v os left lg rl) frames ∙ ap (λ os. gave_state v os left lg rl v.frames) objects ∙ ap (λ n. gave_state v v.objects n lg rl v.frames) cells ∙ ap (λ lg. gave_state v v.objects v.cells lg rl v.frames) log
+    ∙ ap (λ rl. gave_state v v.objects v.cells v.log rl v.frames) rule ∙ view
+
+pub back_cells : (bundle : List Item) (os ps : List HeapObject) (cs : List ℕ) (left now : ℕ) → ps ≡ os ++ object_of (graph_of bundle) cs ∷ [] → now ≡ left - length cs → length cs ≤ left → now + newest_cells ps ≡ left
+back_cells bundle os ps cs left now is cells enough =
+    let newest : newest_cells ps ≡ length cs = ap newest_cells is ∙ newest_counted os (object_of (graph_of bundle) cs) in
+    omega (arith, newest, cells, enough)
+
+pub back_objects : (bundle : List Item) (os ps qs : List HeapObject) (cs : List ℕ) → ps ≡ os ++ object_of (graph_of bundle) cs ∷ [] → qs ≡ take (length ps - 1) ps → qs ≡ os
+back_objects bundle os ps qs cs is back = back ∙ ap (λ (ps : List HeapObject). take (length ps - 1) ps) is ∙ fitted.taken_back os (object_of (graph_of bundle) cs)
 
 -- ---- cells that are refused
 
@@ -75,17 +132,3 @@ pub refused_so : {E : Type 0} (bundle : List Item) (r : Result StepEnd E) (s t u
     → IsFull f (length cs) s.cells → f ≡ heaps.HeapFull asked left → OnOk r (asked < 2 ^ 128 - 1) → IfOk r (λ end. answers end u ≡ faulting bundle t (HeapFull 0 asked left)) → IfOk r (λ end. answers end u ≡ o)
 refused_so bundle (Ok end) s t u cs f asked left o is same full fault exact h = h ∙ sym (refused_is bundle s t cs asked left o is same (subst (λ f. IsFull f (length cs) s.cells) fault full) exact)
 refused_so bundle (Err e) s t u cs f asked left o is same full fault exact h = tt
-
--- ---- an object that the frame owns
-
-pub own_there : (bundle : List Item) (s v : OneThread) (n : ℕ) (vs : List Value) → v ≡ s → acting bundle (owned s n) (Gives vs) ≢ Stuck → IsSome (goes_on bundle (owns v.frames.top n) vs)
-own_there bundle s v n vs view h = subst (λ (s : OneThread). IsSome (goes_on bundle (owns s.frames.top n) vs)) (sym view) (given_there bundle (owned s n) vs h)
-
-pub gave_own : (bundle : List Item) (s v : OneThread) (n : ℕ) (vs out : List Value) (block at : ℕ) (fr left : Chain) (o : Outcome) → v ≡ s → acting bundle (owned s n) (Gives vs) ≢ Stuck
-    → fr ≡ record v.frames { top = owns v.frames.top n } → goes_on bundle (owns v.frames.top n) vs ≡ Some (stands (owns v.frames.top n) block at out)
-    → left ≡ record fr { top = stands fr.top block at out } → o ≡ went_on (record v { frames = left }) → o ≡ acting bundle (owned s n) (Gives vs)
-gave_own bundle s v n vs out block at fr left o view h owner way same is =
-    let stood : left ≡ record v.frames { top = stands (owns v.frames.top n) block at out } = same ∙ ap (λ (fr : Chain). record fr { top = stands fr.top block at out }) owner in
-    let main : acting bundle (owned v n) (Gives vs) ≢ Stuck → o ≡ acting bundle (owned v n) (Gives vs) =
-    λ k. is ∙ ap (λ left. went_on (record v { frames = left })) stood ∙ sym (given_is bundle (owned v n) vs (stands (owns v.frames.top n) block at out) k way) in
-    subst (λ (s : OneThread). acting bundle (owned s n) (Gives vs) ≢ Stuck → o ≡ acting bundle (owned s n) (Gives vs)) view main h

@@ -9,6 +9,7 @@ use Rattle.typed_heap.specs.Objects.{HeapObject, killed}
 use Rattle.typed_heap.specs.Places.{with_some}
 use Rattle.frames.specs.Activations.{Value, Goal, Activation}
 use Rattle.frames.specs.Chains.{Chain, frames_of, nothing_kept}
+use Rattle.mu_model.specs.declared.lines.Line.{Line}
 use Rattle.mu_model.specs.declared.endings.StepEnd.{StepEnd}
 use Rattle.mu_model.specs.declared.endings.Case.{Case}
 use Rattle.mu_model.specs.declared.endings.Case.TheVariants as cases
@@ -53,6 +54,10 @@ answers end s = outcome_of end (configuration s)
 -- the thread goes on so, and the step that it made counts
 unfoldable pub went_on : OneThread → Outcome
 went_on s = Next (begun s)
+
+-- the same of a step that wrote these lines
+unfoldable pub went_with : OneThread → List Line → Outcome
+went_with s ls = Next (record (begun s) { lines = ls })
 
 -- the thread does an act
 unfoldable pub acting : List Item → OneThread → Act → Outcome

@@ -1,27 +1,16 @@
 -- To believe: the bundles that the machine has rules for so far. All others are refused before a run; this file goes when every form is run.
-use Rattle.std.specs.Prelude.{◌≡◌, ℕ, Bool, true, List, [], ◌∷◌, Option, Some, None, ◌&&◌, nat_lt, length, slice_get}
+use Rattle.std.specs.Prelude.{◌≡◌, ℕ, Bool, true, List, [], ◌∷◌, Option, Some, None, ◌&&◌, slice_get}
 use Rattle.demands.specs.Demands.{Demands, none, demand, ◌⨾◌, first_unmet}
 use Rattle.ir_tree.specs.declared.items.Item.{Item}
 use Rattle.ir_tree.specs.declared.items.Item.TheVariants as items
 use Rattle.code_check.specs.declared.code.Code.{Code}
 use Rattle.bundle_check.specs.declared.code.BlockCode.{BlockCode}
 use Rattle.bundle_check.specs.Checking.{bundle_blocks}
-use Rattle.bundle_facts.specs.Facts.{HaveBlocks}
 use Rattle.step_forms.specs.Built.{form_is_built}
 use Rattle.mu_step.specs.declared.built.RunKind.{RunKind}
 use Rattle.mu_step.specs.declared.built.RunKind.TheVariants.{NotBuilt}
 
 -- ---- demands; a fault stands at the directive of its function
-
--- each function that is defined has a block
-abbrev pub functions_have_blocks : List Item → Demands RunKind
-functions_have_blocks [] = none
-functions_have_blocks (items.Typedef d ∷ is) = functions_have_blocks is
-functions_have_blocks (items.Funcsig d ∷ is) = functions_have_blocks is
-functions_have_blocks (items.Const d ∷ is) = functions_have_blocks is
-functions_have_blocks (items.GlobalCell d ∷ is) = functions_have_blocks is
-functions_have_blocks (items.Funcdecl d ∷ is) = functions_have_blocks is
-functions_have_blocks (items.Funcdef d ∷ is) = demand d.place NotBuilt (nat_lt 0 (length d.blocks)) ⨾ functions_have_blocks is
 
 abbrev pub codes_are_built : List Code → Bool
 codes_are_built [] = true
@@ -37,7 +26,7 @@ blocks_are_built bundle [] = none
 blocks_are_built bundle (b ∷ bs) = demand (place_of_function (slice_get bundle b.item)) NotBuilt (codes_are_built b.code) ⨾ blocks_are_built bundle bs
 
 unfoldable pub built_demands : List Item → Demands RunKind
-built_demands bundle = functions_have_blocks bundle ⨾ blocks_are_built bundle (bundle_blocks bundle)
+built_demands bundle = blocks_are_built bundle (bundle_blocks bundle)
 
 -- ---- what holds of a bundle that is built
 
@@ -48,6 +37,3 @@ IsBuilt bundle = (n : ℕ) (b : BlockCode) (at : ℕ) (i : Code) → slice_get (
 
 abbrev pub FormsAreBuilt : Type 0
 FormsAreBuilt = (bundle : List Item) → first_unmet (built_demands bundle) ≡ None → IsBuilt bundle
-
-abbrev pub FunctionsHaveBlocks : Type 0
-FunctionsHaveBlocks = (bundle : List Item) → first_unmet (built_demands bundle) ≡ None → HaveBlocks bundle

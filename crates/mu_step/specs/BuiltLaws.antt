@@ -1,19 +1,16 @@
 -- Laws of bundles that are built.
-use Rattle.std.specs.Prelude.{◌≡◌, ℕ, zero, suc, ◌+◌, ◌<◌, ◌≤◌, Bool, true, false, List, [], ◌∷◌, Option, Some, None, ◌&&◌, nat_lt, length, slice_get, drop, refl}
-use Rattle.std.proofs.Common.{sym, ◌∙◌, ap, arith, add-one, inl, inr}
-use Rattle.std.proofs.lemmas.Bool.Decides.{leb_tells}
+use Rattle.std.specs.Prelude.{◌≡◌, ℕ, zero, suc, ◌+◌, ◌≤◌, Bool, true, false, List, [], ◌∷◌, Option, Some, None, ◌&&◌, length, slice_get, drop, refl}
+use Rattle.std.proofs.Common.{sym, ◌∙◌, ap, arith, add-one}
 use Rattle.demands.specs.declared.fault.Fault.{Fault}
 use Rattle.demands.specs.Demands.{demand, first_unmet, or_else}
 use Rattle.ir_tree.specs.declared.items.Item.{Item}
-use Rattle.ir_tree.specs.declared.items.Item.TheVariants as items
 use Rattle.code_check.specs.declared.code.Code.{Code}
 use Rattle.bundle_check.specs.declared.code.BlockCode.{BlockCode}
 use Rattle.bundle_check.specs.Checking.{bundle_blocks}
-use Rattle.bundle_facts.specs.Facts.{HaveBlocks}
 use Rattle.step_forms.specs.Built.{form_is_built}
 use Rattle.mu_step.specs.declared.built.RunKind.{RunKind}
 use Rattle.mu_step.specs.declared.built.RunKind.TheVariants.{NotBuilt}
-use Rattle.mu_step.specs.Built.{functions_have_blocks, codes_are_built, place_of_function, blocks_are_built, built_demands, IsBuilt, FormsAreBuilt, FunctionsHaveBlocks}
+use Rattle.mu_step.specs.Built.{codes_are_built, place_of_function, blocks_are_built, built_demands, IsBuilt, FormsAreBuilt}
 
 both_met : (a b : Option (Fault RunKind)) → or_else a b ≡ None → (a ≡ None) × (b ≡ None)
 both_met None b h = (refl, h)
@@ -26,9 +23,6 @@ met_so place false h = cc
 and_both : (a b : Bool) → (a && b) ≡ true → (a ≡ true) × (b ≡ true)
 and_both true b h = (refl, h)
 and_both false b h = cc
-
-below_so : (a b : ℕ) → nat_lt a b ≡ true → a < b
-below_so a b h = elim (leb_tells (suc a) b) [ inl t ↦ omega (arith, t.1) | inr f ↦ absurd (let no : nat_lt a b ≡ false = f.0 in cc) ]
 
 code_built : (is : List Code) (at : ℕ) (i : Code) → codes_are_built is ≡ true → slice_get is at ≡ Some i → form_is_built i.form ≡ true
 code_built [] at i h e = cc
@@ -48,40 +42,14 @@ block_built bundle (x ∷ bs) (suc n) b h e =
 pub forms_built : FormsAreBuilt
 unfolding built_demands IsBuilt
 forms_built bundle h = λ n b at i there here.
-    let both = both_met (first_unmet (functions_have_blocks bundle)) (first_unmet (blocks_are_built bundle (bundle_blocks bundle))) h in
-    code_built b.code at i (block_built bundle (bundle_blocks bundle) n b both.1 there) here
-
-have_by : (is : List Item) → first_unmet (functions_have_blocks is) ≡ None → HaveBlocks is
-have_by [] h = tt
-have_by (items.Typedef d ∷ is) h = have_by is h
-have_by (items.Funcsig d ∷ is) h = have_by is h
-have_by (items.Const d ∷ is) h = have_by is h
-have_by (items.GlobalCell d ∷ is) h = have_by is h
-have_by (items.Funcdecl d ∷ is) h = have_by is h
-have_by (items.Funcdef d ∷ is) h =
-    let both = both_met (first_unmet (demand d.place NotBuilt (nat_lt 0 (length d.blocks)))) (first_unmet (functions_have_blocks is)) h in
-    (below_so 0 (length d.blocks) (met_so d.place (nat_lt 0 (length d.blocks)) both.0), have_by is both.1)
-
-pub have_blocks : FunctionsHaveBlocks
-unfolding built_demands
-have_blocks bundle h = have_by bundle (both_met (first_unmet (functions_have_blocks bundle)) (first_unmet (blocks_are_built bundle (bundle_blocks bundle))) h).0
+    code_built b.code at i (block_built bundle (bundle_blocks bundle) n b h there) here
 
 -- what the machine asks of a form
 pub built_at : (bundle : List Item) (n at : ℕ) (b : BlockCode) (i : Code) → IsBuilt bundle → slice_get (bundle_blocks bundle) n ≡ Some b → slice_get b.code at ≡ Some i → form_is_built i.form ≡ true
 unfolding IsBuilt
 built_at bundle n at b i built there here = built n b at i there here
 
--- ---- what is judged in parts
-
-pub met_first : (bundle : List Item) → first_unmet (functions_have_blocks bundle) ≡ None → first_unmet (built_demands bundle) ≡ first_unmet (blocks_are_built bundle (bundle_blocks bundle))
-unfolding built_demands
-met_first bundle h = ap (λ o. or_else o (first_unmet (blocks_are_built bundle (bundle_blocks bundle)))) h
-
-pub unmet_first : (bundle : List Item) (f : Fault RunKind) → first_unmet (functions_have_blocks bundle) ≡ Some f → first_unmet (built_demands bundle) ≡ Some f
-unfolding built_demands
-unmet_first bundle f h = ap (λ o. or_else o (first_unmet (blocks_are_built bundle (bundle_blocks bundle)))) h
-
-pub ruleset both_demands = (met_first, unmet_first)
+-- ---- blocks, one by one
 
 drop_block : (bs : List BlockCode) (n : ℕ) (b : BlockCode) → slice_get bs n ≡ Some b → drop n bs ≡ b ∷ drop (suc n) bs
 drop_block [] n b h = cc

@@ -1,3 +1,5 @@
+pub mod AccessLaws
+pub mod Accessing
 pub mod ActLaws
 pub mod Acting
 pub mod Built
@@ -10,6 +12,7 @@ pub mod ObjectLaws
 pub mod OneThread
 pub mod Outcome
 pub mod Plain
+pub mod Remembering
 pub mod Starting
 pub mod StepLaws
 pub mod Unwinding

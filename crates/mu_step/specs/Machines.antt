@@ -6,11 +6,12 @@ use Rattle.ir_tree.specs.declared.items.Item.{Item}
 use Rattle.bundle_names.specs.Naming.{name_demands}
 use Rattle.bundle_check.specs.Checking.{check_demands}
 use Rattle.mu_model.specs.declared.endings.StepEnd.{StepEnd}
+use Rattle.mu_model.specs.declared.endings.StepEnd.TheVariants.{Went, Ended}
 use Rattle.mu_model.specs.Programs.{named}
 use Rattle.mu_model.specs.Outcomes.{Stuck}
 use Rattle.mu_model.specs.Step.{step}
 use Rattle.model_numbers.specs.Laws.{ProgramsAreSame}
-use Rattle.mu_step.specs.Outcome.{outcome_of}
+use Rattle.mu_step.specs.Outcome.{outcome_of, Stays}
 use Rattle.mu_step.specs.OneThread.{OneThread, configuration}
 use Rattle.mu_step.specs.Acting.{answers, stepping}
 
@@ -27,4 +28,8 @@ pub steps_answer : (bundle : List Item) (s t : OneThread) (end : StepEnd) → Pr
 unfolding answers
 steps_answer bundle s t end same are met h = h ∙ steps_so bundle s same are met
 
-pub ruleset machines = (steps_there, steps_answer)
+pub stays_shown : (end : StepEnd) (s t : OneThread) → Stays end s t → Stays end (configuration s) (configuration t)
+stays_shown (Went ls) s t h = tt
+stays_shown (Ended ls e) s t h = ap configuration h
+
+pub ruleset machines = (steps_there, steps_answer, stays_shown)

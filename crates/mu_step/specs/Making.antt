@@ -1,5 +1,5 @@
 -- Inner: nothing that a reader believes of a run rests on this. It is what acts over objects leave.
-use Rattle.std.specs.Prelude.{◌≡◌, ℕ, ◌+◌, ◌-◌, ◌<◌, List, [], ◌∷◌, ◌++◌, Result, Ok, Err, length, take}
+use Rattle.std.specs.Prelude.{◌≡◌, ℕ, ◌-◌, ◌<◌, List, [], ◌∷◌, ◌++◌, Result, Ok, Err, length}
 use Rattle.ir_tree.specs.declared.items.Item.{Item}
 use Rattle.type_laws.specs.declared.definition.TypeDef.{TypeDef}
 use Rattle.mu_values.specs.declared.scalars.Scalar.{Scalar}
@@ -8,7 +8,7 @@ use Rattle.typed_heap.specs.declared.faults.PlaceFault.{PlaceFault}
 use Rattle.typed_heap.specs.declared.faults.HeapFault.{HeapFault}
 use Rattle.typed_heap.specs.declared.faults.HeapFault.TheVariants as heaps
 use Rattle.typed_heap.specs.Objects.{object_of}
-use Rattle.typed_heap.specs.Heap.{told_cells, newest_cells}
+use Rattle.typed_heap.specs.Heap.{told_cells}
 use Rattle.frames.specs.Activations.{Activation}
 use Rattle.mu_model.specs.Acts.{Gives, Faults}
 use Rattle.mu_model.specs.Outcomes.{Outcome, case_of_fault}
@@ -42,7 +42,3 @@ owned s n = record s { frames = record s.frames { top = owns s.frames.top n } }
 abbrev pub IsFull : HeapFault → ℕ → ℕ → Type 0
 IsFull (heaps.HeapFull asked told) n left = (left < n) × (told ≡ left) × (asked ≡ told_cells n)
 IsFull heaps.Memory n left = Unit {0}
-
--- the newest object is taken back
-abbrev pub taken_back : OneThread → OneThread
-taken_back s = record s { objects = take (length s.objects - 1) s.objects; cells = s.cells + newest_cells s.objects }

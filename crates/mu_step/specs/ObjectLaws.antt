@@ -10,11 +10,9 @@ use Rattle.bundle_check.specs.Checking.{bundle_tables}
 use Rattle.typed_heap.specs.declared.faults.PlaceFault.{PlaceFault}
 use Rattle.typed_heap.specs.declared.faults.HeapFault.{HeapFault}
 use Rattle.typed_heap.specs.declared.faults.HeapFault.TheVariants as heaps
-use Rattle.typed_heap.specs.Objects.{leaf_classes, run_classes, object_of}
-use Rattle.typed_heap.specs.Heap.{hybrid_classes, told_cells, newest_cells}
+use Rattle.typed_heap.specs.Objects.{leaf_classes, run_classes}
+use Rattle.typed_heap.specs.Heap.{hybrid_classes, told_cells}
 use Rattle.typed_heap.specs.Places.{with_some, Way, move, find_place}
-use Rattle.typed_heap.proofs.Fitted.{newest_counted}
-use Rattle.typed_heap.proofs.Fitted as fitted
 use Rattle.typed_heap.proofs.Runs.{times_length}
 use Rattle.type_laws.specs.Leaves.{times}
 use Rattle.frames.specs.Activations.{Value, Goal, Activation}
@@ -29,7 +27,7 @@ use Rattle.mu_model.specs.Outcomes.{Outcome, Stuck, on, unless_refused, tried, o
 use Rattle.model_numbers.specs.Numbered.{numbered}
 use Rattle.mu_step.specs.OneThread.{OneThread}
 use Rattle.mu_step.specs.Acting.{begun, turn, doing_of, acting, faulting, goes_on}
-use Rattle.mu_step.specs.Making.{tells, graph_of, made, owns, owned, IsFull, taken_back}
+use Rattle.mu_step.specs.Making.{tells, graph_of, made, owns, owned, IsFull}
 use Rattle.mu_step.specs.StepLaws.{on_there, acting_there, acting_is}
 
 -- ---- what is found
@@ -179,15 +177,6 @@ full_so n left r f full enough e =
           let is : f ≡ heaps.HeapFull (told_cells n) left = cc in
           subst (λ f. IsFull f n left) (sym is) (less, refl, refl))
     ]
-
--- ---- an object that is taken back
-
-pub made_back : (bundle : List Item) (s : OneThread) (cs : List ℕ) → length cs ≤ s.cells → taken_back (made bundle s cs) ≡ s
-made_back bundle s cs h =
-    let o = object_of (graph_of bundle) cs in
-    let cells : s.cells - length cs + newest_cells (s.objects ++ o ∷ []) ≡ s.cells = ap (λ n. s.cells - length cs + n) (newest_counted s.objects o) ∙ omega (arith, h) in
-    ap (λ os. record s { objects = os; cells = s.cells - length cs + newest_cells (s.objects ++ o ∷ []) }) (fitted.taken_back s.objects o)
-    ∙ ap (λ n. record s { cells = n }) cells
 
 -- ---- a frame that gets one more object
 

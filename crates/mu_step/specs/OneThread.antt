@@ -4,15 +4,19 @@ use Rattle.mu_values.specs.declared.scalars.Scalar.TheVariants.{Null}
 use Rattle.typed_heap.specs.Objects.{HeapObject}
 use Rattle.frames.specs.Activations.{Activation}
 use Rattle.frames.specs.Chains.{Chain, frames_of}
-use Rattle.mem_axioms.specs.declared.types.Rule.TheVariants.{C11}
+use Rattle.mem_axioms.specs.declared.types.Rule.{Rule}
+use Rattle.mem_axioms.specs.declared.types.Event.{Event}
 use Rattle.mu_model.specs.Configuration.{Stack, Active, Dead, Thread, Configuration}
 
--- the frames of the stack of thread 0, and whether the thread is left; the objects, how many cells may still be made, how many steps were
--- made, and how many may be
+-- the frames of the stack of thread 0, and whether the thread is left; the objects, the log, what is left of the schedule, the rule of
+-- release sequences, how many cells may still be made, how many steps were made, and how many may be
 pub record OneThread : Type 0 where
   pub frames : Chain
   pub left : Bool
   pub objects : List HeapObject
+  pub log : List Event
+  pub picks : List ℕ
+  pub rule : Rule
   pub cells : ℕ
   pub steps : ℕ
   pub budget : ℕ
@@ -34,15 +38,15 @@ configured s threads stacks =
       threads = threads;
       stacks = stacks;
       objects = s.objects;
-      log = [];
+      log = s.log;
       watched = [];
       waiters = [];
       client = record { entries = []; auto = false };
-      picks = [];
+      picks = s.picks;
       cells = s.cells;
       steps = s.steps;
       budget = s.budget;
-      rule = C11;
+      rule = s.rule;
       lines = [];
     }
 

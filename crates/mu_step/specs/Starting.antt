@@ -1,5 +1,5 @@
 -- Inner: nothing that a reader believes of a run rests on this. It is the first configuration of a run, by the numbers of the code.
-use Rattle.std.specs.Prelude.{◌≡◌, ℕ, zero, suc, ◌+◌, ◌-◌, ◌<◌, true, List, [], ◌∷◌, ◌++◌, Option, Some, None, IsSome, length, map, take, drop, slice_get, slice_index_or, sum_by, refl}
+use Rattle.std.specs.Prelude.{◌≡◌, ℕ, zero, suc, ◌+◌, ◌-◌, ◌<◌, true, List, [], ◌∷◌, ◌++◌, Option, Some, None, IsSome, IsSomeAnd, length, map, take, drop, slice_get, slice_index_or, sum_by, refl}
 use Rattle.std.proofs.Common.{sym, ◌∙◌, ap, subst, arith, add-one}
 use Rattle.std.proofs.Math.Nat.{sub-zero}
 use Rattle.std.proofs.Math.Seq.{take-suc}
@@ -18,19 +18,22 @@ use Rattle.bundle_check.specs.Checking.{bundle_functions, bundle_tables, check_d
 use Rattle.typed_heap.specs.Objects.{HeapObject, leaf_classes, object_of}
 use Rattle.typed_heap.specs.Places.{with_some}
 use Rattle.frames.specs.Chains.{Chain}
+use Rattle.mem_axioms.specs.declared.types.Rule.{Rule}
+use Rattle.mem_axioms.specs.declared.types.Event.{Event}
 use Rattle.mu_model.specs.Configuration.{Configuration}
 use Rattle.mu_model.specs.Types.{type_graph, class_definition}
 use Rattle.mu_model.specs.Programs.{named}
-use Rattle.mu_model.specs.Run.{target_leaves, global_objects, cells_taken, begins_in, first_configuration}
+use Rattle.mu_model.specs.Acts.{Program}
+use Rattle.mu_model.specs.Run.{Setting, target_leaves, global_objects, cells_taken, begins_in, first_configuration}
 use Rattle.model_numbers.specs.Laws.{ProgramsAreSame}
 use Rattle.model_numbers.specs.Numbered.{numbered}
 use Rattle.mu_step.specs.Plain.{plain_setting}
 use Rattle.mu_step.specs.OneThread.{OneThread, configuration}
 use Rattle.mu_step.specs.Acting.{entered}
-use Rattle.mu_step.specs.StepLaws.{some_of, with_there, with_is, get_below}
+use Rattle.mu_step.specs.StepLaws.{some_of, with_is, get_below}
 
-unfoldable pub starting : List Item → ℕ → ℕ → ℕ → Option Configuration
-starting bundle cells budget f = first_configuration (numbered bundle) (plain_setting (bundle_tables bundle) cells budget) f
+unfoldable pub starting : List Item → Setting → ℕ → Option Configuration
+starting bundle set f = first_configuration (numbered bundle) set f
 
 -- ---- globals
 
@@ -112,56 +115,55 @@ pub ruleset globals = (none_so_far, one_more, all_so_far)
 
 -- ---- the first configuration
 
-pub start_there : (bundle : List Item) (cells budget f : ℕ) → IsSome (starting bundle cells budget f)
+none_behind : (f : ℕ → HeapObject) (xs : List ℕ) → drop (length xs) (map f xs) ≡ []
+none_behind f [] = refl
+none_behind f (x ∷ xs) = none_behind f xs
+
+-- the cells of the globals do not count
+pub globals_not_counted : (p : Tables) (left cells : ℕ) → left ≡ cells → left ≡ cells - cells_taken p (global_objects p)
+globals_not_counted p left cells h =
+    h ∙ sym (sub-zero cells) ∙ ap (λ os. cells - sum_by (λ (o : HeapObject). length o.leaves) os) (sym (none_behind (λ c. object_of (type_graph p) (target_leaves p (class_definition p c))) p.global_cells))
+
+pub start_there : (bundle : List Item) (f : ℕ) → IsSomeAnd ((numbered bundle).body f) IsSome
     → (function : Function) × (slice_get (bundle_functions bundle) f ≡ Some function) × (block : ℕ) × (function.first ≡ Some block) × (f < length (bundle_functions bundle))
+start_there bundle f h = by (slice_get (bundle_functions bundle) f) refl h
+  where
+    by : (o : Option Function) → slice_get (bundle_functions bundle) f ≡ o → IsSomeAnd (with_some o (λ (f : Function). Some f.first)) IsSome
+        → (function : Function) × (slice_get (bundle_functions bundle) f ≡ Some function) × (block : ℕ) × (function.first ≡ Some block) × (f < length (bundle_functions bundle))
+    by None e k = absurd k
+    by (Some function) e k = let r = some_of function.first k in (function, e, r.0, r.1, get_below (bundle_functions bundle) f function e)
+
+abbrev pub first_state : List HeapObject → List ℕ → Rule → ℕ → ℕ → ℕ → OneThread
+first_state os picks rule cells budget block =
+    record { frames = record { top = entered block []; below = [] }; left = true; objects = os; log = []; picks = picks; rule = rule; cells = cells; steps = 0; budget = budget }
+
+abbrev pub state_of : Chain → List HeapObject → List Event → List ℕ → Rule → ℕ → ℕ → OneThread
+state_of fr os lg picks rule cells budget = record { frames = fr; left = true; objects = os; log = lg; picks = picks; rule = rule; cells = cells; steps = 0; budget = budget }
+
+pub state_first : (os : List HeapObject) (picks : List ℕ) (rule r : Rule) (cells budget block : ℕ) (fr : Chain) (lg : List Event) → fr.top ≡ entered block [] → fr.below ≡ [] → lg ≡ [] → r ≡ rule
+    → state_of fr os lg picks r cells budget ≡ first_state os picks rule cells budget block
+state_first os picks rule r cells budget block fr lg top below none same =
+    ap (λ t. state_of (record { top = t; below = fr.below }) os lg picks r cells budget) top ∙ ap (λ bs. state_of (record { top = entered block []; below = bs }) os lg picks r cells budget) below
+    ∙ ap (λ lg. state_of (record { top = entered block []; below = [] }) os lg picks r cells budget) none ∙ ap (λ r. first_state os picks r cells budget block) same
+
+pub start_is : (bundle : List Item) (os : List HeapObject) (picks : List ℕ) (rule : Rule) (left budget f block cells : ℕ) (function : Function) (s : OneThread) → slice_get (bundle_functions bundle) f ≡ Some function → function.first ≡ Some block
+    → s ≡ first_state os picks rule left budget block → left ≡ cells - cells_taken (bundle_tables bundle) os → starting bundle (plain_setting os picks rule cells budget) f ≡ Some (configuration s)
 unfolding starting
-start_there bundle cells budget f h =
-    let r = some_of (first_configuration (numbered bundle) (plain_setting (bundle_tables bundle) cells budget) f) h in
-    let go : Option ℕ → Option Configuration = λ b. with_some b (λ block. Some (begins_in (numbered bundle) (plain_setting (bundle_tables bundle) cells budget) f block)) in
-    let b = with_there ((numbered bundle).body f) go r.0 r.1 in
-    let k = with_there b.0 (λ block. Some (begins_in (numbered bundle) (plain_setting (bundle_tables bundle) cells budget) f block)) r.0 b.2 in
-    let q = with_there (slice_get (bundle_functions bundle) f) (λ (f : Function). Some f.first) b.0 b.1 in
-    let first : q.0.first ≡ Some k.0 = let is = q.2 in let found = k.1 in cc in
-    (q.0, q.1, k.0, first, get_below (bundle_functions bundle) f q.0 q.1)
-
-drop_map : (f : ℕ → HeapObject) (xs : List ℕ) → drop (length xs) (map f xs) ≡ []
-drop_map f [] = refl
-drop_map f (x ∷ xs) = drop_map f xs
-
-none_taken : (p : Tables) (cells : ℕ) → cells - cells_taken p (global_objects p) ≡ cells
-none_taken p cells =
-    ap (λ os. cells - sum_by (λ (o : HeapObject). length o.leaves) os) (drop_map (λ c. object_of (type_graph p) (target_leaves p (class_definition p c))) p.global_cells) ∙ sub-zero cells
-
-abbrev pub first_state : Tables → ℕ → ℕ → ℕ → OneThread
-first_state p cells budget block = record { frames = record { top = entered block []; below = [] }; left = true; objects = global_objects p; cells = cells; steps = 0; budget = budget }
-
-abbrev pub state_of : Chain → List HeapObject → ℕ → ℕ → OneThread
-state_of fr os cs budget = record { frames = fr; left = true; objects = os; cells = cs; steps = 0; budget = budget }
-
-pub state_first : (p : Tables) (cells budget block : ℕ) (fr : Chain) (os : List HeapObject) (cs : ℕ) → fr.top ≡ entered block [] → fr.below ≡ [] → os ≡ global_objects p → cs ≡ cells
-    → state_of fr os cs budget ≡ first_state p cells budget block
-state_first p cells budget block fr os cs top below objects left =
-    let state : Chain → List HeapObject → ℕ → OneThread = λ fr os cs. record { frames = fr; left = true; objects = os; cells = cs; steps = 0; budget = budget } in
-    ap (λ t. state (record { top = t; below = fr.below }) os cs) top ∙ ap (λ bs. state (record { top = entered block []; below = bs }) os cs) below
-    ∙ ap (λ os. state (record { top = entered block []; below = [] }) os cs) objects ∙ ap (λ cs. state (record { top = entered block []; below = [] }) (global_objects p) cs) left
-
-pub start_is : (bundle : List Item) (cells budget f block : ℕ) (function : Function) (s : OneThread) → slice_get (bundle_functions bundle) f ≡ Some function → function.first ≡ Some block
-    → s ≡ first_state (bundle_tables bundle) cells budget block → starting bundle cells budget f ≡ Some (configuration s)
-unfolding starting
-start_is bundle cells budget f block function s there first same =
-    let set = plain_setting (bundle_tables bundle) cells budget in
+start_is bundle os picks rule left budget f block cells function s there first same enough =
+    let set = plain_setting os picks rule cells budget in
     let go : Option ℕ → Option Configuration = λ b. with_some b (λ block. Some (begins_in (numbered bundle) set f block)) in
-    let state : ℕ → OneThread = λ cells. first_state (bundle_tables bundle) cells budget block in
     ap (λ o. with_some o go) (with_is (slice_get (bundle_functions bundle) f) function (λ (f : Function). Some f.first) there) ∙ ap go first
-    ∙ ap (λ n. Some (configuration (state n))) (none_taken (bundle_tables bundle) cells) ∙ ap (λ s. Some (configuration s)) (sym same)
+    ∙ ap (λ n. Some (configuration (first_state os picks rule n budget block))) (sym enough) ∙ ap (λ s. Some (configuration s)) (sym same)
 
 pub ruleset starts = (start_there, start_is)
 
 -- ---- by names
 
-pub starts_so : (bundle : List Item) (cells budget f : ℕ) → ProgramsAreSame → first_unmet (name_demands bundle) ≡ None → first_unmet (check_demands bundle) ≡ None
-    → first_configuration (named bundle) (plain_setting (bundle_tables bundle) cells budget) f ≡ starting bundle cells budget f
+pub starts_so : (bundle : List Item) (set : Setting) (f : ℕ) → ProgramsAreSame → first_unmet (name_demands bundle) ≡ None → first_unmet (check_demands bundle) ≡ None → first_configuration (named bundle) set f ≡ starting bundle set f
 unfolding starting
-starts_so bundle cells budget f same are met = ap (λ p. first_configuration p (plain_setting (bundle_tables bundle) cells budget) f) (same bundle are met)
+starts_so bundle set f same are met = ap (λ p. first_configuration p set f) (same bundle are met)
 
-pub ruleset begins = (starts_so)
+pub body_so : (bundle : List Item) (f : ℕ) → ProgramsAreSame → first_unmet (name_demands bundle) ≡ None → first_unmet (check_demands bundle) ≡ None → IsSomeAnd ((named bundle).body f) IsSome → IsSomeAnd ((numbered bundle).body f) IsSome
+body_so bundle f same are met h = subst (λ (p : Program). IsSomeAnd (p.body f) IsSome) (same bundle are met) h
+
+pub ruleset begins = (starts_so, body_so)

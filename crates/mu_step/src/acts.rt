@@ -8,6 +8,8 @@ ghost use Rattle.mu_model.specs.Acts as acts;
 ghost use Rattle.step_forms.specs.Asked.{asked};
 ghost use Rattle.step_forms.specs.Classes.{ActIsThere};
 ghost use Rattle.mu_step.specs.Built.{IsBuilt};
+ghost use Rattle.mu_step.specs.OneThread.{OneThread};
+ghost use Rattle.mu_step.specs.Outcome.{Stays};
 ghost use Rattle.mu_step.specs.Acting.{answers, went_on, acting, stepping};
 ghost use Rattle.mu_step.specs.Making.{graph_of};
 
@@ -15,12 +17,13 @@ use crate::flow::{passing, push_on_top, stand};
 use crate::state::{State, ended};
 use bundle_check::Checked;
 use bundle_facts::widths_are_narrow;
+use mem_axioms::Memory;
 use mu_model::{Ending, StepEnd};
 use mu_values::{Scalar, Slots};
 use std::alloc::{AllocError, Global};
 use step_forms::{Act, Room, Variables, decide, forms_are_there};
 
-impl State {
+impl<M: Memory> State<M> {
     /// The thread's instruction has these results.
     #[tactic(auto, using(crate::specs::ActLaws::giving))]
     pub(crate) fn give(
@@ -35,6 +38,7 @@ impl State {
         requires there { acting code.now self.old (acts.Gives results.now.values) ≢ Stuck }
         ensures ok { IfOk result (λ end. answers end self.new ≡ acting code.now self.old (acts.Gives results.now.values)) }
         ensures err { OnErr result (self.new ≡ self.old) }
+        ensures stays { IfOk result (λ end. (s t : OneThread) → Stays end s t) }
     {
         let place = passing(code, self.frames.top(), results, out)?;
         stand(&mut self.frames, place, out);
@@ -47,6 +51,7 @@ impl State {
         requires room { self.old.steps < self.old.budget }
         ensures ok { IfOk result (λ end. answers end self.new ≡ went_on (record self.old { frames = record self.old.frames { top = stands self.old.frames.top self.old.frames.top.block (self.old.frames.top.at + 1) (self.old.frames.top.vars ++ (scalar ∷ []) ∷ []) } })) }
         ensures err { OnErr result (self.new ≡ self.old) }
+        ensures stays { IfOk result (λ end. (s t : OneThread) → Stays end s t) }
     {
         push_on_top(&mut self.frames, scalar)?;
         Ok(self.went(alloc))
@@ -66,6 +71,7 @@ impl State {
         requires there { acting code.now self.old (acts.Gives ((scalar ∷ []) ∷ [])) ≢ Stuck }
         ensures ok { IfOk result (λ end. answers end self.new ≡ acting code.now self.old (acts.Gives ((scalar ∷ []) ∷ []))) }
         ensures err { OnErr result (self.new ≡ self.old) }
+        ensures stays { IfOk result (λ end. (s t : OneThread) → Stays end s t) }
     {
         values.clear();
         values.push_scalar(scalar)?;
@@ -87,6 +93,7 @@ impl State {
         requires there { acting code.now self.old (acts.Gives ((scalar ∷ []) ∷ [])) ≢ Stuck }
         ensures ok { IfOk result (λ end. answers end self.new ≡ acting code.now self.old (acts.Gives ((scalar ∷ []) ∷ []))) }
         ensures err { OnErr result (self.new ≡ self.old) }
+        ensures stays { IfOk result (λ end. (s t : OneThread) → Stays end s t) }
     {
         let top = self.frames.top();
         if top.fresh {
@@ -102,7 +109,8 @@ impl State {
     pub(crate) fn go(&mut self, alloc: Global, block: u32, values: &mut Slots) -> StepEnd
         requires left { self.old.left ≡ true }
         requires room { self.old.steps < self.old.budget }
-        ensures { answers result self.new ≡ went_on (record self.old { frames = record self.old.frames { top = stands self.old.frames.top block 0 values.old.values } }) }
+        ensures on { answers result self.new ≡ went_on (record self.old { frames = record self.old.frames { top = stands self.old.frames.top block 0 values.old.values } }) }
+        ensures end { (s t : OneThread) → Stays result s t }
     {
         self.frames.jump(block, values);
         self.went(alloc)
@@ -125,6 +133,7 @@ impl State {
         requires there { acting code.now self.old (asked act room.old.values.values room.old.types.members) ≢ Stuck }
         ensures ok { IfOk result (λ end. answers end self.new ≡ acting code.now self.old (asked act room.old.values.values room.old.types.members)) }
         ensures err { OnErr result (self.new ≡ self.old) }
+        ensures stays { IfOk result (λ end. Stays end self.old self.new) }
     {
         match act {
             Act::Gives(scalar) => self.give_scalar(alloc, code, scalar, &mut room.values, out),
@@ -163,6 +172,15 @@ impl State {
                 out,
             ),
             Act::MakesOwn { class } => self.make_own(alloc, code, class, &mut room.values, out),
+            Act::Accesses { access, cell } => self.access(
+                alloc,
+                code,
+                access,
+                cell,
+                &mut room.values,
+                out,
+            ),
+            Act::Fences(order) => self.fence(alloc, code, order, &mut room.values, out),
         }
     }
 
@@ -204,6 +222,7 @@ impl State {
         requires there { stepping code.now self.old ≢ Stuck }
         ensures ok { IfOk result (λ end. answers end self.new ≡ stepping code.now self.old) }
         ensures err { OnErr result (self.new ≡ self.old) }
+        ensures stays { IfOk result (λ end. Stays end self.old self.new) }
     {
         let _items = code.items();
         widths_are_narrow();
@@ -224,6 +243,7 @@ impl State {
         requires there { stepping code.now self.old ≢ Stuck }
         ensures ok { IfOk result (λ end. answers end self.new ≡ stepping code.now self.old) }
         ensures err { OnErr result (self.new ≡ self.old) }
+        ensures stays { IfOk result (λ end. Stays end self.old self.new) }
     {
         if !self.left {
             return Ok(ended(alloc, Ending::Done));

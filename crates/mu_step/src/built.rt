@@ -3,7 +3,7 @@ ghost use Rattle.std.specs.Prelude.{◌≡◌, ◌<◌, Some, length, slice_get,
 ghost use Rattle.demands.specs.Demands.{Meets, IsMemory, demand, first_unmet};
 ghost use Rattle.bundle_check.specs.Checking.{bundle_blocks};
 ghost use Rattle.mu_step.specs.declared.built.RunKind.TheVariants.{NotBuilt};
-ghost use Rattle.mu_step.specs.Built.{codes_are_built, place_of_function, blocks_are_built, functions_have_blocks, built_demands, FormsAreBuilt, FunctionsHaveBlocks};
+ghost use Rattle.mu_step.specs.Built.{codes_are_built, place_of_function, built_demands, FormsAreBuilt};
 
 use bundle_check::{BlockCode, Checked};
 use code_check::Code;
@@ -60,20 +60,6 @@ fn place_of_function(item: Option<&Item>) -> usize
     }
 }
 
-/// Judges whether each function that is defined has a block.
-fn functions_have_blocks(items: &[Item]) -> Result<(), RunFault>
-    ensures { Meets (functions_have_blocks items.now) result }
-{
-    let mut left = items;
-    'each: while let [item, more @ ..] = left {
-        if let Item::Funcdef(function) = item {
-            demanded(!function.blocks.is_empty(), function.place)?;
-        }
-        left = more;
-    }
-    Ok(())
-}
-
 fn block_is_built(code: &Checked, block: &BlockCode) -> Result<(), RunFault>
     ensures { Meets (demand (place_of_function (slice_get code.now block.now.item)) NotBuilt (codes_are_built block.now.code)) result }
 {
@@ -84,10 +70,11 @@ fn block_is_built(code: &Checked, block: &BlockCode) -> Result<(), RunFault>
     )
 }
 
-/// Judges whether each block has forms alone that are built.
-#[tactic(auto, using(crate::specs::BuiltLaws::blocks_in_turn))]
-fn blocks_are_built(code: &Checked) -> Result<(), RunFault>
-    ensures { Meets (blocks_are_built code.now (bundle_blocks code.now)) result }
+/// Judges whether the machine has rules for all of a bundle: whether each block has forms alone that are built. It takes time in
+/// proportion to the bundle.
+#[tactic(auto, using(crate::specs::BuiltLaws::blocks_in_turn), unfolding(crate::specs::Built::built_demands))]
+pub fn are_built(code: &Checked) -> Result<(), RunFault>
+    ensures { Meets (built_demands code.now) result }
 {
     let Ok(many) = u32::try_from(code.blocks()) else {
         return Err(RunFault::Memory);
@@ -101,21 +88,7 @@ fn blocks_are_built(code: &Checked) -> Result<(), RunFault>
     Ok(())
 }
 
-/// Judges whether the machine has rules for all of a bundle. It takes time in proportion to the bundle.
-#[tactic(auto, using(crate::specs::BuiltLaws::both_demands))]
-pub fn are_built(code: &Checked) -> Result<(), RunFault>
-    ensures { Meets (built_demands code.now) result }
-{
-    functions_have_blocks(code.items())?;
-    blocks_are_built(code)
-}
-
 /// A bundle that meets these demands has forms alone that are built.
 pub fn forms_are_built()
     ensures { FormsAreBuilt }
-{}
-
-/// In a bundle that meets these demands each function that is defined has a block.
-pub fn have_blocks()
-    ensures { FunctionsHaveBlocks }
 {}

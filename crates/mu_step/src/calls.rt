@@ -2,6 +2,8 @@
 ghost use Rattle.std.specs.Prelude.{◌≡◌, ◌≢◌, ◌<◌, IsSome, Some, IfOk, IfSome, OnErr, true};
 ghost use Rattle.mu_model.specs.Outcomes.{Stuck};
 ghost use Rattle.mu_model.specs.Acts as acts;
+ghost use Rattle.mu_step.specs.OneThread.{OneThread};
+ghost use Rattle.mu_step.specs.Outcome.{Stays};
 ghost use Rattle.mu_step.specs.Acting.{answers, went_on, acting, awaited, entered, entered_above, objects_end};
 
 use crate::objects::end_objects;
@@ -9,6 +11,7 @@ use crate::state::State;
 use crate::waiting::{enter, entered, waiting};
 use bundle_check::Checked;
 use frames::Frames;
+use mem_axioms::Memory;
 use mu_model::{Case, StepEnd};
 use mu_values::Slots;
 use std::alloc::{AllocError, Global};
@@ -22,7 +25,7 @@ fn replace_top(frames: &mut Frames, block: u32, values: &mut Slots)
     frames.top_mut().cells.clear();
 }
 
-impl State {
+impl<M: Memory> State<M> {
     /// The thread calls a function.
     #[tactic(auto, using(crate::specs::ActLaws::calling))]
     pub(crate) fn call(
@@ -37,6 +40,7 @@ impl State {
         requires there { acting code.now self.old (acts.Calls function values.old.values) ≢ Stuck }
         ensures ok { IfOk result (λ end. answers end self.new ≡ acting code.now self.old (acts.Calls function values.old.values)) }
         ensures err { OnErr result (self.new ≡ self.old) }
+        ensures stays { IfOk result (λ end. Stays end self.old self.new) }
     {
         match code.function(function).first {
             None => Ok(self.undefined(alloc, Case::NoBody)),
@@ -58,6 +62,7 @@ impl State {
         requires there { IsSome (awaited code.now self.old.frames.top function) }
         ensures ok { IfOk result (λ end. IfSome (awaited code.now self.old.frames.top function) (λ w. answers end self.new ≡ went_on (record self.old { frames = entered_above self.old.frames (entered block values.old.values) w }))) }
         ensures err { OnErr result (self.new ≡ self.old) }
+        ensures stays { IfOk result (λ end. Stays end self.old self.new) }
     {
         let waiting = waiting(alloc, code, self.frames.top(), function)?;
         let values = mem::replace(values, Slots::new(alloc));
@@ -77,7 +82,8 @@ impl State {
         requires left { self.old.left ≡ true }
         requires room { self.old.steps < self.old.budget }
         requires there { acting code.now self.old (acts.Replaces function values.old.values) ≢ Stuck }
-        ensures { answers result self.new ≡ acting code.now self.old (acts.Replaces function values.old.values) }
+        ensures on { answers result self.new ≡ acting code.now self.old (acts.Replaces function values.old.values) }
+        ensures end { Stays result self.old self.new }
     {
         match code.function(function).first {
             None => self.undefined(alloc, Case::NoBody),
@@ -89,7 +95,8 @@ impl State {
     fn replace_at(&mut self, alloc: Global, block: u32, values: &mut Slots) -> StepEnd
         requires left { self.old.left ≡ true }
         requires room { self.old.steps < self.old.budget }
-        ensures { answers result self.new ≡ went_on (record self.old { frames = record self.old.frames { top = entered block values.old.values }; objects = objects_end self.old.objects self.old.frames.top.objects }) }
+        ensures on { answers result self.new ≡ went_on (record self.old { frames = record self.old.frames { top = entered block values.old.values }; objects = objects_end self.old.objects self.old.frames.top.objects }) }
+        ensures end { (s t : OneThread) → Stays result s t }
     {
         end_objects(&mut self.heap, self.frames.top().cells.as_slice());
         replace_top(&mut self.frames, block, values);

@@ -7,6 +7,7 @@ ghost use Rattle.frames.specs.FrameOf.{goal_of};
 ghost use Rattle.mu_model.specs.Outcomes.{Stuck};
 ghost use Rattle.mu_model.specs.Acts as acts;
 ghost use Rattle.frames.specs.Handlers.{first_handler};
+ghost use Rattle.mu_step.specs.Outcome.{Stays};
 ghost use Rattle.mu_step.specs.Acting.{answers, went_on, acting, faulting, is_fault, gets};
 
 use crate::flow::copy;
@@ -14,6 +15,7 @@ use crate::objects::leave_frames;
 use crate::state::{State, ended};
 use bundle_check::Checked;
 use frames::{Frame, Unwound};
+use mem_axioms::Memory;
 use mu_model::{Case, Ending, StepEnd};
 use mu_values::{Scalar, Slots};
 use std::alloc::{AllocError, Global};
@@ -69,7 +71,7 @@ fn handler_goal(frame: &Frame, out: &mut Slots) -> Result<u32, AllocError>
     }
 }
 
-impl State {
+impl<M: Memory> State<M> {
     /// The thread's instruction meets an undefined case.
     #[tactic(auto, using(crate::specs::ActLaws::refusals))]
     pub(crate) fn refuse(
@@ -84,6 +86,7 @@ impl State {
         requires there { acting code.now self.old (acts.Faults case) ≢ Stuck }
         ensures ok { IfOk result (λ end. answers end self.new ≡ acting code.now self.old (acts.Faults case)) }
         ensures err { OnErr result (self.new ≡ self.old) }
+        ensures stays { IfOk result (λ end. Stays end self.old self.new) }
     {
         if is_fault(case) {
             self.fault(alloc, code, self.case_ending(case), out)
@@ -106,6 +109,7 @@ impl State {
         requires there { faulting code.now self.old ending ≢ Stuck }
         ensures ok { IfOk result (λ end. answers end self.new ≡ faulting code.now self.old ending) }
         ensures err { OnErr result (self.new ≡ self.old) }
+        ensures stays { IfOk result (λ end. Stays end self.old self.new) }
     {
         let top = self.frames.top();
         match &code.code(top.block, top.at).exceptional {
@@ -132,6 +136,7 @@ impl State {
         requires there { acting code.now self.old (acts.Throws exception) ≢ Stuck }
         ensures ok { IfOk result (λ end. answers end self.new ≡ acting code.now self.old (acts.Throws exception)) }
         ensures err { OnErr result (self.new ≡ self.old) }
+        ensures stays { IfOk result (λ end. Stays end self.old self.new) }
     {
         match self.frames.unwind() {
             Unwound::Uncaught => Ok(self.undefined(alloc, Case::Uncaught)),
@@ -155,6 +160,7 @@ impl State {
         requires there { acting code.now self.old (acts.Throws exception) ≢ Stuck }
         ensures ok { IfOk result (λ end. answers end self.new ≡ acting code.now self.old (acts.Throws exception)) }
         ensures err { OnErr result (self.new ≡ self.old) }
+        ensures stays { IfOk result (λ end. Stays end self.old self.new) }
     {
         let block = handler_goal(self.frames.frame(n), out)?;
         add_exception(code, block, exception, out)?;

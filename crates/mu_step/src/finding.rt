@@ -8,12 +8,14 @@ ghost use Rattle.mu_model.specs.Outcomes.{Stuck, case_of_fault};
 ghost use Rattle.mu_model.specs.Types.{class_definition, signature_classes};
 ghost use Rattle.step_forms.specs.Asked.{way_of};
 ghost use Rattle.step_forms.specs.Classes.{class_of_way};
+ghost use Rattle.mu_step.specs.Outcome.{Stays};
 ghost use Rattle.mu_step.specs.Acting.{answers, acting};
 ghost use Rattle.mu_step.specs.Making.{graph_of, tells};
 
 use crate::state::State;
 use bundle_check::Checked;
 use check_tables::Tables;
+use mem_axioms::Memory;
 use mu_model::{Case, StepEnd};
 use mu_types::TypeDef;
 use mu_values::{Scalar, Slots};
@@ -22,7 +24,7 @@ use step_forms::Way;
 use typed_heap::{Heap, PlaceFault};
 
 /// The case that a fault of a place is.
-fn case_of(fault: PlaceFault) -> Case
+pub(crate) fn case_of(fault: PlaceFault) -> Case
     ensures { result ≡ case_of_fault fault }
 {
     match fault {
@@ -80,7 +82,7 @@ fn cast(heap: &Heap, code: &Checked, class: u32, scalar: Scalar) -> Result<Scala
     }
 }
 
-impl State {
+impl<M: Memory> State<M> {
     /// The thread's instruction has what was found for its result, or meets the case of the fault.
     fn tell(
         &mut self,
@@ -95,6 +97,7 @@ impl State {
         requires there { tells code.now self.old found ≢ Stuck }
         ensures ok { IfOk result (λ end. answers end self.new ≡ tells code.now self.old found) }
         ensures err { OnErr result (self.new ≡ self.old) }
+        ensures stays { IfOk result (λ end. Stays end self.old self.new) }
     {
         match found {
             Ok(scalar) => self.give_scalar(alloc, code, scalar, values, out),
@@ -119,6 +122,7 @@ impl State {
         requires there { acting code.now self.old (acts.Finds (way_of way) scalar) ≢ Stuck }
         ensures ok { IfOk result (λ end. answers end self.new ≡ acting code.now self.old (acts.Finds (way_of way) scalar)) }
         ensures err { OnErr result (self.new ≡ self.old) }
+        ensures stays { IfOk result (λ end. Stays end self.old self.new) }
     {
         let found = found(&self.heap, code, way, scalar);
         self.tell(alloc, code, found, values, out)
@@ -141,6 +145,7 @@ impl State {
         requires there { acting code.now self.old (acts.Casts class scalar) ≢ Stuck }
         ensures ok { IfOk result (λ end. answers end self.new ≡ acting code.now self.old (acts.Casts class scalar)) }
         ensures err { OnErr result (self.new ≡ self.old) }
+        ensures stays { IfOk result (λ end. Stays end self.old self.new) }
     {
         let cast = cast(&self.heap, code, class, scalar);
         self.tell(alloc, code, cast, values, out)

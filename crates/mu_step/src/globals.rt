@@ -1,20 +1,25 @@
 // The first state of a run.
-ghost use Rattle.std.specs.Prelude.{◌≡◌, ◌<◌, ◌++◌, ◌∷◌, [], IsSome, Some, IfOk, OnOk, length};
-ghost use Rattle.std.specs.List.{All};
+ghost use Rattle.std.specs.Prelude.{◌≡◌, ℕ, ◌-◌, ◌<◌, ◌≤◌, ◌++◌, ◌∷◌, [], IsSome, IsSomeAnd, Some, IfOk, OnOk, length};
 ghost use Rattle.type_laws.specs.Same.{IsGraph};
 ghost use Rattle.bundle_check.specs.Checking.{bundle_tables};
 ghost use Rattle.typed_heap.specs.Objects.{leaf_classes, object_of};
 ghost use Rattle.typed_heap.specs.Heap.{AreNarrow};
-ghost use Rattle.mu_model.specs.Run.{global_objects};
+ghost use Rattle.mu_model.specs.Run.{global_objects, cells_taken};
+ghost use Rattle.model_numbers.specs.Numbered.{numbered};
 ghost use Rattle.mu_step.specs.Acting.{entered};
 ghost use Rattle.mu_step.specs.OneThread.{configuration};
+ghost use Rattle.mu_step.specs.Plain.{plain_setting};
 ghost use Rattle.mu_step.specs.Starting.{global_object, starting};
 
+use crate::making::remember_all;
 use crate::objects::MOST_OBJECTS;
 use crate::state::State;
 use crate::waiting::entered;
 use bundle_check::Checked;
+use bundle_facts::{globals_are_types, widths_are_narrow};
 use frames::Frames;
+use mem_axioms::Memory;
+use mu_threads::Schedule;
 use mu_types::{Classes, TypeDef};
 use mu_values::Slots;
 use std::alloc::{AllocError, Global};
@@ -50,14 +55,15 @@ fn add_global(classes: &Classes, class: u32, heap: &mut Heap) -> Result<(), Allo
     }
 }
 
-/// A heap with the objects of the globals.
+/// A heap with the objects of the globals, in text order, in which so many cells may be made besides.
 #[tactic(auto, using(crate::specs::Starting::globals))]
-fn globals(alloc: Global, code: &Checked, cells: u32) -> Result<Heap, AllocError>
-    requires narrow { AreNarrow (bundle_tables code.now).types.definitions }
-    requires globals { All (λ c. c < length (bundle_tables code.now).types.definitions) (bundle_tables code.now).global_cells }
+pub fn first_heap(alloc: Global, code: &Checked, cells: u32) -> Result<Heap, AllocError>
     ensures objects { IfOk result (λ heap. heap.objects ≡ global_objects (bundle_tables code.now)) }
     ensures left { IfOk result (λ heap. heap.left ≡ cells) }
 {
+    let _items = code.items();
+    widths_are_narrow();
+    globals_are_types();
     let classes = code.classes();
     let mut heap = Heap::new(alloc, cells);
     for class in code.tables().global_cells.as_slice() {
@@ -77,30 +83,36 @@ fn first_frames(alloc: Global, block: u32) -> Result<Frames, AllocError>
     }
 }
 
-impl State {
-    /// Thread 0 on stack 0, in that function.
+impl<M: Memory + Drop> State<M> {
+    /// Thread 0 on stack 0, in that function, with the objects of a heap, of which the memory is told.
     #[tactic(auto, using(crate::specs::Starting::starts))]
     pub(crate) fn start(
         alloc: Global,
         code: &Checked,
         entry: u32,
-        cells: u32,
+        heap: Heap,
+        mut memory: M,
+        picks: Schedule,
         budget: u32,
-    ) -> Result<State, AllocError>
-        requires narrow { AreNarrow (bundle_tables code.now).types.definitions }
-        requires globals { All (λ c. c < length (bundle_tables code.now).types.definitions) (bundle_tables code.now).global_cells }
-        requires there { IsSome (starting code.now cells budget entry) }
-        ensures { IfOk result (λ state. starting code.now cells budget entry ≡ Some (configuration state)) }
+    ) -> Result<State<M>, AllocError>
+        requires log { M.log memory ≡ [] }
+        requires objects { M.objects memory ≡ [] }
+        requires budget { budget ≤ 1000000 }
+        requires there { IsSomeAnd ((numbered code.now).body entry) IsSome }
+        ensures { IfOk result (λ state. (cells : ℕ) → heap.left ≡ cells - cells_taken (bundle_tables code.now) heap.objects → starting code.now (plain_setting heap.objects picks (M.rule memory) cells budget) entry ≡ Some (configuration state)) }
     {
         match code.function(entry).first {
             None => unreachable!(),
             Some(block) => {
-                let heap = globals(alloc, code, cells)?;
+                remember_all(alloc, &heap, &mut memory)?;
                 let frames = first_frames(alloc, block)?;
                 Ok(State {
                     frames,
                     left: true,
                     heap,
+                    memory,
+                    picks,
+                    events: 0,
                     steps: 0,
                     budget,
                 })

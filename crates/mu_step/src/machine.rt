@@ -1,36 +1,39 @@
 // The machine.
-ghost use Rattle.std.specs.Prelude.{◌≡◌, ◌≢◌, IsSome, Some, IfOk, OnErr};
+ghost use Rattle.std.specs.Prelude.{◌≡◌, ◌≢◌, ℕ, ◌-◌, ◌≤◌, [], IsSome, IsSomeAnd, Some, IfOk, OnErr};
 ghost use Rattle.bundle_check.specs.Checking.{bundle_tables};
 ghost use Rattle.mu_model.specs.Programs.{named};
 ghost use Rattle.mu_model.specs.Outcomes.{Stuck};
 ghost use Rattle.mu_model.specs.Step.{step};
-ghost use Rattle.mu_model.specs.Run.{first_configuration};
+ghost use Rattle.mu_model.specs.Run.{cells_taken, first_configuration};
 ghost use Rattle.mu_step.specs.Plain.{plain_setting};
-ghost use Rattle.mu_step.specs.Outcome.{outcome_of};
+ghost use Rattle.mu_step.specs.Outcome.{outcome_of, Stays};
 ghost use Rattle.mu_step.specs.Built.{IsBuilt};
 
 use crate::state::State;
 use bundle_check::Checked;
-use bundle_facts::{globals_are_types, widths_are_narrow};
+use mem_axioms::Memory;
 use model_numbers::programs_are_same;
 use mu_model::StepEnd;
+use mu_threads::Schedule;
 use mu_values::Slots;
 use std::alloc::{AllocError, Global};
 use std::marker::Model;
 use step_forms::Room;
+use typed_heap::Heap;
 
-/// A machine that runs checked code on one thread. Contracts see the bundle and the configuration that its run has come to.
+/// A machine that runs checked code on one thread, over any memory. Contracts see the bundle and the configuration that its run has
+/// come to.
 #[derive(Drop)]
-pub struct Machine<'a> {
+pub struct Machine<'a, M: Memory> {
     alloc: Global,
     code: &'a Checked,
-    state: State,
+    state: State<M>,
     // What these hold between steps means nothing.
     room: Room,
     spare: Slots,
 }
 
-impl<'a> Model for Machine<'a> {
+impl<'a, M: Memory> Model for Machine<'a, M> {
     ghost use Rattle.mu_step.specs.Plain.{Running};
     ghost use Rattle.mu_step.specs.OneThread.{configuration};
 
@@ -39,25 +42,30 @@ impl<'a> Model for Machine<'a> {
     ghost view = { λ m. record { bundle = m.code.now; configuration = configuration m.state } };
 }
 
-impl<'a> Machine<'a> {
-    /// A machine at the beginning of the run of a function: thread 0 stands on stack 0, where the function's first block begins.
+impl<'a, M: Memory + Drop> Machine<'a, M> {
+    /// A machine at the beginning of the run of a function: thread 0 stands on stack 0, where the function's first block begins. The
+    /// heap has the objects of the globals, and those that were loaded; the memory knows nothing yet, and brings the rule of release
+    /// sequences. The budget is 1,000,000 steps at most.
     #[tactic(auto, using(crate::specs::Starting::begins))]
     pub fn new(
         alloc: Global,
         code: &'a Checked,
         entry: u32,
-        cells: u32,
+        heap: Heap,
+        memory: M,
+        picks: Schedule,
         budget: u32,
-    ) -> Result<Machine<'a>, AllocError>
-        requires { IsSome (first_configuration (named code.now) (plain_setting (bundle_tables code.now) cells budget) entry) }
+    ) -> Result<Machine<'a, M>, AllocError>
+        requires log { M.log memory ≡ [] }
+        requires objects { M.objects memory ≡ [] }
+        requires budget { budget ≤ 1000000 }
+        requires body { IsSomeAnd ((named code.now).body entry) IsSome }
         ensures bundle { IfOk result (λ m. m.bundle ≡ code.now) }
-        ensures first { IfOk result (λ m. first_configuration (named code.now) (plain_setting (bundle_tables code.now) cells budget) entry ≡ Some m.configuration) }
+        ensures first { IfOk result (λ m. (cells : ℕ) → heap.left ≡ cells - cells_taken (bundle_tables code.now) heap.objects → first_configuration (named code.now) (plain_setting heap.objects picks (M.rule memory) cells budget) entry ≡ Some m.configuration) }
     {
         let _items = code.items();
         programs_are_same();
-        widths_are_narrow();
-        globals_are_types();
-        let state = State::start(alloc, code, entry, cells, budget)?;
+        let state = State::start(alloc, code, entry, heap, memory, picks, budget)?;
         Ok(Machine {
             alloc,
             code,
@@ -67,7 +75,7 @@ impl<'a> Machine<'a> {
         })
     }
 
-    /// One step of the run. Where no memory is found nothing changes.
+    /// One step of the run. Where no memory is found, and where the step gives the ending, nothing changes.
     #[tactic(auto, using(crate::specs::Machines::machines))]
     pub fn step(&mut self) -> Result<StepEnd, AllocError>
         requires built { IsBuilt self.old.bundle }
@@ -75,6 +83,7 @@ impl<'a> Machine<'a> {
         ensures ok { IfOk result (λ end. outcome_of end self.new.configuration ≡ step (named self.old.bundle) self.old.configuration) }
         ensures bundle { self.new.bundle ≡ self.old.bundle }
         ensures err { OnErr result (self.new ≡ self.old) }
+        ensures stays { IfOk result (λ end. Stays end self.old.configuration self.new.configuration) }
     {
         let _items = self.code.items();
         programs_are_same();

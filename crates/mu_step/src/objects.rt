@@ -6,6 +6,7 @@ ghost use Rattle.frames.specs.Chains.{frames_of};
 ghost use Rattle.typed_heap.specs.Objects.{killed};
 ghost use Rattle.mu_model.specs.Changes.{changed};
 ghost use Rattle.mu_step.specs.Acting.{objects_end};
+ghost use Rattle.mu_step.specs.Remembering.{initials};
 
 use frames::Frames;
 use typed_heap::Heap;
@@ -18,6 +19,7 @@ pub(crate) const MOST_OBJECTS: u32 = 4294967293;
 fn end_object(heap: &mut Heap, object: u32)
     ensures objects { heap.new.objects ≡ changed killed object heap.old.objects }
     ensures left { heap.new.left ≡ heap.old.left }
+    ensures initials { initials heap.new.objects ≡ initials heap.old.objects }
 {
     if object < heap.objects() {
         heap.end_cells(object);
@@ -29,6 +31,7 @@ fn end_object(heap: &mut Heap, object: u32)
 pub(crate) fn end_objects(heap: &mut Heap, objects: &[u32])
     ensures objects { heap.new.objects ≡ objects_end heap.old.objects objects.now }
     ensures left { heap.new.left ≡ heap.old.left }
+    ensures initials { initials heap.new.objects ≡ initials heap.old.objects }
 {
     for object in objects {
         end_object(heap, *object);
@@ -53,6 +56,7 @@ fn leave_one(frames: &mut Frames, heap: &mut Heap)
     ensures frames { frames_of frames.new ≡ frames.old.below }
     ensures objects { heap.new.objects ≡ objects_end heap.old.objects frames.old.top.objects }
     ensures left { heap.new.left ≡ heap.old.left }
+    ensures initials { initials heap.new.objects ≡ initials heap.old.objects }
 {
     end_objects(heap, frames.top().cells.as_slice());
     leave(frames);
@@ -65,6 +69,7 @@ pub(crate) fn leave_frames(frames: &mut Frames, heap: &mut Heap, n: u32)
     ensures frames { frames_of frames.new ≡ drop n (frames_of frames.old) }
     ensures objects { heap.new.objects ≡ objects_end heap.old.objects (flat_map (λ (f : Activation). f.objects) (take n (frames_of frames.old))) }
     ensures left { heap.new.left ≡ heap.old.left }
+    ensures initials { initials heap.new.objects ≡ initials heap.old.objects }
 {
     for i in 0..n {
         leave_one(frames, heap);

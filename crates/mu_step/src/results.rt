@@ -5,12 +5,14 @@ ghost use Rattle.mu_model.specs.declared.lines.Line.TheVariants as noted;
 ghost use Rattle.mu_model.specs.declared.lines.Note.TheVariants.{Returned};
 ghost use Rattle.mu_model.specs.Outcomes.{Stuck};
 ghost use Rattle.mu_model.specs.Acts as acts;
+ghost use Rattle.mu_step.specs.Outcome.{Stays};
 ghost use Rattle.mu_step.specs.Acting.{answers, acting};
 
 use crate::flow::{passing, stand};
 use crate::objects::{end_objects, leave};
 use crate::state::State;
 use bundle_check::Checked;
+use mem_axioms::Memory;
 use mu_base::Types;
 use mu_model::{Line, Lines, Note, StepEnd};
 use mu_values::{Passed, Slots};
@@ -39,7 +41,7 @@ fn returned(alloc: Global, values: Passed) -> Result<Lines, AllocError>
     Ok(lines)
 }
 
-impl State {
+impl<M: Memory> State<M> {
     /// The thread returns from its function, with the values in the room.
     #[tactic(auto, using(crate::specs::ActLaws::only_frame))]
     pub(crate) fn give_back(
@@ -54,6 +56,7 @@ impl State {
         requires there { acting code.now self.old (acts.Returns (record { types = room.old.types.members; values = room.old.values.values })) ≢ Stuck }
         ensures ok { IfOk result (λ end. answers end self.new ≡ acting code.now self.old (acts.Returns (record { types = room.old.types.members; values = room.old.values.values }))) }
         ensures err { OnErr result (self.new ≡ self.old) }
+        ensures stays { IfOk result (λ end. Stays end self.old self.new) }
     {
         if self.frames.count() == 1 {
             self.finish(alloc, code, room)
@@ -75,6 +78,7 @@ impl State {
         requires there { acting code.now self.old (acts.Returns (record { types = room.old.types.members; values = room.old.values.values })) ≢ Stuck }
         ensures ok { IfOk result (λ end. answers end self.new ≡ acting code.now self.old (acts.Returns (record { types = room.old.types.members; values = room.old.values.values }))) }
         ensures err { OnErr result (self.new ≡ self.old) }
+        ensures stays { IfOk result (λ end. Stays end self.old self.new) }
     {
         let lines = returned(alloc, taken(alloc, room)?)?;
         end_objects(&mut self.heap, self.frames.top().cells.as_slice());
@@ -98,6 +102,7 @@ impl State {
         requires there { acting code.now self.old (acts.Returns (record { types = room.now.types.members; values = room.now.values.values })) ≢ Stuck }
         ensures ok { IfOk result (λ end. answers end self.new ≡ acting code.now self.old (acts.Returns (record { types = room.now.types.members; values = room.now.values.values }))) }
         ensures err { OnErr result (self.new ≡ self.old) }
+        ensures stays { IfOk result (λ end. Stays end self.old self.new) }
     {
         let place = passing(code, self.frames.frame(1), &room.values, out)?;
         end_objects(&mut self.heap, self.frames.top().cells.as_slice());

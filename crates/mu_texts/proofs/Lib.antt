@@ -1,5 +1,4 @@
 pub mod Accepting
 pub mod Refusing
 pub mod Entering
-pub mod Beginning
 pub mod Runnable

@@ -1,38 +1,68 @@
 -- A function that may be entered, of a bundle that is built, can be run.
-use Rattle.std.proofs.Common.{◌≡◌, ℕ, List, [], ◌∷◌, Option, Some, None, IsSome, refl}
-use Rattle.std.specs.Prelude.{Ok}
+use Rattle.std.proofs.Common.{◌≡◌, ℕ, ◌≤◌, List, Option, Some, None, IsSome, IsSomeAnd, refl, sym, ◌∙◌, ap, subst}
+use Rattle.std.specs.Prelude.{Result, Ok, Err}
+use Rattle.demands.specs.declared.fault.Fault.{Fault}
+use Rattle.demands.specs.declared.fault.Fault.TheVariants as faults
 use Rattle.demands.specs.Demands.{first_unmet}
 use Rattle.ir_tree.specs.declared.items.Item.{Item}
+use Rattle.ir_text.specs.declared.fault.TextFault.{TextFault}
+use Rattle.ir_text.specs.declared.fault.TextFault.TheVariants as text_faults
+use Rattle.ir_text.specs.TextAnswers.{IsAnswer, AnswerIsOne, text_answer}
 use Rattle.bundle_names.specs.Naming.{name_demands}
-use Rattle.bundle_check.specs.Checking.{bundle_tables, check_demands}
+use Rattle.bundle_check.specs.Checking.{check_demands}
 use Rattle.bundle_check.specs.Answers.{entry}
+use Rattle.typed_heap.specs.Places.{with_some}
 use Rattle.mu_model.specs.Configuration.{Configuration}
 use Rattle.mu_model.specs.Programs.{named as program}
-use Rattle.mu_model.specs.Run.{first_configuration}
-use Rattle.typed_programs.proofs.Running.{plain_runs_have_an_ending}
+use Rattle.mu_model.specs.Run.{begins_in, first_configuration}
+use Rattle.text_programs.specs.Laws.{EnteredRunsEnd, EnteredRunsHaveAnEnding}
 use Rattle.mu_step.specs.Built.{built_demands}
-use Rattle.mu_step.specs.BuiltLaws.{forms_built, have_blocks}
-use Rattle.mu_step.specs.Plain.{plain_setting}
-use Rattle.mu_texts.specs.Answer.{run_of}
+use Rattle.mu_step.specs.BuiltLaws.{forms_built}
+use Rattle.mu_texts.specs.Refusals.{name_fault_name, check_fault_name}
+use Rattle.mu_texts.specs.Answer.{Part, ◌>>=◌, read_part, met_part, named, checked, as_written, accepted, first_setting, run_of}
 use Rattle.mu_texts.specs.Comes.{IsRunnable}
-use Rattle.mu_texts.proofs.Beginning.{nothing_taken, run_begins}
 
-some_first : (o : Option Configuration) → IsSome o → (c : Configuration) × (o ≡ Some c)
-some_first None h = cc
-some_first (Some c) h = (c, refl)
+-- ---- a text that is accepted was read, and met its demands
 
-pub runnable : (code : List Item) (name : List ℕ) (n budget cells : ℕ) → first_unmet (name_demands code) ≡ None → first_unmet (check_demands code) ≡ None →
-    first_unmet (built_demands code) ≡ None → entry code name ≡ Ok n → IsRunnable code n budget cells
+goes_on : {A B : Type 0} (part : Part A) (more : A → Part B) (b : B) → (part >>= more) ≡ Ok b → (a : A) × (part ≡ Ok a) × (more a ≡ Ok b)
+goes_on (Ok a) more b h = (a, refl, h)
+goes_on (Err answer) more b h = cc
+
+abbrev read_as : List Item → Result (List Item) TextFault
+read_as bundle = Ok bundle
+
+was_read : (r : Result (List Item) TextFault) (bundle : List Item) → read_part r ≡ Ok bundle → r ≡ Ok bundle
+was_read (Ok code) bundle h = let same : code ≡ bundle = cc in ap read_as same
+was_read (Err (text_faults.At kind place)) bundle h = cc
+was_read (Err text_faults.Memory) bundle h = cc
+
+was_met : {K : Type 0} (name : K → List ℕ) (code bundle : List Item) (fault : Option (Fault K)) → met_part name code fault ≡ Ok bundle → (fault ≡ None) × (code ≡ bundle)
+was_met name code bundle None h = (refl, let same : code ≡ bundle = cc in same)
+was_met name code bundle (Some (faults.At kind place)) h = cc
+was_met name code bundle (Some faults.Memory) h = cc
+
+pub runs_end : (bytes : List ℕ) (code : List Item) → AnswerIsOne → EnteredRunsHaveAnEnding → accepted bytes ≡ Ok code → EnteredRunsEnd code
+runs_end bytes code one law h =
+    let met = goes_on (as_written bytes >>= named) checked code h in
+    let fine = was_met check_fault_name met.0 code (first_unmet (check_demands met.0)) met.2 in
+    let names = goes_on (as_written bytes) named met.0 met.1 in
+    let good = was_met name_fault_name names.0 met.0 (first_unmet (name_demands names.0)) names.2 in
+    let read : text_answer bytes ≡ Ok names.0 = was_read (text_answer bytes) names.0 names.1 in
+    let answered : IsAnswer bytes (Ok names.0) = (one bytes (Ok names.0)).1 read in
+    let same : names.0 ≡ code = good.1 ∙ fine.1 in
+    subst EnteredRunsEnd same
+    (law bytes names.0 answered good.0 (subst (λ b. first_unmet (check_demands b) ≡ None) (sym good.1) fine.0))
+
+-- ---- and its functions begin
+
+has_body : (b : Option (Option ℕ)) (go : ℕ → Configuration) → IsSome (with_some b (λ b. with_some b (λ block. Some (go block)))) → IsSomeAnd b IsSome
+has_body None go h = cc
+has_body (Some None) go h = cc
+has_body (Some (Some block)) go h = refl
+
+pub runnable : (code : List Item) (name : List ℕ) (n budget cells : ℕ) → EnteredRunsEnd code → first_unmet (built_demands code) ≡ None → entry code name ≡ Ok n → budget ≤ 1000000 → IsRunnable code n budget cells
 unfolding run_of
-runnable code name n budget cells named checked built entered =
-    let begins : IsSome (first_configuration (program code) (plain_setting (bundle_tables code) cells budget) n) =
-    run_begins code name n (plain_setting (bundle_tables code) cells budget) entered in
-    let first : (c : Configuration) × (first_configuration (program code) (plain_setting (bundle_tables code) cells budget) n ≡ Some c) =
-    some_first (first_configuration (program code) (plain_setting (bundle_tables code) cells budget) n) begins in
-    record {
-      built = forms_built code built;
-      begins = begins;
-      ends =
-          plain_runs_have_an_ending code named checked (have_blocks code built) (plain_setting (bundle_tables code) cells budget) n first.0
-          (record { objects = refl; entries = refl }) (nothing_taken code name n entered) first.1;
-    }
+runnable code name n budget cells ends built entered short =
+    let s = first_setting code budget cells in
+    let r = ends s name n (record { objects = refl; entries = refl }) entered in
+    record { built = forms_built code built; begins = has_body ((program code).body n) (begins_in (program code) s n) r.0; ends = r.1; short = short }

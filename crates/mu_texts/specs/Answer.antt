@@ -16,7 +16,8 @@ use Rattle.bundle_check.specs.declared.fault.EntryFault.{EntryFault}
 use Rattle.bundle_check.specs.Checking.{bundle_tables, check_demands}
 use Rattle.bundle_check.specs.Answers.{entry}
 use Rattle.mu_model.specs.Programs.{named as program}
-use Rattle.mu_model.specs.Run.{Run, Ends, Breaks, Unfinished, program_run}
+use Rattle.mem_axioms.specs.declared.types.Rule.TheVariants.{C11}
+use Rattle.mu_model.specs.Run.{Setting, global_objects, Run, Ends, Breaks, Unfinished, program_run}
 use Rattle.run_texts.specs.Texts.{ending_status}
 use Rattle.run_texts.specs.Pieces.{pieces_of}
 use Rattle.mu_step.specs.Built.{built_demands}
@@ -103,9 +104,13 @@ for_print bytes = as_written bytes >>= λ bundle. Ok (ready.Canonical bundle)
 abbrev pub for_run : List ℕ → List ℕ → ℕ → ℕ → Part Ready
 for_run bytes name budget cells = accepted bytes >>= built >>= λ code. entered code name >>= λ n. Ok (ready.Entered code n budget cells)
 
+-- what a run is given: the objects of the globals, and no schedule; how many steps it may make, and how many cells beside those of the globals
+abbrev pub first_setting : List Item → ℕ → ℕ → Setting
+first_setting code budget cells = plain_setting (global_objects (bundle_tables code)) [] C11 cells budget
+
 -- the run of a function of a bundle, which may make so many steps, and so many cells beside those of the globals
 unfoldable pub run_of : List Item → ℕ → ℕ → ℕ → Run
-run_of code n budget cells = program_run (program code) (plain_setting (bundle_tables code) cells budget) n
+run_of code n budget cells = program_run (program code) (first_setting code budget cells) n
 
 -- the text of the run in its pieces; a run without an ending would have no answer
 abbrev pub run_answer : List Item → Run → Answer

@@ -1,16 +1,13 @@
 -- What the functions that read and judge a text tell their callers.
-use Rattle.std.specs.Prelude.{◌≡◌, ℕ, List, IsSome, Result, Ok, Err, ⊤}
+use Rattle.std.specs.Prelude.{◌≡◌, ℕ, ◌≤◌, List, IsSome, IsSomeAnd, Result, Ok, Err, ⊤}
 use Rattle.mu_texts.specs.declared.what.What.TheVariants.{Bundle}
 use Rattle.mu_texts.specs.declared.stop.Stop.{Stop}
 use Rattle.mu_texts.specs.declared.stop.Stop.TheVariants.{Line, Memory}
 use Rattle.mu_texts.specs.declared.ready.Ready.{Ready}
 use Rattle.mu_texts.specs.declared.ready.Ready.TheVariants as ready
-use Rattle.bundle_check.specs.Checking.{bundle_tables}
 use Rattle.mu_model.specs.Programs.{named as program}
-use Rattle.mu_model.specs.Run.{first_configuration}
 use Rattle.model_laws.specs.Bounds.{HasEnding}
 use Rattle.mu_step.specs.Built.{IsBuilt}
-use Rattle.mu_step.specs.Plain.{plain_setting}
 use Rattle.ir_tree.specs.declared.items.Item.{Item}
 use Rattle.mu_texts.specs.Answer.{Part, ◌>>=◌, line, refused, built, entered, run_of}
 
@@ -38,8 +35,9 @@ IsRefusal Memory place fault = ⊥
 -- what the machine asks of a bundle and of a function that its run begins with, and that the run comes to its ending
 pub record IsRunnable (code : List Item) (n budget cells : ℕ) : Type 0 where
   pub built : IsBuilt code
-  pub begins : IsSome (first_configuration (program code) (plain_setting (bundle_tables code) cells budget) n)
+  pub begins : IsSomeAnd ((program code).body n) IsSome
   pub ends : HasEnding (run_of code n budget cells)
+  pub short : budget ≤ 1000000
 
 -- what is to be run can be run
 abbrev pub CanRun : Ready → Type 0

@@ -1,6 +1,7 @@
 // Reads the text of a bundle, and judges it.
-ghost use Rattle.std.specs.Prelude.{◌≡◌, None, Ok, IfOk, OnOk};
+ghost use Rattle.std.specs.Prelude.{◌≡◌, ◌≤◌, None, Ok, IfOk, OnOk};
 ghost use Rattle.demands.specs.Demands.{first_unmet};
+ghost use Rattle.text_programs.specs.Laws.{EnteredRunsEnd};
 ghost use Rattle.mu_step.specs.Built.{built_demands};
 ghost use Rattle.mu_texts.specs.Answer.{as_written, named, checked, built, accepted, entered, for_check, for_print, for_run};
 ghost use Rattle.mu_texts.specs.Comes.{Comes, Passes, IsRefusal, IsRunnable, CanRun, begun};
@@ -14,11 +15,12 @@ use crate::what::What;
 use bundle_check::{Checked, check};
 use bundle_names::{Resolved, resolve};
 use demands::Fault;
-use ir_text::{TextFault, read_bundle};
+use ir_text::{TextFault, answer_is_one, read_bundle};
 use ir_tree::Bundle;
 use mu_base::Status;
 use mu_step::are_built;
 use std::alloc::{AllocError, Global};
+use text_programs::entered_runs_have_an_ending;
 
 // The line of a refusal of the bundle.
 fn refused(alloc: Global, place: usize, fault: &str) -> Result<Stop, AllocError>
@@ -84,7 +86,9 @@ fn judge_built(alloc: Global, code: &Checked) -> Result<(), Stop>
 
 // The number of the function with that name, whose run may make so many steps and cells.
 fn enter(alloc: Global, code: &Checked, name: &str, budget: u32, cells: u32) -> Result<u32, Stop>
-    requires { first_unmet (built_demands code.now) ≡ None }
+    requires ends { EnteredRunsEnd code.now }
+    requires built { first_unmet (built_demands code.now) ≡ None }
+    requires short { budget ≤ 1000000 }
     ensures number { Comes (entered code.now name.now) result }
     ensures there { IfOk result (λ n. IsRunnable code.now n budget cells) }
 {
@@ -99,8 +103,23 @@ fn enter(alloc: Global, code: &Checked, name: &str, budget: u32, cells: u32) -> 
     }
 }
 
+// The same of a bundle that is to be run: its runs have an ending.
+fn accept_to_run(alloc: Global, bytes: &[u8]) -> Result<Checked, Stop>
+    ensures code { Comes (accepted bytes.now) result }
+    ensures ends { IfOk result (λ code. EnteredRunsEnd code) }
+{
+    answer_is_one();
+    entered_runs_have_an_ending();
+    match accept(alloc, bytes) {
+        Ok(code) => Ok(code),
+        Err(stop) => Err(stop),
+    }
+}
+
 // The number of the function that a run begins with, in a bundle whose functions are built.
 fn entry_of(alloc: Global, code: &Checked, name: &str, budget: u32, cells: u32) -> Result<u32, Stop>
+    requires ends { EnteredRunsEnd code.now }
+    requires short { budget ≤ 1000000 }
     ensures built { IfOk result (λ n. built code.now ≡ Ok code.now) }
     ensures number { Comes (begun code.now name.now) result }
     ensures there { IfOk result (λ n. IsRunnable code.now n budget cells) }
@@ -128,7 +147,7 @@ pub fn judge_for_print(alloc: Global, bytes: &[u8]) -> Result<Ready, Stop>
 }
 
 /// What `mu run` asks of a text: a bundle that meets all demands on it, whose functions are built, with a function of that name
-/// which a run may begin with. The run may make so many steps, and so many cells beside those of the globals.
+/// which a run may begin with. The run may make so many steps, 1,000,000 at most, and so many cells beside those of the globals.
 #[tactic(auto, using(crate::proofs::Entering::entering))]
 pub fn judge_for_run(
     alloc: Global,
@@ -137,10 +156,11 @@ pub fn judge_for_run(
     budget: u32,
     cells: u32,
 ) -> Result<Ready, Stop>
+    requires { budget ≤ 1000000 }
     ensures asked { Comes (for_run bytes.now name.now budget cells) result }
     ensures there { IfOk result CanRun }
 {
-    let code = accept(alloc, bytes)?;
+    let code = accept_to_run(alloc, bytes)?;
     match entry_of(alloc, &code, name, budget, cells) {
         Ok(entry) => Ok(Ready::Entered {
             code,

@@ -8,4 +8,5 @@ form_is_built (forms.Computation f) = true
 form_is_built (forms.Control f) = true
 form_is_built (forms.Allocation f) = true
 form_is_built (forms.Addressing f) = true
+form_is_built (forms.Access f) = true
 form_is_built _ = false

@@ -1,5 +1,8 @@
 // Acts.
+use crate::access::Access;
 use crate::way::Way;
+use heap_cells::CellId;
+use mu_base::Order;
 use mu_model::Case;
 use mu_values::Scalar;
 
@@ -33,4 +36,8 @@ pub enum Act {
     MakesHybrid { class: u32, many: u128 },
     /// An object of the class, which the frame owns.
     MakesOwn { class: u32 },
+    /// An access of a cell.
+    Accesses { access: Access, cell: CellId },
+    /// A fence.
+    Fences(Order),
 }

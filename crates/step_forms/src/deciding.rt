@@ -2,11 +2,12 @@
 ghost use Rattle.std.specs.Prelude.{◌≡◌, ℕ, true, List, Some, IsSome, IfOk};
 ghost use Rattle.bundle_check.specs.Checking.{bundle_tables};
 ghost use Rattle.frames.specs.Activations.{Value};
-ghost use Rattle.model_numbers.specs.Forms.{computation_at, control_at, allocation_at, addressing_at, act_at};
+ghost use Rattle.model_numbers.specs.Forms.{computation_at, control_at, allocation_at, addressing_at, access_at, act_at};
 ghost use Rattle.step_forms.specs.Asked.{asked};
 ghost use Rattle.step_forms.specs.Built.{form_is_built};
 ghost use Rattle.step_forms.specs.Classes.{ActIsThere, FormIsThere};
 
+use crate::accessing::{Comparison, atomicrmw, cmpxchg, load, store};
 use crate::act::Act;
 use crate::computing::{binary, compare, convert, extractvalue, insertvalue, refcast, select};
 use crate::control::{branch, branch2, call, ret, switch, tailcall, throw};
@@ -14,7 +15,7 @@ use crate::objects::{getelemiref, getfieldiref, getiref, getvarpartiref, newhybr
 use crate::room::Room;
 use crate::variables::Variables;
 use bundle_check::Checked;
-use code_check::{AddressingForm, AllocationForm, ComputationForm, ControlForm, Form};
+use code_check::{AccessForm, AddressingForm, AllocationForm, ComputationForm, ControlForm, Form};
 use std::alloc::AllocError;
 
 /// Whether the machine has a rule for the form.
@@ -23,7 +24,11 @@ pub fn form_is_built(form: &Form) -> bool
 {
     matches!(
         form,
-        Form::Computation(_) | Form::Control(_) | Form::Allocation(_) | Form::Addressing(_)
+        Form::Computation(_)
+            | Form::Control(_)
+            | Form::Allocation(_)
+            | Form::Addressing(_)
+            | Form::Access(_)
     )
 }
 
@@ -162,6 +167,50 @@ fn find(code: &Checked, vars: &Variables, form: &AddressingForm) -> Act
     }
 }
 
+/// What an instruction does that reads or writes memory.
+fn access(code: &Checked, vars: &Variables, form: &AccessForm) -> Act
+    requires { IsSome (access_at code.now vars.now form.now) }
+    ensures { (vs : List Value) (cs : List ℕ) → access_at code.now vars.now form.now ≡ Some (asked result vs cs) }
+{
+    match form {
+        AccessForm::Load {
+            order,
+            location,
+            ..
+        } => load(code, vars, *order, *location),
+        AccessForm::Store {
+            order,
+            location,
+            value,
+            ..
+        } => store(code, vars, *order, *location, *value),
+        AccessForm::Cmpxchg {
+            weak,
+            success,
+            failure,
+            location,
+            expected,
+            desired,
+            ..
+        } => {
+            let comparison = Comparison {
+                weak: *weak,
+                success: *success,
+                failure: *failure,
+            };
+            cmpxchg(code, vars, comparison, *location, *expected, *desired)
+        }
+        AccessForm::Atomicrmw {
+            order,
+            op,
+            location,
+            operand,
+            ..
+        } => atomicrmw(code, vars, *order, *op, *location, *operand),
+        AccessForm::Fence { order } => Act::Fences(*order),
+    }
+}
+
 /// What an instruction does, with the values of its block's variables, of which the classes are told. The values and classes that go
 /// with the act stand in the room, which is changed even where no memory is found. A class that the act names is in the graph where that
 /// of the form is.
@@ -183,6 +232,7 @@ pub fn decide(
         Form::Control(form) => go_on(code, types, vars, form, room),
         Form::Allocation(form) => Ok(make(code, vars, form)),
         Form::Addressing(form) => Ok(find(code, vars, form)),
+        Form::Access(form) => Ok(access(code, vars, form)),
         _ => unreachable!(),
     }
 }

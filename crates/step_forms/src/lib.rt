@@ -2,6 +2,8 @@
 //! variables to an act. Nothing is changed here but the room that is lent for lists.
 #![tactic(auto)]
 
+mod access;
+mod accessing;
 mod act;
 mod computing;
 mod control;
@@ -14,6 +16,7 @@ mod room;
 mod variables;
 mod way;
 
+pub use access::Access;
 pub use act::Act;
 pub use deciding::{decide, form_is_built};
 pub use laws::forms_are_there;

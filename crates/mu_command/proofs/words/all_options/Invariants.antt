@@ -1,12 +1,12 @@
-use Rattle.std.proofs.Common.{◌≡◌, ◌<◌, ◌≤◌, ◌-◌, length, drop, IfSome}
-use Rattle.mu_command.specs.Job.{no_options, with_all}
+use Rattle.std.proofs.Common.{◌≡◌, ◌<◌, ◌≤◌, ◌-◌, length, drop}
+use Rattle.mu_command.specs.Job.{no_options, with_all, OptionsAreThere}
 use Rattle.mu_command.proofs.words.all_options.Given as goal
 
 -- the options that were read, with those of the words that are left, are all
 abbrev pub invariant-each : goal.invariant-each
 invariant-each l = record {
   all : with_all no_options 2 (drop 2 l.words) ≡ with_all l.options l.n (drop l.n l.words);
-  there : IfSome l.options.entry (λ e. e < length l.words);
+  there : OptionsAreThere (length l.words) l.options;
   first : 2 ≤ l.n;
   last : l.n ≤ length l.words;
 }

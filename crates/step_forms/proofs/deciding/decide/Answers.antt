@@ -28,3 +28,9 @@ returns-in-Addressing-clause-classes c =
     let graph = (bundle_tables c.args.code.now).types.definitions in
     let there = subst (FormIsThere graph) c.in-Addressing.is c.requires.classes in
     act_is_there graph c.args.code.now c.args.types.now c.args.vars.now (forms.Addressing c.in-Addressing.form) c.find.result [] [] there (c.find.ensures [] [])
+
+pub returns-in-Access-clause-classes : goal.returns-in-Access-clause-classes
+returns-in-Access-clause-classes c =
+    let graph = (bundle_tables c.args.code.now).types.definitions in
+    let there = subst (FormIsThere graph) c.in-Access.is c.requires.classes in
+    act_is_there graph c.args.code.now c.args.types.now c.args.vars.now (forms.Access c.in-Access.form) c.access.result [] [] there (c.access.ensures [] [])

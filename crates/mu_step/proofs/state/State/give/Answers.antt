@@ -2,7 +2,7 @@ use Rattle.mu_step.proofs.ActViews.{gives_there, gave}
 use Rattle.mu_step.proofs.state.State.give.Goals as goal
 
 pub passing-requires : goal.passing-requires
-passing-requires c = gives_there _ _ _ _ _ c.self.view_is c.requires.there c.top.ensures
+passing-requires g c = gives_there _ _ _ _ _ c.self.view_is c.requires.there c.top.ensures
 
 pub returns-clause-ok : goal.returns-clause-ok
-returns-clause-ok c = gave _ _ _ _ _ _ _ _ _ _ c.self.view_is c.requires.there c.top.ensures c.in_ok-place.ensures c.stand.ensures c.went.ensures
+returns-clause-ok g c = gave _ _ _ _ _ _ _ _ _ _ c.self.view_is c.requires.there c.top.ensures c.in_ok-place.ensures c.stand.ensures c.went.ensures.on

@@ -1,7 +1,7 @@
 use Rattle.std.proofs.Common.{◌≡◌}
 use Rattle.bundle_check.specs.Checking.{bundle_tables}
 use Rattle.mu_step.specs.Starting.{objects_so_far}
-use Rattle.mu_step.proofs.globals.globals.Given as goal
+use Rattle.mu_step.proofs.globals.first_heap.Given as goal
 
 abbrev pub invariant-loop-class : goal.invariant-loop-class
 invariant-loop-class l = record {

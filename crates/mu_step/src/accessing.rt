@@ -1,0 +1,333 @@
+// Accesses of memory, and fences.
+ghost use Rattle.std.specs.Prelude.{◌≡◌, ◌≢◌, suc, ◌<◌, [], ◌∷◌, IsSome, Some, IfOk, OnOk, OnErr, true};
+ghost use Rattle.mem_axioms.specs.declared.types.Mode.TheVariants.{Read};
+ghost use Rattle.mem_axioms.specs.declared.types.Kind.TheVariants as kinds;
+ghost use Rattle.mem_axioms.specs.Objects.{HasCell};
+ghost use Rattle.mem_axioms.specs.EventFits.{EventFits};
+ghost use Rattle.mem_axioms.specs.Rooms.{HasRoom};
+ghost use Rattle.mu_model.specs.declared.lines.Line.TheVariants as written;
+ghost use Rattle.mu_model.specs.Acts as acts;
+ghost use Rattle.mu_model.specs.Accesses.{wanted, updated, kind_of, access_results};
+ghost use Rattle.mu_model.specs.Changes.{pick};
+ghost use Rattle.mu_model.specs.Outcomes.{Stuck};
+ghost use Rattle.frames.specs.Chains.{stands};
+ghost use Rattle.step_forms.specs.Asked.{access_of};
+ghost use Rattle.mu_step.specs.Outcome.{Stays};
+ghost use Rattle.mu_step.specs.Acting.{answers, acting};
+ghost use Rattle.mu_step.specs.Remembering.{initials};
+ghost use Rattle.mu_step.specs.Accessing.{picking, race_at, logs};
+
+use crate::finding::case_of;
+use crate::flow::{Place, passing, stand};
+use crate::state::{State, ended};
+use bundle_check::Checked;
+use heap_cells::CellId;
+use mem_axioms::{Chosen, Event, Kind, Memory, Mode, Race, Wanted};
+use mu_base::{Order, Steps};
+use mu_model::{Case, Ending, Line, Lines, Raced, StepEnd};
+use mu_values::{Scalar, Slots, UpdateOp};
+use std::alloc::{AllocError, Global};
+use std::marker::Brand;
+use std::sync::ledger::{Blank, Ledger};
+use step_forms::Access;
+use typed_heap::what_is_found_fits;
+
+/// An access in the words of memory.
+fn wanted(access: Access) -> Wanted
+    ensures { result ≡ wanted (access_of access) }
+{
+    match access {
+        Access::Loads { order } => Wanted::Load { order },
+        Access::Stores { .. } | Access::Updates { .. } => Wanted::Swap,
+        Access::Compares {
+            weak,
+            success,
+            failure,
+            expected,
+            ..
+        } => Wanted::Compare {
+            success,
+            failure,
+            expected,
+            weak,
+        },
+    }
+}
+
+/// What an update makes of the scalar that it reads.
+#[tactic(auto, using(crate::specs::AccessLaws::update_there))]
+fn updated(op: UpdateOp, old: Scalar, operand: Scalar) -> Scalar
+    requires { IsSome (updated op old operand) }
+    ensures { updated op old operand ≡ Some result }
+{
+    match (op, old, operand) {
+        (UpdateOp::Xchg, _, _) => operand,
+        (_, Scalar::Int { width, bits }, Scalar::Int { bits: by, .. }) => Scalar::Int {
+            width,
+            bits: mu_values::updated(op, width, bits, by),
+        },
+        _ => unreachable!(),
+    }
+}
+
+/// A read of the scalar that was chosen.
+fn read(cell: CellId, order: Order, chosen: Chosen) -> Kind
+    ensures { result ≡ kinds.Access Read cell order chosen.position chosen.value }
+{
+    Kind::Access {
+        mode: Mode::Read,
+        cell,
+        order,
+        position: chosen.position,
+        value: chosen.value,
+    }
+}
+
+/// A write or update that makes the position behind the one that was chosen.
+fn make(mode: Mode, cell: CellId, order: Order, chosen: Chosen, value: Scalar) -> Kind
+    requires { chosen.position < 4294967295 }
+    ensures { result ≡ kinds.Access mode cell order (suc chosen.position) value }
+{
+    Kind::Access {
+        mode,
+        cell,
+        order,
+        position: chosen.position + 1,
+        value,
+    }
+}
+
+/// What is logged of an access of a cell by the option that was chosen.
+fn kind_of(access: Access, cell: CellId, chosen: Chosen) -> Kind
+    requires next { chosen.position < 4294967295 }
+    requires there { IsSome (kind_of (access_of access) cell chosen) }
+    ensures { kind_of (access_of access) cell chosen ≡ Some result }
+{
+    match access {
+        Access::Loads { order } => read(cell, order, chosen),
+        Access::Stores { order, scalar } => make(Mode::Write, cell, order, chosen, scalar),
+        Access::Compares {
+            success,
+            failure,
+            desired,
+            ..
+        } => {
+            if chosen.success {
+                make(Mode::Update, cell, success, chosen, desired)
+            } else {
+                read(cell, failure, chosen)
+            }
+        }
+        Access::Updates { order, op, operand } => {
+            let made = updated(op, chosen.value, operand);
+            make(Mode::Update, cell, order, chosen, made)
+        }
+    }
+}
+
+/// What an access gives by the option that was chosen, in place of what the list held.
+fn write_results(access: Access, chosen: Chosen, values: &mut Slots) -> Result<(), AllocError>
+    ensures { OnOk result (values.new.values ≡ access_results (access_of access) chosen) }
+{
+    values.clear();
+    match access {
+        Access::Stores { .. } => Ok(()),
+        Access::Loads { .. } | Access::Updates { .. } => values.push_scalar(chosen.value),
+        Access::Compares { .. } => {
+            values.push_scalar(chosen.value)?;
+            values.push_scalar(Scalar::Int {
+                width: 1,
+                bits: if chosen.success { 1 } else { 0 },
+            })
+        }
+    }
+}
+
+/// The line of an event with that number.
+fn line_of(alloc: Global, number: u32, event: Event) -> Result<Lines, AllocError>
+    ensures { IfOk result (λ lines. lines ≡ written.Event number event ∷ []) }
+{
+    let mut lines = Lines::new(alloc);
+    lines.push(Line::Event { number, event })?;
+    Ok(lines)
+}
+
+impl<M: Memory> State<M> {
+    /// The thread accesses a cell.
+    #[tactic(auto, using(crate::specs::AccessLaws::accessing))]
+    pub(crate) fn access(
+        &mut self,
+        alloc: Global,
+        code: &Checked,
+        access: Access,
+        cell: CellId,
+        values: &mut Slots,
+        out: &mut Slots,
+    ) -> Result<StepEnd, AllocError>
+        requires left { self.old.left ≡ true }
+        requires room { self.old.steps < self.old.budget }
+        requires there { acting code.now self.old (acts.Accesses (access_of access) cell) ≢ Stuck }
+        ensures ok { IfOk result (λ end. answers end self.new ≡ acting code.now self.old (acts.Accesses (access_of access) cell)) }
+        ensures err { OnErr result (self.new ≡ self.old) }
+        ensures stays { IfOk result (λ end. Stays end self.old self.new) }
+    {
+        what_is_found_fits();
+        let place = Scalar::Place {
+            object: cell.object,
+            at: cell.at,
+        };
+        match self.heap.cell_of(place) {
+            Ok(cell) => {
+                let _cells = self.heap.size(cell.object);
+                self.access_cell::<Brand>(
+                    alloc,
+                    code,
+                    access,
+                    cell,
+                    values,
+                    out,
+                    Blank::new(1),
+                )
+            }
+            Err(fault) => self.refuse(alloc, code, case_of(fault), out),
+        }
+    }
+
+    /// The thread accesses a cell that is there.
+    fn access_cell<L: Ledger>(
+        &mut self,
+        alloc: Global,
+        code: &Checked,
+        access: Access,
+        cell: CellId,
+        values: &mut Slots,
+        out: &mut Slots,
+        blank: Blank,
+    ) -> Result<StepEnd, AllocError>
+        requires name { blank.name ≡ L.name }
+        requires parts { blank.parts ≡ L.parts }
+        requires one { L.parts ≡ 1 }
+        requires left { self.old.left ≡ true }
+        requires room { self.old.steps < self.old.budget }
+        requires cell { HasCell (initials self.old.objects) cell }
+        requires there { picking code.now self.old (access_of access) cell ≢ Stuck }
+        ensures ok { IfOk result (λ end. answers end self.new ≡ picking code.now self.old (access_of access) cell) }
+        ensures err { OnErr result (self.new ≡ self.old) }
+        ensures stays { IfOk result (λ end. Stays end self.old self.new) }
+    {
+        let mut counter = Steps::<L>::new(blank);
+        let wanted = wanted(access);
+        let options = self.memory.options(0, cell, &wanted, &mut counter);
+        let picked = self.picks.look(0, options);
+        let chosen = self.memory.choose(0, cell, &wanted, picked, &mut counter);
+        let event = Event {
+            thread: 0,
+            kind: kind_of(access, cell, chosen),
+        };
+        write_results(access, chosen, values)?;
+        let place = passing(code, self.frames.top(), values, out)?;
+        self.log(alloc, event, Some(cell), options, place, out, &mut counter)
+    }
+
+    /// The ending of a run whose last event races.
+    fn race_ending(&self, event: Event, race: Race) -> Ending
+        ensures { result ≡ race_at self.now event race.earlier }
+    {
+        let top = self.frames.top();
+        Ending::Undefined {
+            case: Case::DataRace,
+            thread: 0,
+            block: top.block,
+            at: top.at,
+            race: Some(Raced {
+                event,
+                earlier: race.earlier,
+            }),
+        }
+    }
+
+    /// The thread's event is logged, and it goes on at a place, with the values in the list for its variables; a pick among so many
+    /// options is taken. Where the event races that is the ending.
+    fn log<L: Ledger>(
+        &mut self,
+        alloc: Global,
+        event: Event,
+        cell: Option<CellId>,
+        options: u32,
+        place: Place,
+        out: &mut Slots,
+        counter: &mut Steps<L>,
+    ) -> Result<StepEnd, AllocError>
+        requires left { self.old.left ≡ true }
+        requires room { self.old.steps < self.old.budget }
+        requires fits { EventFits self.old.rule (initials self.old.objects) self.old.log event }
+        requires cell { HasRoom (record { thread = 0; cell = cell; events = 1 }) event }
+        requires options { 0 < options }
+        ensures ok { IfOk result (λ end. answers end self.new ≡ logs self.old event (pick options self.old.picks).1 (record self.old.frames { top = stands self.old.frames.top place.block place.at out.old.values })) }
+        ensures err { OnErr result (self.new ≡ self.old) }
+        ensures stays { IfOk result (λ end. Stays end self.old self.new) }
+    {
+        let lines = line_of(alloc, self.events, event)?;
+        self.memory.reserve(0, cell, 1)?;
+        match self.memory.commit(event, counter) {
+            Some(race) => Ok(ended(alloc, self.race_ending(event, race))),
+            None => {
+                stand(&mut self.frames, place, out);
+                self.picks.pick(options);
+                self.events += 1;
+                self.steps += 1;
+                Ok(StepEnd::Went(lines))
+            }
+        }
+    }
+
+    /// The thread passes a fence.
+    #[tactic(auto, using(crate::specs::AccessLaws::fencing))]
+    pub(crate) fn fence(
+        &mut self,
+        alloc: Global,
+        code: &Checked,
+        order: Order,
+        values: &mut Slots,
+        out: &mut Slots,
+    ) -> Result<StepEnd, AllocError>
+        requires left { self.old.left ≡ true }
+        requires room { self.old.steps < self.old.budget }
+        requires there { acting code.now self.old (acts.Fences order) ≢ Stuck }
+        ensures ok { IfOk result (λ end. answers end self.new ≡ acting code.now self.old (acts.Fences order)) }
+        ensures err { OnErr result (self.new ≡ self.old) }
+        ensures stays { IfOk result (λ end. Stays end self.old self.new) }
+    {
+        self.fence_counted::<Brand>(alloc, code, order, values, out, Blank::new(1))
+    }
+
+    /// The same with a counter of the looks at memory.
+    fn fence_counted<L: Ledger>(
+        &mut self,
+        alloc: Global,
+        code: &Checked,
+        order: Order,
+        values: &mut Slots,
+        out: &mut Slots,
+        blank: Blank,
+    ) -> Result<StepEnd, AllocError>
+        requires name { blank.name ≡ L.name }
+        requires parts { blank.parts ≡ L.parts }
+        requires one { L.parts ≡ 1 }
+        requires left { self.old.left ≡ true }
+        requires room { self.old.steps < self.old.budget }
+        requires there { acting code.now self.old (acts.Fences order) ≢ Stuck }
+        ensures ok { IfOk result (λ end. answers end self.new ≡ acting code.now self.old (acts.Fences order)) }
+        ensures err { OnErr result (self.new ≡ self.old) }
+        ensures stays { IfOk result (λ end. Stays end self.old self.new) }
+    {
+        let mut counter = Steps::<L>::new(blank);
+        let event = Event {
+            thread: 0,
+            kind: Kind::Fence { order },
+        };
+        values.clear();
+        let place = passing(code, self.frames.top(), values, out)?;
+        self.log(alloc, event, None, 1, place, out, &mut counter)
+    }
+}

@@ -1,0 +1,143 @@
+// Instructions that read and write memory.
+ghost use Rattle.std.specs.Prelude.{◌≡◌, ℕ, List, Some, IsSome};
+ghost use Rattle.frames.specs.Activations.{Value};
+ghost use Rattle.mu_model.specs.Acts as acts;
+ghost use Rattle.mu_model.specs.AccessForms.{cell_act, load_act, store_act, cmpxchg_act, atomicrmw_act, update_op};
+ghost use Rattle.model_numbers.specs.Sources.{value_at};
+ghost use Rattle.step_forms.specs.Asked.{asked, access_of};
+
+use crate::access::Access;
+use crate::act::Act;
+use crate::operands::scalar;
+use crate::variables::Variables;
+use bundle_check::Checked;
+use code_check::Source;
+use heap_cells::CellId;
+use ir_tree::UpdateOp as UpdateWord;
+use mu_base::Order;
+use mu_model::Case;
+use mu_values::{Scalar, UpdateOp};
+
+/// What is done with the cell at a place.
+#[tactic(auto, using(crate::specs::AccessLaws::cells))]
+fn at_place(place: Scalar, access: Access) -> Act
+    requires { IsSome (cell_act (acts.Accesses (access_of access)) place) }
+    ensures { (vs : List Value) (cs : List ℕ) → cell_act (acts.Accesses (access_of access)) place ≡ Some (asked result vs cs) }
+{
+    match place {
+        Scalar::Place { object, at } => Act::Accesses {
+            access,
+            cell: CellId { object, at },
+        },
+        Scalar::Null => Act::Faults(Case::NullAccess),
+        _ => unreachable!(),
+    }
+}
+
+/// The operation that a word of ATOMICRMW stands for.
+fn update_op(word: UpdateWord) -> UpdateOp
+    ensures { result ≡ update_op word }
+{
+    match word {
+        UpdateWord::Xchg => UpdateOp::Xchg,
+        UpdateWord::Add => UpdateOp::Add,
+        UpdateWord::Sub => UpdateOp::Sub,
+        UpdateWord::And => UpdateOp::And,
+        UpdateWord::Nand => UpdateOp::Nand,
+        UpdateWord::Or => UpdateOp::Or,
+        UpdateWord::Xor => UpdateOp::Xor,
+        UpdateWord::Max => UpdateOp::Max,
+        UpdateWord::Min => UpdateOp::Min,
+        UpdateWord::Umax => UpdateOp::Umax,
+        UpdateWord::Umin => UpdateOp::Umin,
+    }
+}
+
+/// LOAD
+#[tactic(auto, using(crate::specs::AccessLaws::loads))]
+pub fn load(code: &Checked, vars: &Variables, order: Order, location: Source) -> Act
+    requires { IsSome (load_act order (value_at code.now vars.now location)) }
+    ensures { (vs : List Value) (cs : List ℕ) → load_act order (value_at code.now vars.now location) ≡ Some (asked result vs cs) }
+{
+    at_place(scalar(code, vars, location), Access::Loads { order })
+}
+
+/// STORE
+#[tactic(auto, using(crate::specs::AccessLaws::stores))]
+pub fn store(code: &Checked, vars: &Variables, order: Order, location: Source, value: Source) -> Act
+    requires { IsSome (store_act order (value_at code.now vars.now location) (value_at code.now vars.now value)) }
+    ensures { (vs : List Value) (cs : List ℕ) → store_act order (value_at code.now vars.now location) (value_at code.now vars.now value) ≡ Some (asked result vs cs) }
+{
+    let stored = scalar(code, vars, value);
+    at_place(
+        scalar(code, vars, location),
+        Access::Stores {
+            order,
+            scalar: stored,
+        },
+    )
+}
+
+/// The two orders of a comparison, and whether it is weak.
+#[derive(Clone, Copy, Debug, PartialEq, Eq)]
+pub struct Comparison {
+    pub weak: bool,
+    pub success: Order,
+    pub failure: Order,
+}
+
+/// CMPXCHG
+#[tactic(auto, using(crate::specs::AccessLaws::compares))]
+pub fn cmpxchg(
+    code: &Checked,
+    vars: &Variables,
+    comparison: Comparison,
+    location: Source,
+    expected: Source,
+    desired: Source,
+) -> Act
+    requires { IsSome (cmpxchg_act comparison.weak comparison.success comparison.failure (value_at code.now vars.now location) (value_at code.now vars.now expected) (value_at code.now vars.now desired)) }
+    ensures { (vs : List Value) (cs : List ℕ) → cmpxchg_act comparison.weak comparison.success comparison.failure (value_at code.now vars.now location) (value_at code.now vars.now expected) (value_at code.now vars.now desired) ≡ Some (asked result vs cs) }
+{
+    let Comparison {
+        weak,
+        success,
+        failure,
+    } = comparison;
+    let expected = scalar(code, vars, expected);
+    let desired = scalar(code, vars, desired);
+    at_place(
+        scalar(code, vars, location),
+        Access::Compares {
+            weak,
+            success,
+            failure,
+            expected,
+            desired,
+        },
+    )
+}
+
+/// ATOMICRMW
+#[tactic(auto, using(crate::specs::AccessLaws::updates))]
+pub fn atomicrmw(
+    code: &Checked,
+    vars: &Variables,
+    order: Order,
+    word: UpdateWord,
+    location: Source,
+    operand: Source,
+) -> Act
+    requires { IsSome (atomicrmw_act order (update_op word) (value_at code.now vars.now location) (value_at code.now vars.now operand)) }
+    ensures { (vs : List Value) (cs : List ℕ) → atomicrmw_act order (update_op word) (value_at code.now vars.now location) (value_at code.now vars.now operand) ≡ Some (asked result vs cs) }
+{
+    let operand = scalar(code, vars, operand);
+    at_place(
+        scalar(code, vars, location),
+        Access::Updates {
+            order,
+            op: update_op(word),
+            operand,
+        },
+    )
+}
