@@ -144,8 +144,9 @@ fn field(heap: &Heap, classes: &Classes, object: u32, index: usize) -> Result<Sc
     requires t { 1 < length classes.now.definitions }
 {
     match classes.definition(1) {
-        TypeDef::Struct { fields } if object < heap.objects() && index < fields.len() =>
-            { heap.field(classes, Scalar::Place { object, at: 0 }, 1, index) }
+        TypeDef::Struct { fields } if object < heap.objects() && index < fields.len() => {
+            heap.field(classes, Scalar::Place { object, at: 0 }, 1, index)
+        }
         _ => Err(PlaceFault::BadCast),
     }
 }
