@@ -1,8 +1,8 @@
 -- Cells that are set one after the other.
-use Rattle.std.proofs.Common.{◌≡◌, ℕ, suc, ◌+◌, ◌<◌, ◌≤◌, List, [], ◌∷◌, ◌++◌, length, take, drop, set, Option, Some, None, IsSomeAnd, slice_get, refl, sym, ap, subst, ◌∙◌, arith}
+use Rattle.std.proofs.Common.{◌≡◌, ℕ, suc, ◌+◌, ◌-◌, ◌<◌, ◌≤◌, List, [], ◌∷◌, ◌++◌, length, take, drop, set, Option, Some, None, IsSomeAnd, IfSome, get_or, slice_get, refl, sym, ap, subst, ◌∙◌, arith}
 use Rattle.std.specs.List.{All}
 use Rattle.std.specs.Prelude.{slice_set}
-use Rattle.std.proofs.lemmas.List.{length-set, length-append, length-take, length-drop}
+use Rattle.std.proofs.lemmas.List.{length-set, take_all}
 use Rattle.std.proofs.lemmas.List.Elements.{All-set}
 use Rattle.bundle_constants.proofs.Members.{holds_at}
 use Rattle.mu_values.specs.declared.scalars.Scalar.{Scalar}
@@ -67,5 +67,29 @@ next os n at many f =
     let o = and_some (λ (x : HeapObject). at + suc many ≤ length x.leaves) (slice_get os n) f.there in
     let one : length (o.0).initial ≡ length (o.0).leaves = holds_at (λ (x : HeapObject). length x.initial ≡ length x.leaves) os n o.0 f.whole o.1 in
     record { object = o.0; there = o.1; within = omega (arith, one, o.2) }
+
+pub filled_end : (os all : List HeapObject) (n at : ℕ) (xs : List Scalar) → length xs < 1 → with_filled os n at xs (slice_get os n) ≡ all → os ≡ all
+filled_end os all n at [] l e = sym (filled_nothing os n at) ∙ e
+filled_end os all n at (x ∷ xs) l e = absurd (omega (arith, l))
+
+-- the first of some scalars, and the others
+pub first_and_rest : (xs : List Scalar) (d : Scalar) → 1 ≤ length xs → xs ≡ get_or xs 0 d ∷ take (length xs - 1) (drop 1 xs)
+first_and_rest [] d l = absurd (omega (arith, l))
+first_and_rest (x ∷ xs) d l = let n : suc (length xs) - 1 ≡ length xs = omega arith in rw n (ap (λ (ys : List Scalar). x ∷ ys) (sym (take_all (length xs) xs (omega arith))))
+
+pub record IsSet (os all : List HeapObject) (n at : ℕ) (xs : List Scalar) : Type 0 where
+  pub objects : with_filled os n at xs (slice_get os n) ≡ all
+  pub filling : IsFilling os n at (length xs)
+
+-- one cell is set
+pub set_more : (os ps all : List HeapObject) (n at : ℕ) (xs rest : List Scalar) (s : Scalar) → xs ≡ s ∷ rest → IsFilling os n at (length xs) → IfSome (slice_get os n) (λ o. ps ≡ slice_set os n (given o at s)) →
+    with_filled os n at xs (slice_get os n) ≡ all → IsSet ps all n (at + 1) rest
+set_more os ps all n at xs rest s e f set so =
+    let g : IsFilling os n at (suc (length rest)) = subst (λ (ys : List Scalar). IsFilling os n at (length ys)) e f in
+    let h = next os n at (length rest) g in
+    let is : ps ≡ slice_set os n (given h.object at s) = subst (λ (o : Option HeapObject). IfSome o (λ x. ps ≡ slice_set os n (given x at s))) h.there set in
+    let was : with_filled os n at (s ∷ rest) (slice_get os n) ≡ all = subst (λ (ys : List Scalar). with_filled os n at ys (slice_get os n) ≡ all) e so in
+    subst (λ (qs : List HeapObject). IsSet qs all n (at + 1) rest) (sym is)
+    (record { objects = filled_more os n at s rest h.object h.there h.within ∙ was; filling = filling_more os n at (length rest) s h.object h.there g })
 
 pub ruleset fillings = (filled_nothing)

@@ -3,7 +3,7 @@ use Rattle.std.proofs.Common.{◌≡◌, ℕ, zero, suc, ◌+◌, ◌-◌, ◌<�
 use Rattle.std.specs.Prelude.{nat_le, ◌==◌}
 use Rattle.std.specs.List.{All}
 use Rattle.std.proofs.lemmas.Bool.{cases_lt}
-use Rattle.std.proofs.lemmas.List.{append-nil, length-map, take-append-drop}
+use Rattle.std.proofs.lemmas.List.{append-nil, length-map, length-append, take-append-drop}
 use Rattle.std.proofs.lemmas.List.Elements.{All-nil, All-cons, All-head, All-tail, All-append, All-map}
 use Rattle.demands.specs.declared.fault.Fault.{Fault}
 use Rattle.demands.specs.declared.fault.Fault.TheVariants.{Memory, At}
@@ -24,8 +24,9 @@ use Rattle.mu_values.specs.declared.scalars.Scalar.{Scalar}
 use Rattle.ir_lex.specs.declared.name.Name.{Name}
 use Rattle.typed_heap.specs.declared.faults.HeapFault.{HeapFault}
 use Rattle.typed_heap.specs.declared.faults.HeapFault.TheVariants as faults
-use Rattle.typed_heap.specs.Objects.{HeapObject, leaf_classes, object_of}
-use Rattle.typed_heap.specs.Heap.{HeapContents}
+use Rattle.typed_heap.specs.Objects.{HeapObject, leaf_classes, run_classes, object_of}
+use Rattle.typed_heap.specs.Heap.{HeapContents, hybrid_classes}
+use Rattle.typed_heap.proofs.Runs.{times_length}
 use Rattle.hail_load.specs.declared.fault.LoadKind.{LoadKind}
 use Rattle.hail_load.specs.declared.fault.LoadKind.TheVariants.{WrongType, OutOfRange, HeapFull}
 use Rattle.hail_load.specs.declared.parts.Part.{Part}
@@ -159,6 +160,10 @@ plain_is c s part parts (pieces.Reference place root) ps a b = refl
 plain_is c s part parts (pieces.Index i) ps a b = absurd (a i refl)
 plain_is c s part parts (pieces.List place many) ps a b = absurd (b place many refl)
 
+pub on_ok : (r : Result (Unit {0}) (Fault LoadKind)) (P : Type 0) → P → OnOk r P
+on_ok (Ok x) P h = h
+on_ok (Err e) P h = tt
+
 -- ---- objects
 
 is_le : (a b : ℕ) → a ≤ b → nat_le a b ≡ true
@@ -194,6 +199,22 @@ make_refused c s new place n part r fault asked left e full enough = elim (cases
     let is : fault ≡ faults.Memory = subst (λ (x : Result ℕ HeapFault). IfErr x (λ f. f ≡ faults.Memory)) e (enough l) in
     subst (λ (f : HeapFault). Makes (make c s place n part) new (Err (not_made f place))) (sym is) tt
 ]
+
+-- the same of a hybrid, whose leaves are counted
+pub hybrid_size : (g : List TypeDef) (t many : ℕ) → length (hybrid_classes g t many) ≡ size_of g (Hybrid t many)
+hybrid_size g t many = length-append (leaf_classes g t) (times many (run_classes g t)) ∙ ap (λ n. length (leaf_classes g t) + n) (times_length many (run_classes g t))
+
+pub hybrid_done : (c : Code) (old new : HeapContents) (es : Names Made) (place : ℕ) (n : Name) (t many : ℕ) → new.objects ≡ old.objects ++ object_of c.graph (hybrid_classes c.graph t many) ∷ [] → new.left + length (hybrid_classes c.graph t many) ≡ old.left →
+    make c (store_of old es) place n (Hybrid t many) ≡ Ok (store_of new (added es n.text (record { object = length old.objects; part = Hybrid t many })))
+hybrid_done c old new es place n t many objects left =
+    let size = hybrid_size c.graph t many in
+    make_done c old new es place n (Hybrid t many) objects (ap (λ k. new.left + k) (sym size) ∙ left)
+
+pub hybrid_refused : (c : Code) (s new : Store) (place : ℕ) (n : Name) (t many : ℕ) (r : Result ℕ HeapFault) (fault : HeapFault) (asked left : ℕ) → r ≡ Err fault → (s.left < length (hybrid_classes c.graph t many) → r ≡ Err (faults.HeapFull asked left)) →
+    (length (hybrid_classes c.graph t many) ≤ s.left → IfErr r (λ f. f ≡ faults.Memory)) → Makes (make c s place n (Hybrid t many)) new (Err (not_made fault place))
+hybrid_refused c s new place n t many r fault asked left e full enough =
+    let size = hybrid_size c.graph t many in
+    make_refused c s new place n (Hybrid t many) r fault asked left e (λ l. full (subst (λ k. s.left < k) (sym size) l)) (λ l. enough (subst (λ k. k ≤ s.left) (sym size) l))
 
 -- a new object has one scalar for each leaf
 pub whole_more : (g : List TypeDef) (os : List HeapObject) (cs : List ℕ) → AreWhole os → AreWhole (os ++ object_of g cs ∷ [])

@@ -1,4 +1,4 @@
-use Rattle.std.proofs.Common.{slice_get}
+use Rattle.std.proofs.Common.{slice_get, refl}
 use Rattle.mu_values.specs.Constants.{width_of}
 use Rattle.hail_load.proofs.Steps.{number_refused}
 use Rattle.hail_load.proofs.fitting.number.Goals as goal

@@ -7,7 +7,7 @@ use Rattle.hail_load.proofs.judgement.judge.Given as goal
 
 abbrev pub invariant-each : goal.invariant-each
 invariant-each l = record {
-  told : behind l.scalars.items (judged (code_of l.code) (store_of l.heap l.made) l.parts l.left) ≡ behind l.fn.scalars.items (judged (code_of l.code) (store_of l.heap l.made) (l.part ∷ []) l.fn.source);
+  told : behind l.scalars.items (judged (code_of l.code) (store_of l.heap l.made) l.parts l.left) ≡ behind l.fn.scalars.items (judged (code_of l.code) (store_of l.heap l.made) (l.fn.part ∷ []) l.fn.source);
   parts : All (IsThere (code_of l.code).graph) l.parts;
 }
 

@@ -1,3 +1,4 @@
+use Rattle.std.proofs.Common.{refl}
 use Rattle.hail_load.specs.declared.parts.Part.TheVariants.{Value}
 use Rattle.hail_load.proofs.Steps.{elements_wanted, elements_unwanted}
 use Rattle.hail_load.proofs.judgement.push_elements.Goals as goal
