@@ -296,6 +296,14 @@ fn perform(
     }
 }
 
+/// Tells what is known of the code of a bundle; it does nothing.
+#[tactic(auto, using(crate::proofs::Knowing::is_known))]
+fn tell_known(code: &Checked)
+    ensures { IsKnown (code_of code.now) }
+{
+    let _items = code.items();
+}
+
 /// Loads a script into a heap that holds the objects of the bundle's globals and no others. Its commands are carried out in order, and
 /// the first fault of the first that is refused is answered:
 ///
@@ -322,10 +330,10 @@ pub fn load_hail(
     hail: &Hail,
     heap: &mut Heap,
 ) -> Result<(), LoadFault>
-    requires known { IsKnown (code_of code.now) }
-    requires globals { AreGlobals (code_of code.now) heap.old.objects }
+    requires { AreGlobals (code_of code.now) heap.old.objects }
     ensures { Loads (code_of code.now) hail.now heap.old heap.new result }
 {
+    tell_known(code);
     let mut made = Scope::new(alloc);
     for command in hail.as_slice() {
         perform(alloc, code, heap, &mut made, command)?;

@@ -7,7 +7,7 @@ use Rattle.hail_load.proofs.Loads.{loads_more, loads_refused}
 use Rattle.hail_load.proofs.loading.load_hail.Goals as goal
 
 pub loop-command-init : goal.loop-command-init
-loop-command-init c = rw c.new-made.ensures (record { so_far = refl; whole = globals_whole (code_of c.args.code.now) c.args.heap.now.objects c.requires.globals; there = none_there (code_of c.args.code.now).graph })
+loop-command-init c = rw c.new-made.ensures (record { so_far = refl; whole = globals_whole (code_of c.args.code.now) c.args.heap.now.objects c.requires; there = none_there (code_of c.args.code.now).graph })
 
 pub returns-in_err-perform : goal.returns-in_err-perform
 returns-in_err-perform c =
