@@ -1,5 +1,5 @@
 -- Casts tell what fits.
-use Rattle.std.proofs.Common.{◌≡◌, ℕ, zero, suc, ◌<◌, ◌≤◌, Bool, true, false, List, [], ◌∷◌, Option, Some, None, IsSome, Result, Ok, Err, length, slice_get, refl, subst, arith}
+use Rattle.std.proofs.Common.{◌≡◌, ℕ, zero, suc, ◌<◌, ◌≤◌, Bool, true, false, List, [], ◌∷◌, Option, Some, None, IsSome, Result, Ok, length, slice_get, refl, subst, arith}
 use Rattle.std.specs.Result.{is_ok}
 use Rattle.std.proofs.lemmas.Option.{slice_get_past}
 use Rattle.type_laws.specs.declared.definition.TypeDef.{TypeDef}

@@ -1,5 +1,5 @@
 -- The parts that indexes lead to, and what stands before them.
-use Rattle.std.proofs.Common.{◌≡◌, ℕ, zero, suc, ◌+◌, ◌*◌, ◌<◌, ◌≤◌, List, [], ◌∷◌, ◌++◌, length, map, take, Option, Some, None, Ok, Err, slice_get, get_or, refl, sym, ap, ◌∙◌, arith, suc-mul, zero-mul}
+use Rattle.std.proofs.Common.{◌≡◌, ℕ, zero, suc, ◌+◌, ◌*◌, ◌<◌, ◌≤◌, List, [], ◌∷◌, ◌++◌, length, map, take, Some, None, Ok, Err, slice_get, refl, sym, ap, ◌∙◌, arith, suc-mul, zero-mul}
 use Rattle.std.specs.Prelude.{sum_by, slice_index}
 use Rattle.std.proofs.lemmas.List.{take-map, length-map, length-append, take-append-le, take_all}
 use Rattle.std.proofs.lemmas.List.Sums.{sum_by-cons}
@@ -8,9 +8,9 @@ use Rattle.demands.specs.declared.fault.Fault.TheVariants.{At}
 use Rattle.type_laws.specs.declared.definition.TypeDef.{TypeDef}
 use Rattle.type_laws.specs.Leaves.{times}
 use Rattle.typed_heap.specs.Objects.{leaf_classes}
-use Rattle.hail_load.specs.declared.fault.LoadKind.TheVariants.{WrongType, OutOfRange}
+use Rattle.hail_load.specs.declared.fault.LoadKind.TheVariants.{OutOfRange}
 use Rattle.hail_load.specs.declared.parts.Part.{Part}
-use Rattle.hail_load.specs.declared.parts.Part.TheVariants.{Value, Hybrid, Elements}
+use Rattle.hail_load.specs.declared.parts.Part.TheVariants.{Value}
 use Rattle.hail_load.specs.declared.parts.Spot.{Spot}
 use Rattle.hail_load.specs.declared.tree.Index.{Index}
 use Rattle.hail_load.specs.Parts.{size_of, part_with}

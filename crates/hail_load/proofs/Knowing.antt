@@ -1,5 +1,5 @@
 -- What is known of the code of a bundle that meets its demands.
-use Rattle.std.proofs.Common.{◌≡◌, ◌⊎◌, ℕ, ◌+◌, ◌<◌, ◌≤◌, Bool, true, false, List, [], ◌∷◌, ◌++◌, length, Option, Some, None, is_some, nat_lt, slice_get, if◌then◌else◌, refl, sym, ap, subst, ◌∙◌, inl, inr, arith}
+use Rattle.std.proofs.Common.{◌≡◌, ◌⊎◌, ℕ, ◌+◌, ◌<◌, ◌≤◌, Bool, true, false, List, [], ◌∷◌, ◌++◌, length, Option, Some, None, is_some, nat_lt, if◌then◌else◌, refl, subst, inl, inr, arith}
 use Rattle.std.specs.List.{All}
 use Rattle.std.specs.Str.{bytes_eq}
 use Rattle.std.proofs.lemmas.List.Elements.{All-nil, All-cons}
@@ -8,19 +8,17 @@ use Rattle.demands.specs.Names.{Names, found, added}
 use Rattle.demands.proofs.Meeting.{both_met}
 use Rattle.ir_tree.specs.declared.items.Item.{Item}
 use Rattle.ir_tree.specs.declared.items.Item.TheVariants as items
-use Rattle.type_laws.specs.declared.definition.TypeDef.{TypeDef}
 use Rattle.type_laws.specs.Same.{IsGraph}
 use Rattle.type_laws.specs.Class.{class_of}
 use Rattle.type_laws.proofs.Proved.{decided}
 use Rattle.mu_types.specs.Graph.{Table}
 use Rattle.mu_types.specs.Implied.{complete}
-use Rattle.mu_values.specs.Constants.{width_of}
 use Rattle.bundle_names.specs.declared.globals.Sort.{Sort}
 use Rattle.bundle_names.specs.declared.globals.Sort.TheVariants as sorts
 use Rattle.bundle_names.specs.declared.globals.Globals.{Globals}
 use Rattle.bundle_names.specs.Globals.{with_item, with_items, no_globals, globals_of}
 use Rattle.check_tables.specs.declared.tables.Tables.{Tables}
-use Rattle.check_tables.specs.Types.{class_at, class_in}
+use Rattle.check_tables.specs.Types.{class_in}
 use Rattle.check_tables.specs.Lookups.{written_number, type_named, or_zero}
 use Rattle.bundle_tables.specs.Graph.{graph_of}
 use Rattle.bundle_tables.specs.Entries.{tables_of}

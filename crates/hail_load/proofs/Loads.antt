@@ -1,5 +1,5 @@
 -- What is loaded when a script ends, or is refused.
-use Rattle.std.proofs.Common.{◌≡◌, ℕ, suc, ◌+◌, ◌<◌, ◌≤◌, List, [], ◌∷◌, ◌++◌, length, take, drop, get_or, Option, Some, None, Result, Ok, Err, refl, sym, ap, subst, ◌∙◌, arith, add-one}
+use Rattle.std.proofs.Common.{◌≡◌, ℕ, suc, ◌+◌, ◌<◌, ◌≤◌, List, [], ◌∷◌, ◌++◌, length, take, drop, get_or, Some, None, Ok, Err, refl, sym, ap, subst, ◌∙◌, add-one}
 use Rattle.std.proofs.lemmas.List.{take_all, take-append-drop}
 use Rattle.std.proofs.Math.Seq.{take-suc, drop-cons}
 use Rattle.demands.specs.declared.fault.Fault.{Fault}
@@ -11,7 +11,7 @@ use Rattle.hail_load.specs.declared.parts.Made.{Made}
 use Rattle.hail_load.specs.declared.tree.Command.{Command}
 use Rattle.hail_load.specs.Code.{Code}
 use Rattle.hail_load.specs.Fitting.{Store}
-use Rattle.hail_load.specs.Loading.{Loaded, done, load}
+use Rattle.hail_load.specs.Loading.{Loaded, done}
 use Rattle.hail_load.specs.LoadAnswers.{Holds, Loads, loaded_from}
 use Rattle.hail_load.specs.Answering.{Makes, IsSame, store_of}
 use Rattle.hail_load.proofs.Steps.{load_more, load_refused}

@@ -1,16 +1,14 @@
 -- What names lead to.
-use Rattle.std.proofs.Common.{◌≡◌, ℕ, ◌<◌, Bool, true, false, List, [], ◌∷◌, length, Option, Some, None, Result, Ok, Err, slice_get, if◌then◌else◌, refl, subst}
+use Rattle.std.proofs.Common.{◌≡◌, ℕ, ◌<◌, Bool, true, false, List, [], ◌∷◌, length, Option, Some, None, Ok, slice_get, if◌then◌else◌, refl, subst}
 use Rattle.std.specs.List.{All}
 use Rattle.std.specs.Str.{bytes_eq}
 use Rattle.std.proofs.lemmas.List.Elements.{All-head, All-tail}
 use Rattle.demands.specs.Names.{Names, found}
-use Rattle.demands.specs.declared.fault.Fault.{Fault}
 use Rattle.ir_lex.specs.declared.name.Name.{Name}
 use Rattle.type_laws.specs.declared.definition.TypeDef.{TypeDef}
 use Rattle.bundle_names.specs.declared.globals.Sort.{Sort}
 use Rattle.bundle_names.specs.declared.globals.Sort.TheVariants as sorts
 use Rattle.bundle_constants.proofs.Members.{holds_at}
-use Rattle.hail_load.specs.declared.fault.LoadKind.{LoadKind}
 use Rattle.hail_load.specs.declared.parts.Made.{Made}
 use Rattle.hail_load.specs.declared.parts.Part.TheVariants.{Value}
 use Rattle.hail_load.specs.declared.parts.Spot.{Spot}
@@ -54,4 +52,3 @@ global_there g ts n None s a e = cc
 pub root_there : (c : Code) (es : Names Made) (root : Root) (s : Spot) → IsKnown c → AreThere c.graph es → root_spot c es root ≡ Ok s → IsThere c.graph s.part
 root_there c es (roots_of.Object n) s k a e = made_there c.graph es n (found es n.text) s a refl e
 root_there c es (roots_of.Global n) s k a e = global_there c.graph c.globals n (found c.names n.text) s k.globals e
-

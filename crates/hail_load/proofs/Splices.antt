@@ -1,8 +1,6 @@
 -- Scalars that are written into a list from an offset on.
-use Rattle.std.proofs.Common.{◌≡◌, ◌≢◌, ℕ, zero, suc, ◌+◌, ◌<◌, ◌≤◌, List, [], ◌∷◌, ◌++◌, length, take, drop, set, Some, slice_get, refl, sym, ap, ◌∙◌, arith, append_assoc, add-zero}
-use Rattle.std.specs.List.{All}
-use Rattle.std.proofs.lemmas.List.{append-nil, take-append-drop, take_more_set, drop-set-lt, set-get_or}
-use Rattle.std.proofs.lemmas.Option.{get_or_from_slice_get}
+use Rattle.std.proofs.Common.{◌≡◌, ℕ, zero, suc, ◌+◌, ◌<◌, List, [], ◌∷◌, ◌++◌, length, take, drop, set, Some, slice_get, refl, ap, arith, append_assoc, add-zero}
+use Rattle.std.proofs.lemmas.List.{append-nil, take-append-drop, take_more_set, drop-set-lt}
 
 pub splice_nothing : {T : Type 0} (xs : List T) (at : ℕ) → (take at xs ++ []) ++ drop (at + 0) xs ≡ xs
 splice_nothing xs at = rw (append-nil (take at xs), add-zero at) (take-append-drop at xs)

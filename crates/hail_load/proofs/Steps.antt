@@ -1,9 +1,9 @@
 -- What is wanted after each step of judging and of loading.
-use Rattle.std.proofs.Common.{◌≡◌, ℕ, zero, suc, ◌+◌, ◌-◌, ◌<◌, ◌≤◌, ◌++◌, Bool, true, false, List, [], ◌∷◌, length, map, take, drop, Option, Some, None, Result, Ok, Err, IfErr, OnOk, if◌then◌else◌, slice_get, refl, sym, ap, subst, ◌∙◌, inl, inr, arith, append_assoc}
+use Rattle.std.proofs.Common.{◌≡◌, ℕ, zero, suc, ◌+◌, ◌-◌, ◌<◌, ◌≤◌, ◌++◌, Bool, true, false, List, [], ◌∷◌, length, map, Option, Some, None, Result, Ok, Err, IfErr, OnOk, if◌then◌else◌, slice_get, refl, sym, ap, subst, ◌∙◌, inl, inr, arith, append_assoc}
 use Rattle.std.specs.Prelude.{nat_le, ◌==◌}
 use Rattle.std.specs.List.{All}
 use Rattle.std.proofs.lemmas.Bool.{cases_lt}
-use Rattle.std.proofs.lemmas.List.{append-nil, length-map, length-append, take-append-drop}
+use Rattle.std.proofs.lemmas.List.{length-map, length-append}
 use Rattle.std.proofs.lemmas.List.Elements.{All-nil, All-cons, All-head, All-tail, All-append, All-map}
 use Rattle.demands.specs.declared.fault.Fault.{Fault}
 use Rattle.demands.specs.declared.fault.Fault.TheVariants.{Memory, At}
@@ -28,7 +28,7 @@ use Rattle.typed_heap.specs.Objects.{HeapObject, leaf_classes, run_classes, obje
 use Rattle.typed_heap.specs.Heap.{HeapContents, hybrid_classes}
 use Rattle.typed_heap.proofs.Runs.{times_length}
 use Rattle.hail_load.specs.declared.fault.LoadKind.{LoadKind}
-use Rattle.hail_load.specs.declared.fault.LoadKind.TheVariants.{WrongType, OutOfRange, HeapFull}
+use Rattle.hail_load.specs.declared.fault.LoadKind.TheVariants.{WrongType, OutOfRange}
 use Rattle.hail_load.specs.declared.parts.Part.{Part}
 use Rattle.hail_load.specs.declared.parts.Part.TheVariants.{Value, Hybrid, Elements}
 use Rattle.hail_load.specs.declared.tree.Index.{Index}
@@ -41,8 +41,8 @@ use Rattle.hail_load.specs.Parts.{value_parts, hybrid_parts, parts_of, leaves_of
 use Rattle.hail_load.specs.Fitting.{Store, Scalars, number_scalars}
 use Rattle.hail_load.specs.Judging.{wanted_by, part_scalars, judged}
 use Rattle.hail_load.specs.Loading.{Stored, with_object, make, Loaded, go_on, done, load}
-use Rattle.hail_load.specs.LoadAnswers.{AreGlobals, Holds, Loads, loaded_from}
-use Rattle.hail_load.specs.Answering.{Makes, GoesOn, behind, before, called, not_made, IsThere, AreThere, AreWhole, IsSame, store_of}
+use Rattle.hail_load.specs.LoadAnswers.{AreGlobals}
+use Rattle.hail_load.specs.Answering.{Makes, GoesOn, behind, before, called, not_made, IsThere, AreThere, AreWhole, store_of}
 
 -- ---- sources
 
@@ -192,12 +192,12 @@ pub make_refused : (c : Code) (s new : Store) (place : ℕ) (n : Name) (part : P
     (size_of c.graph part ≤ s.left → IfErr r (λ f. f ≡ faults.Memory)) → Makes (make c s place n part) new (Err (not_made fault place))
 make_refused c s new place n part r fault asked left e full enough = elim (cases_lt s.left (size_of c.graph part)) [
   | inl l ↦
-    let gone : nat_le (size_of c.graph part) s.left ≡ false = is_not_le (size_of c.graph part) s.left l in
-    let is : faults.HeapFull asked left ≡ fault = (let both = full l in cc) in
-    subst (λ (f : HeapFault). Makes (make c s place n part) new (Err (not_made f place))) is (rw (gone, make) refl)
+      let gone : nat_le (size_of c.graph part) s.left ≡ false = is_not_le (size_of c.graph part) s.left l in
+      let is : faults.HeapFull asked left ≡ fault = (let both = full l in cc) in
+      subst (λ (f : HeapFault). Makes (make c s place n part) new (Err (not_made f place))) is (rw (gone, make) refl)
   | inr l ↦
-    let is : fault ≡ faults.Memory = subst (λ (x : Result ℕ HeapFault). IfErr x (λ f. f ≡ faults.Memory)) e (enough l) in
-    subst (λ (f : HeapFault). Makes (make c s place n part) new (Err (not_made f place))) (sym is) tt
+      let is : fault ≡ faults.Memory = subst (λ (x : Result ℕ HeapFault). IfErr x (λ f. f ≡ faults.Memory)) e (enough l) in
+      subst (λ (f : HeapFault). Makes (make c s place n part) new (Err (not_made f place))) (sym is) tt
 ]
 
 -- the same of a hybrid, whose leaves are counted

@@ -7,7 +7,7 @@ use Rattle.demands.specs.declared.fault.Fault.TheVariants.{Memory, At}
 use Rattle.demands.specs.Names.{Names}
 use Rattle.type_laws.specs.declared.definition.TypeDef.{TypeDef}
 use Rattle.mu_values.specs.declared.literals.ConstKind.{ConstKind}
-use Rattle.mu_values.specs.declared.literals.ConstKind.TheVariants.{OutOfWidth, WrongShape, NotNullable}
+use Rattle.mu_values.specs.declared.literals.ConstKind.TheVariants.{OutOfWidth}
 use Rattle.typed_heap.specs.declared.faults.HeapFault.{HeapFault}
 use Rattle.typed_heap.specs.declared.faults.HeapFault.TheVariants as faults
 use Rattle.typed_heap.specs.Objects.{HeapObject}

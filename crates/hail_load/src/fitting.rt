@@ -22,7 +22,9 @@ use check_tables::Tables;
 use demands::Scope;
 use ir_lex::{Name, Numeral};
 use mu_types::{Classes, TypeDef};
-use mu_values::{ConstKind, Literal, LiteralKind, Made as Constants, Scalar, judge_const, make_const};
+use mu_values::{
+    ConstKind, Literal, LiteralKind, Made as Constants, Scalar, judge_const, make_const,
+};
 use std::alloc::{AllocError, Global};
 use text_forms::Listing;
 use typed_heap::Heap;
@@ -211,12 +213,7 @@ fn push(scalars: &mut Vec<Scalar>, scalar: Scalar) -> Result<(), AllocError>
 }
 
 /// Adds a scalar, where it fits.
-fn add(
-    scalars: &mut Vec<Scalar>,
-    place: usize,
-    fits: bool,
-    scalar: Scalar,
-) -> Result<(), LoadFault>
+fn add(scalars: &mut Vec<Scalar>, place: usize, fits: bool, scalar: Scalar) -> Result<(), LoadFault>
     ensures { Makes (behind scalars.old.items (where_fits place fits (scalar ∷ []))) scalars.new.items result }
 {
     if !fits {

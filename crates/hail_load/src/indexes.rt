@@ -212,11 +212,7 @@ fn follow(classes: &Classes, spot: Spot, index: &Index) -> Result<Spot, LoadFaul
 }
 
 /// The part that some indexes lead to, one after the other.
-pub(crate) fn indexed(
-    classes: &Classes,
-    from: Spot,
-    indexes: &[Index],
-) -> Result<Spot, LoadFault>
+pub(crate) fn indexed(classes: &Classes, from: Spot, indexes: &[Index]) -> Result<Spot, LoadFault>
     requires graph { IsGraph classes.now.definitions }
     requires part { IsThere classes.now.definitions from.part }
     ensures told { Tells (indexed classes.now.definitions from indexes.now) result }
@@ -232,11 +228,7 @@ pub(crate) fn indexed(
 }
 
 /// The part that the indexes at the head of some pieces lead to.
-pub(crate) fn indexed_by(
-    classes: &Classes,
-    from: Spot,
-    pieces: &[Piece],
-) -> Result<Spot, LoadFault>
+pub(crate) fn indexed_by(classes: &Classes, from: Spot, pieces: &[Piece]) -> Result<Spot, LoadFault>
     requires graph { IsGraph classes.now.definitions }
     requires part { IsThere classes.now.definitions from.part }
     ensures told { Tells (indexed classes.now.definitions from (next_indexes pieces.now)) result }

@@ -30,9 +30,8 @@ fn piece_place(piece: &Piece) -> usize
         Piece::Number(numeral) => numeral.place,
         Piece::Global(name) | Piece::Object(name) => name.place,
         Piece::Index(index) => index.place,
-        Piece::Null { place }
-        | Piece::Reference { place, .. }
-        | Piece::List { place, .. } => *place,
+        Piece::Null { place } | Piece::Reference { place, .. } | Piece::List { place, .. } =>
+            *place,
     }
 }
 
@@ -77,7 +76,9 @@ fn push_value(
             parts.push_fields(fields.as_slice())?;
             Ok(())
         }
-        TypeDef::Array { element, length } => push_elements(*element, *length, place, wanted, parts),
+        TypeDef::Array { element, length } => push_elements(
+            *element, *length, place, wanted, parts,
+        ),
         _ => wrong_type(place),
     }
 }

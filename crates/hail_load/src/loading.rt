@@ -101,13 +101,7 @@ fn make_hybrid(
     ensures whole { AreWhole heap.old.objects → AreWhole heap.new.objects }
     ensures there { OnOk result (AreThere (code_of code.now).graph made.old → AreThere (code_of code.now).graph made.new) }
 {
-    name_next(
-        alloc,
-        heap,
-        made,
-        name,
-        Part::Hybrid { of_type: t, many },
-    )?;
+    name_next(alloc, heap, made, name, Part::Hybrid { of_type: t, many })?;
     match heap.new_hybrid(code.classes(), t, many) {
         Ok(_) => Ok(()),
         Err(fault) => Err(refused(fault, place)),

@@ -41,7 +41,12 @@ fn heap_of(alloc: Global, code: &Checked, cells: u32) -> Result<Heap, AllocError
 }
 
 /// What loading a script answers.
-fn answer(alloc: Global, code: &Checked, heap: &mut Heap, script: &[u8]) -> Result<Result<(), LoadFault>, Fail>
+fn answer(
+    alloc: Global,
+    code: &Checked,
+    heap: &mut Heap,
+    script: &[u8],
+) -> Result<Result<(), LoadFault>, Fail>
     requires { AreGlobals (code_of code.now) heap.old.objects }
 {
     let hail = read_hail(alloc, script, code)?;
@@ -62,7 +67,14 @@ fn int(width: u32, bits: u128) -> Option<Scalar> {
 }
 
 /// A script that is refused.
-fn refuses(rt: &impl Abort, alloc: Global, code: &Checked, script: &[u8], kind: LoadKind, place: usize) -> Result<(), Fail> {
+fn refuses(
+    rt: &impl Abort,
+    alloc: Global,
+    code: &Checked,
+    script: &[u8],
+    kind: LoadKind,
+    place: usize,
+) -> Result<(), Fail> {
     let mut heap = heap_of(alloc, code, 10)?;
     let answer = answer(alloc, code, &mut heap, script)?;
     assert_eq!(rt; answer, Err(LoadFault::At { kind, place }));
@@ -73,8 +85,22 @@ fn refuses_targets(rt: &impl Abort, alloc: Global, code: &Checked) -> Result<(),
     refuses(rt, alloc, code, b".init @a[3] = 5", LoadKind::OutOfRange, 9)?;
     refuses(rt, alloc, code, b".init @w[2] = 5", LoadKind::OutOfRange, 9)?;
     refuses(rt, alloc, code, b".init @x[0] = 5", LoadKind::WrongType, 8)?;
-    refuses(rt, alloc, code, b".init @a[1][0] = 5", LoadKind::WrongType, 11)?;
-    refuses(rt, alloc, code, b".new $v <@v> .init $v[0] = 5", LoadKind::WrongType, 21)?;
+    refuses(
+        rt,
+        alloc,
+        code,
+        b".init @a[1][0] = 5",
+        LoadKind::WrongType,
+        11,
+    )?;
+    refuses(
+        rt,
+        alloc,
+        code,
+        b".new $v <@v> .init $v[0] = 5",
+        LoadKind::WrongType,
+        21,
+    )?;
     let script = b".newhybrid $h <@hf> 2 .init $h[2] = 3";
     refuses(rt, alloc, code, script, LoadKind::OutOfRange, 31)?;
     let script = b".newhybrid $h <@hf> 2 .init $h[1][2] = 3";
@@ -83,24 +109,87 @@ fn refuses_targets(rt: &impl Abort, alloc: Global, code: &Checked) -> Result<(),
 
 fn refuses_sources(rt: &impl Abort, alloc: Global, code: &Checked) -> Result<(), Fail> {
     refuses(rt, alloc, code, b".init @b = 256", LoadKind::OutOfRange, 11)?;
-    refuses(rt, alloc, code, b".init @b = -129", LoadKind::OutOfRange, 11)?;
+    refuses(
+        rt,
+        alloc,
+        code,
+        b".init @b = -129",
+        LoadKind::OutOfRange,
+        11,
+    )?;
     refuses(rt, alloc, code, b".init @g = 5", LoadKind::WrongType, 11)?;
     refuses(rt, alloc, code, b".init @x = NULL", LoadKind::WrongType, 11)?;
     refuses(rt, alloc, code, b".init @b = @k", LoadKind::WrongType, 11)?;
     refuses(rt, alloc, code, b".init @p = @b", LoadKind::WrongType, 11)?;
-    refuses(rt, alloc, code, b".init @x = @main", LoadKind::WrongType, 11)?;
-    refuses(rt, alloc, code, b".new $a <@i64> .init @g = $a", LoadKind::WrongType, 26)?;
+    refuses(
+        rt,
+        alloc,
+        code,
+        b".init @x = @main",
+        LoadKind::WrongType,
+        11,
+    )?;
+    refuses(
+        rt,
+        alloc,
+        code,
+        b".new $a <@i64> .init @g = $a",
+        LoadKind::WrongType,
+        26,
+    )?;
     refuses(rt, alloc, code, b".init @p = &@b", LoadKind::WrongType, 11)?;
-    refuses(rt, alloc, code, b".init @x = &@a[9]", LoadKind::WrongType, 11)?;
-    refuses(rt, alloc, code, b".init @p = &@a[9]", LoadKind::OutOfRange, 15)
+    refuses(
+        rt,
+        alloc,
+        code,
+        b".init @x = &@a[9]",
+        LoadKind::WrongType,
+        11,
+    )?;
+    refuses(
+        rt,
+        alloc,
+        code,
+        b".init @p = &@a[9]",
+        LoadKind::OutOfRange,
+        15,
+    )
 }
 
 fn refuses_lists(rt: &impl Abort, alloc: Global, code: &Checked) -> Result<(), Fail> {
-    refuses(rt, alloc, code, b".init @a = {1 2}", LoadKind::WrongType, 11)?;
-    refuses(rt, alloc, code, b".init @a = {1 2 3 4}", LoadKind::WrongType, 11)?;
+    refuses(
+        rt,
+        alloc,
+        code,
+        b".init @a = {1 2}",
+        LoadKind::WrongType,
+        11,
+    )?;
+    refuses(
+        rt,
+        alloc,
+        code,
+        b".init @a = {1 2 3 4}",
+        LoadKind::WrongType,
+        11,
+    )?;
     refuses(rt, alloc, code, b".init @x = {1}", LoadKind::WrongType, 11)?;
-    refuses(rt, alloc, code, b".init @a = {1 NULL 99999999999999999999}", LoadKind::WrongType, 14)?;
-    refuses(rt, alloc, code, b".new $v <@v> .init $v = {}", LoadKind::WrongType, 24)?;
+    refuses(
+        rt,
+        alloc,
+        code,
+        b".init @a = {1 NULL 99999999999999999999}",
+        LoadKind::WrongType,
+        14,
+    )?;
+    refuses(
+        rt,
+        alloc,
+        code,
+        b".new $v <@v> .init $v = {}",
+        LoadKind::WrongType,
+        24,
+    )?;
     let script = b".newhybrid $h <@hf> 2 .init $h = {1 2}";
     refuses(rt, alloc, code, script, LoadKind::WrongType, 36)?;
     let script = b".newhybrid $h <@hf> 2 .init $h[1] = {3}";
@@ -109,8 +198,22 @@ fn refuses_lists(rt: &impl Abort, alloc: Global, code: &Checked) -> Result<(), F
 
 fn refuses_objects(rt: &impl Abort, alloc: Global, code: &Checked) -> Result<(), Fail> {
     refuses(rt, alloc, code, b".new $h <@hy>", LoadKind::WrongType, 9)?;
-    refuses(rt, alloc, code, b".newhybrid $h <@n> 1", LoadKind::WrongType, 15)?;
-    refuses(rt, alloc, code, b".newhybrid $h <@hy> 11", LoadKind::HeapFull, 0)?;
+    refuses(
+        rt,
+        alloc,
+        code,
+        b".newhybrid $h <@n> 1",
+        LoadKind::WrongType,
+        15,
+    )?;
+    refuses(
+        rt,
+        alloc,
+        code,
+        b".newhybrid $h <@hy> 11",
+        LoadKind::HeapFull,
+        0,
+    )?;
     let script = b".newhybrid $h <@hy> 340282366920938463463374607431768211455";
     refuses(rt, alloc, code, script, LoadKind::HeapFull, 0)?;
     let script = b".newhybrid $h <@hf> 8 .new $a <@n>";
@@ -146,16 +249,64 @@ fn sets_globals(rt: &impl Abort, alloc: Global, code: &Checked) -> Result<(), Fa
     sets(rt, alloc, code, b".init @x = @k", 4, int(64, 7), None)?;
     sets(rt, alloc, code, b".init @p = @x", 1, place(4, 0), None)?;
     sets(rt, alloc, code, b".init @p = &@a[1]", 1, place(2, 1), None)?;
-    sets(rt, alloc, code, b".init @f = @main", 3, Some(Scalar::Func(0)), None)?;
-    sets(rt, alloc, code, b".init @f = NULL", 3, Some(Scalar::Null), None)?;
-    sets(rt, alloc, code, b".init @a[1] = 5", 2, int(64, 0), int(64, 5))?;
-    sets(rt, alloc, code, b".init @a = {1 2 3}", 2, int(64, 1), int(64, 2))
+    sets(
+        rt,
+        alloc,
+        code,
+        b".init @f = @main",
+        3,
+        Some(Scalar::Func(0)),
+        None,
+    )?;
+    sets(
+        rt,
+        alloc,
+        code,
+        b".init @f = NULL",
+        3,
+        Some(Scalar::Null),
+        None,
+    )?;
+    sets(
+        rt,
+        alloc,
+        code,
+        b".init @a[1] = 5",
+        2,
+        int(64, 0),
+        int(64, 5),
+    )?;
+    sets(
+        rt,
+        alloc,
+        code,
+        b".init @a = {1 2 3}",
+        2,
+        int(64, 1),
+        int(64, 2),
+    )
 }
 
 fn sets_objects(rt: &impl Abort, alloc: Global, code: &Checked) -> Result<(), Fail> {
     let node = Some(Scalar::Object(7));
-    sets(rt, alloc, code, b".new $a <@n> .init @g = $a", 0, node, None)?;
-    sets(rt, alloc, code, b".new $a <@n> .init @w = {9 $a}", 6, int(64, 9), node)?;
+    sets(
+        rt,
+        alloc,
+        code,
+        b".new $a <@n> .init @g = $a",
+        0,
+        node,
+        None,
+    )?;
+    sets(
+        rt,
+        alloc,
+        code,
+        b".new $a <@n> .init @w = {9 $a}",
+        6,
+        int(64, 9),
+        node,
+    )?;
     let script = b".newhybrid $h <@hf> 2 .init $h = {1 {2 3}}";
     sets(rt, alloc, code, script, 7, int(8, 1), int(64, 2))?;
     let script = b".newhybrid $h <@hf> 2 .init $h[1][0] = 4 .init @p = &$h[1]";

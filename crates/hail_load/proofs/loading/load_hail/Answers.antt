@@ -1,4 +1,4 @@
-use Rattle.std.proofs.Common.{◌<◌, length, refl}
+use Rattle.std.proofs.Common.{refl}
 use Rattle.std.proofs.lemmas.Result.{err_from_is_err_and}
 use Rattle.hail_load.specs.Code.{code_of}
 use Rattle.hail_load.specs.Answering.{store_of}

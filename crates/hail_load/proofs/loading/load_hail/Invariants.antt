@@ -1,6 +1,5 @@
-use Rattle.std.proofs.Common.{◌≡◌, [], None, take}
+use Rattle.std.proofs.Common.{◌≡◌, None, take}
 use Rattle.hail_load.specs.Code.{code_of}
-use Rattle.hail_load.specs.Loading.{load}
 use Rattle.hail_load.specs.LoadAnswers.{loaded_from}
 use Rattle.hail_load.specs.Answering.{AreThere, AreWhole, store_of}
 use Rattle.hail_load.proofs.loading.load_hail.Given as goal
