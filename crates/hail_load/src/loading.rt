@@ -320,8 +320,8 @@ fn tell_known(code: &Checked)
 /// that an index names, and for the leaves of what a reference refers to.
 pub fn load_hail(
     alloc: Global,
-    code: &Checked,
     hail: &Hail,
+    code: &Checked,
     heap: &mut Heap,
 ) -> Result<(), LoadFault>
     requires { AreGlobals (code_of code.now) heap.old.objects }
