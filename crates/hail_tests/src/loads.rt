@@ -32,6 +32,9 @@ fn heap_of(alloc: Global, code: &Checked, cells: u32) -> Result<Heap, AllocError
     let classes = code.classes();
     let mut heap = Heap::new(alloc, cells);
     for n in 0..code.globals() {
+        if n > 100 {
+            return Err(AllocError);
+        }
         let t = code.global_type(n as u32);
         if classes.leaves(t).len() > 100 || heap.objects() > 100 {
             return Err(AllocError);
