@@ -1,7 +1,16 @@
+pub mod Casting
 pub mod Elements
+pub mod Filling
 pub mod Grammatical
+pub mod Indexing
 pub mod Judging
+pub mod Knowing
+pub mod Loads
 pub mod MemberLoops
+pub mod Naming
 pub mod Nested
 pub mod Referring
+pub mod Runs
 pub mod ScriptLoops
+pub mod Splices
+pub mod Steps

@@ -20,7 +20,9 @@ use Rattle.hail_load.specs.declared.tree.Index.{Index}
 use Rattle.hail_load.specs.declared.tree.Piece.{Piece}
 use Rattle.hail_load.specs.declared.tree.Piece.TheVariants as pieces
 use Rattle.hail_load.specs.Code.{Code}
-use Rattle.hail_load.specs.Parts.{Spot, Made, target_spot, ◌>>=◌}
+use Rattle.hail_load.specs.declared.parts.Spot.{Spot}
+use Rattle.hail_load.specs.declared.parts.Made.{Made}
+use Rattle.hail_load.specs.Parts.{target_spot, ◌>>=◌}
 
 -- the objects that there are, and those of the script by name
 pub record Store : Type 0 where

@@ -7,7 +7,9 @@ use Rattle.hail_load.specs.declared.fault.LoadKind.TheVariants.{WrongType}
 use Rattle.hail_load.specs.declared.tree.Piece.{Piece}
 use Rattle.hail_load.specs.declared.tree.Piece.TheVariants as pieces
 use Rattle.hail_load.specs.Code.{Code}
-use Rattle.hail_load.specs.Parts.{Part, Value, Hybrid, Elements, parts_of, ◌>>=◌}
+use Rattle.hail_load.specs.declared.parts.Part.{Part}
+use Rattle.hail_load.specs.declared.parts.Part.TheVariants.{Value, Hybrid, Elements}
+use Rattle.hail_load.specs.Parts.{parts_of, ◌>>=◌}
 use Rattle.hail_load.specs.Fitting.{Store, Scalars, scalars_of}
 
 -- where a source begins

@@ -10,6 +10,9 @@ pub mod Parts
 pub mod Fitting
 pub mod Judging
 pub mod Loading
+pub mod Known
+pub mod Answering
+pub mod PartsSoFar
 pub mod LoadAnswers
 pub mod Laws
 pub mod FitLaws

@@ -15,7 +15,10 @@ use Rattle.hail_load.specs.declared.tree.Piece.{Piece}
 use Rattle.hail_load.specs.declared.tree.Command.{Command}
 use Rattle.hail_load.specs.declared.tree.Command.TheVariants as commands
 use Rattle.hail_load.specs.Code.{Code}
-use Rattle.hail_load.specs.Parts.{Part, Value, Hybrid, Spot, leaves_of, size_of, target_spot, ◌>>=◌}
+use Rattle.hail_load.specs.declared.parts.Part.{Part}
+use Rattle.hail_load.specs.declared.parts.Part.TheVariants.{Value, Hybrid}
+use Rattle.hail_load.specs.declared.parts.Spot.{Spot}
+use Rattle.hail_load.specs.Parts.{leaves_of, size_of, target_spot, ◌>>=◌}
 use Rattle.hail_load.specs.Fitting.{Store}
 use Rattle.hail_load.specs.Judging.{judged}
 

@@ -13,6 +13,10 @@ use Rattle.typed_heap.specs.Objects.{leaf_classes, run_classes}
 use Rattle.typed_heap.specs.Heap.{hybrid_classes}
 use Rattle.hail_load.specs.declared.fault.LoadKind.{LoadKind}
 use Rattle.hail_load.specs.declared.fault.LoadKind.TheVariants.{WrongType, OutOfRange}
+use Rattle.hail_load.specs.declared.parts.Part.{Part}
+use Rattle.hail_load.specs.declared.parts.Part.TheVariants.{Value, Hybrid, Elements}
+use Rattle.hail_load.specs.declared.parts.Spot.{Spot}
+use Rattle.hail_load.specs.declared.parts.Made.{Made}
 use Rattle.hail_load.specs.declared.tree.Root.{Root}
 use Rattle.hail_load.specs.declared.tree.Root.TheVariants as roots
 use Rattle.hail_load.specs.declared.tree.Index.{Index}
@@ -24,12 +28,6 @@ abbrev pub ◌>>=◌ : {A B : Type 0} → Result A (Fault LoadKind) → (A → R
 (Err e) >>= f = Err e
 
 -- ---- parts
-
--- a value of a type; a whole object of a hybrid with so many elements; or the elements of a hybrid, so many of a type
-pub data Part : Type 0 where
-  Value : ℕ → Part
-  Hybrid : ℕ → ℕ → Part
-  Elements : ℕ → ℕ → Part
 
 abbrev pub value_parts : Option TypeDef → Option (List Part)
 value_parts (Some (types.Struct fields)) = Some (map Value fields)
@@ -60,12 +58,6 @@ size_of graph (Elements t many) = many * length (leaf_classes graph t)
 
 -- ---- places
 
--- a part of an object that begins at an offset
-pub record Spot : Type 0 where
-  pub object : ℕ
-  pub at : ℕ
-  pub part : Part
-
 abbrev pub part_with : List TypeDef → Spot → List Part → Index → Option Part → Result Spot (Fault LoadKind)
 part_with graph s parts i None = Err (At OutOfRange i.number.place)
 part_with graph s parts i (Some p) = Ok (record { object = s.object; at = s.at + sum_by (size_of graph) (take i.number.number.magnitude parts); part = p })
@@ -78,11 +70,6 @@ index_into graph s i (Some parts) = part_with graph s parts i (slice_get parts i
 abbrev pub indexed : List TypeDef → Spot → List Index → Result Spot (Fault LoadKind)
 indexed graph s [] = Ok s
 indexed graph s (i ∷ is) = index_into graph s i (parts_of graph s.part) >>= λ next. indexed graph next is
-
--- what is known of an object of the script: its number, and what it is
-pub record Made : Type 0 where
-  pub object : ℕ
-  pub part : Part
 
 abbrev pub made_spot : Name → Option Made → Result Spot (Fault LoadKind)
 made_spot n None = Err (At WrongType n.place)

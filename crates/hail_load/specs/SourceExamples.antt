@@ -16,7 +16,7 @@ use Rattle.mu_values.specs.declared.scalars.Scalar.{Scalar}
 use Rattle.typed_heap.specs.Objects.{HeapObject}
 use Rattle.hail_load.specs.Texts.{hail_commands}
 use Rattle.hail_load.specs.Code.{Code}
-use Rattle.hail_load.specs.Parts.{Value, Hybrid}
+use Rattle.hail_load.specs.declared.parts.Part.TheVariants.{Value, Hybrid}
 use Rattle.hail_load.specs.Loading.{load}
 use Rattle.hail_load.specs.Samples.{sample, start, fault, refused, cells}
 

@@ -3,16 +3,25 @@
 
 mod commands;
 mod fault;
+mod fitting;
+mod indexes;
+mod judgement;
 mod laws;
+mod loading;
 mod names;
+mod parts;
+mod pending;
 mod reading;
 mod source_pieces;
 mod sources;
+mod targets;
 mod tokens;
 mod tree;
 
 pub use fault::{HailFault, HailKind, LoadFault, LoadKind};
 pub use laws::{hail_is_grammar, refers_where_it_fits, script_fault_is_first, script_is_derived};
+pub use loading::load_hail;
+pub use parts::{Made, Part, Spot};
 pub use reading::read_hail;
 pub use source_pieces::Pieces;
 pub use tree::{Command, Hail, Index, Line, Piece, Root, Target};

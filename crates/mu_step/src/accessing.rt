@@ -179,15 +179,7 @@ impl<M: Memory> State<M> {
         match self.heap.cell_of(place) {
             Ok(cell) => {
                 let _cells = self.heap.size(cell.object);
-                self.access_cell::<Brand>(
-                    alloc,
-                    code,
-                    access,
-                    cell,
-                    values,
-                    out,
-                    Blank::new(1),
-                )
+                self.access_cell::<Brand>(alloc, code, access, cell, values, out, Blank::new(1))
             }
             Err(fault) => self.refuse(alloc, code, case_of(fault), out),
         }

@@ -1,0 +1,13 @@
+use Rattle.std.proofs.Common.{◌≡◌, length}
+use Rattle.hail_load.specs.Parts.{indexed}
+use Rattle.hail_load.specs.Answering.{IsThere}
+use Rattle.hail_load.proofs.indexes.indexed.Given as goal
+
+abbrev pub invariant-each : goal.invariant-each
+invariant-each l = record {
+  told : indexed l.classes.definitions l.spot l.left ≡ indexed l.classes.definitions l.fn.from l.fn.indexes;
+  part : IsThere l.classes.definitions l.spot.part;
+}
+
+abbrev pub decreases-each : goal.decreases-each
+decreases-each l = length l.left

@@ -1,0 +1,15 @@
+use Rattle.std.proofs.Common.{◌≡◌, [], ◌∷◌, length}
+use Rattle.std.specs.List.{All}
+use Rattle.hail_load.specs.Code.{code_of}
+use Rattle.hail_load.specs.Judging.{judged}
+use Rattle.hail_load.specs.Answering.{IsThere, behind, store_of}
+use Rattle.hail_load.proofs.judgement.judge.Given as goal
+
+abbrev pub invariant-each : goal.invariant-each
+invariant-each l = record {
+  told : behind l.scalars.items (judged (code_of l.code) (store_of l.heap l.made) l.parts l.left) ≡ behind l.fn.scalars.items (judged (code_of l.code) (store_of l.heap l.made) (l.fn.part ∷ []) l.fn.source);
+  parts : All (IsThere (code_of l.code).graph) l.parts;
+}
+
+abbrev pub decreases-each : goal.decreases-each
+decreases-each l = length l.left

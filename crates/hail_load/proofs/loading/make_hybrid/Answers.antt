@@ -1,0 +1,16 @@
+use Rattle.hail_load.specs.Code.{code_of}
+use Rattle.hail_load.specs.Answering.{store_of}
+use Rattle.hail_load.proofs.Steps.{hybrid_done, hybrid_refused}
+use Rattle.hail_load.proofs.loading.make_hybrid.Goals as goal
+
+pub returns-in-Ok-clause-made : goal.returns-in-Ok-clause-made
+returns-in-Ok-clause-made c =
+    let objects = rw c.classes.ensures.same at c.in-Ok.ensures.objects in
+    let left = rw c.classes.ensures.same at c.in-Ok.ensures.left in
+    rw c.in_ok-name_next.ensures.made (hybrid_done (code_of c.args.code.now) c.args.heap.now c.new_hybrid.new.self c.args.made.now c.args.place c.args.name.now c.args.t c.args.many objects left)
+
+pub returns-in-Err-clause-made : goal.returns-in-Err-clause-made
+returns-in-Err-clause-made c =
+    let full = rw c.classes.ensures.same at c.new_hybrid.ensures.full in
+    let enough = rw c.classes.ensures.same at c.new_hybrid.ensures.enough in
+    rw c.refused.ensures (hybrid_refused (code_of c.args.code.now) (store_of c.args.heap.now c.args.made.now) (store_of c.new_hybrid.new.self c.name_next.new.made) c.args.place c.args.name.now c.args.t c.args.many c.new_hybrid.result c.in-Err.fault _ _ c.in-Err.is full enough)

@@ -1,0 +1,212 @@
+// Which sources fit a part, lists among them, and the scalars that they are.
+ghost use Rattle.std.specs.Prelude.{◌≡◌, ◌∷◌, [], Some, Err, OnOk};
+ghost use Rattle.std.specs.List.{All};
+ghost use Rattle.demands.specs.declared.fault.Fault.TheVariants.{At};
+ghost use Rattle.type_laws.specs.Leaves.{times};
+ghost use Rattle.hail_load.specs.declared.parts.Part.TheVariants.{Value};
+ghost use Rattle.hail_load.specs.Code.{code_of};
+ghost use Rattle.hail_load.specs.Known.{IsKnown};
+ghost use Rattle.hail_load.specs.Parts.{value_parts, hybrid_parts, parts_of};
+ghost use Rattle.hail_load.specs.Judging.{piece_place, wanted_by, part_scalars, judged};
+ghost use Rattle.hail_load.specs.Answering.{Makes, GoesOn, behind, before, IsThere, AreThere, store_of};
+
+use crate::fault::{LoadFault, LoadKind};
+use crate::fitting::scalars_of;
+use crate::parts::{Made, Part};
+use crate::pending::Pending;
+use crate::tree::Piece;
+use bundle_check::Checked;
+use demands::Scope;
+use mu_types::{Classes, TypeDef};
+use mu_values::Scalar;
+use std::alloc::Global;
+use typed_heap::Heap;
+
+/// Where a source begins.
+fn piece_place(piece: &Piece) -> usize
+    ensures { result ≡ piece_place piece.now }
+{
+    match piece {
+        Piece::Number(numeral) => numeral.place,
+        Piece::Global(name) | Piece::Object(name) => name.place,
+        Piece::Index(index) => index.place,
+        Piece::Null { place } | Piece::Reference { place, .. } | Piece::List { place, .. } =>
+            *place,
+    }
+}
+
+/// A source does not fit.
+fn wrong_type(place: usize) -> Result<(), LoadFault>
+    ensures { result ≡ Err (At LoadKind.WrongType place) }
+{
+    Err(LoadFault::At {
+        kind: LoadKind::WrongType,
+        place,
+    })
+}
+
+/// Puts so many values of a type before the other parts, where as many are wanted.
+fn push_elements(
+    t: u32,
+    many: u128,
+    place: usize,
+    wanted: usize,
+    parts: &mut Pending,
+) -> Result<(), LoadFault>
+    ensures { Makes (before parts.old (wanted_by place wanted (Some (times many (Value t ∷ []))))) parts.new result }
+{
+    if many != wanted as u128 {
+        return wrong_type(place);
+    }
+    parts.push(Part::Value(t), many)?;
+    Ok(())
+}
+
+/// Puts the parts of a value before the other parts, where as many are wanted.
+fn push_value(
+    definition: &TypeDef,
+    place: usize,
+    wanted: usize,
+    parts: &mut Pending,
+) -> Result<(), LoadFault>
+    ensures { Makes (before parts.old (wanted_by place wanted (value_parts (Some definition.now)))) parts.new result }
+{
+    match definition {
+        TypeDef::Struct { fields } if fields.len() == wanted => {
+            parts.push_fields(fields.as_slice())?;
+            Ok(())
+        }
+        TypeDef::Array { element, length } => push_elements(
+            *element, *length, place, wanted, parts,
+        ),
+        _ => wrong_type(place),
+    }
+}
+
+/// Puts the parts of a hybrid before the other parts, where as many are wanted.
+fn push_hybrid(
+    definition: &TypeDef,
+    many: u128,
+    place: usize,
+    wanted: usize,
+    parts: &mut Pending,
+) -> Result<(), LoadFault>
+    ensures { Makes (before parts.old (wanted_by place wanted (hybrid_parts (Some definition.now) many))) parts.new result }
+{
+    match definition {
+        TypeDef::Hybrid { fixed, element } if wanted > 0 && fixed.len() == wanted - 1 => {
+            parts.push(
+                Part::Elements {
+                    of_type: *element,
+                    many,
+                },
+                1,
+            )?;
+            parts.push_fields(fixed.as_slice())?;
+            Ok(())
+        }
+        _ => wrong_type(place),
+    }
+}
+
+/// Puts the parts of a part before the other parts, where as many are wanted. It takes time for the fields of a struct, and none for
+/// elements.
+fn push_parts(
+    classes: &Classes,
+    part: Part,
+    place: usize,
+    wanted: usize,
+    parts: &mut Pending,
+) -> Result<(), LoadFault>
+    requires { IsThere classes.now.definitions part }
+    ensures { Makes (before parts.old (wanted_by place wanted (parts_of classes.now.definitions part))) parts.new result }
+{
+    match part {
+        Part::Value(t) => push_value(classes.definition(t), place, wanted, parts),
+        Part::Hybrid { of_type, many } => push_hybrid(
+            classes.definition(of_type),
+            many,
+            place,
+            wanted,
+            parts,
+        ),
+        Part::Elements { of_type, many } => push_elements(of_type, many, place, wanted, parts),
+    }
+}
+
+/// Adds the scalars of a source that is no list, for a part.
+fn part_scalars(
+    alloc: Global,
+    code: &Checked,
+    heap: &Heap,
+    made: &Scope<Made>,
+    part: Part,
+    piece: &Piece,
+    more: &[Piece],
+    scalars: &mut Vec<Scalar>,
+) -> Result<(), LoadFault>
+    requires known { IsKnown (code_of code.now) }
+    requires made { AreThere (code_of code.now).graph made.now }
+    requires part { IsThere (code_of code.now).graph part }
+    ensures { Makes (behind scalars.old.items (part_scalars (code_of code.now) (store_of heap.now made.now) part piece.now more.now)) scalars.new.items result }
+{
+    match part {
+        Part::Value(t) => scalars_of(alloc, code, heap, made, t, piece, more, scalars),
+        _ => wrong_type(piece_place(piece)),
+    }
+}
+
+/// One piece, for the first of some parts.
+fn judge_piece(
+    alloc: Global,
+    code: &Checked,
+    heap: &Heap,
+    made: &Scope<Made>,
+    piece: &Piece,
+    more: &[Piece],
+    parts: &mut Pending,
+    scalars: &mut Vec<Scalar>,
+) -> Result<(), LoadFault>
+    requires known { IsKnown (code_of code.now) }
+    requires made { AreThere (code_of code.now).graph made.now }
+    requires parts { All (IsThere (code_of code.now).graph) parts.old }
+    ensures told { GoesOn (behind scalars.old.items (judged (code_of code.now) (store_of heap.now made.now) parts.old (piece.now ∷ more.now))) (behind scalars.new.items (judged (code_of code.now) (store_of heap.now made.now) parts.new more.now)) result }
+    ensures parts { OnOk result (All (IsThere (code_of code.now).graph) parts.new) }
+{
+    if let Piece::Index(_) = piece {
+        return Ok(());
+    }
+    let Some(part) = parts.next()? else {
+        return wrong_type(piece_place(piece));
+    };
+    if let Piece::List { place, length } = piece {
+        push_parts(code.classes(), part, *place, *length, parts)
+    } else {
+        part_scalars(alloc, code, heap, made, part, piece, more, scalars)
+    }
+}
+
+/// Adds the scalars of a source for a part. It takes memory for the scalars and for the lists in one another.
+pub(crate) fn judge(
+    alloc: Global,
+    code: &Checked,
+    heap: &Heap,
+    made: &Scope<Made>,
+    part: Part,
+    source: &[Piece],
+    scalars: &mut Vec<Scalar>,
+) -> Result<(), LoadFault>
+    requires known { IsKnown (code_of code.now) }
+    requires made { AreThere (code_of code.now).graph made.now }
+    requires part { IsThere (code_of code.now).graph part }
+    ensures { Makes (behind scalars.old.items (judged (code_of code.now) (store_of heap.now made.now) (part ∷ []) source.now)) scalars.new.items result }
+{
+    let mut parts = Pending::new(alloc);
+    parts.push(part, 1)?;
+    let mut left = source;
+    'each: while let [piece, more @ ..] = left {
+        judge_piece(alloc, code, heap, made, piece, more, &mut parts, scalars)?;
+        left = more;
+    }
+    Ok(())
+}

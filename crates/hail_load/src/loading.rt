@@ -1,0 +1,336 @@
+// What the commands of a script make.
+ghost use Rattle.std.specs.Prelude.{◌≡◌, ◌+◌, ◌-◌, ◌<◌, ◌≤◌, ◌^◌, Some, Err, length, slice_get, OnOk, OnErr, IsSomeAnd};
+ghost use Rattle.demands.specs.declared.fault.Fault.TheVariants.{At};
+ghost use Rattle.demands.specs.Names.{found, added};
+ghost use Rattle.check_tables.specs.TypeTests.{is_hybrid, is_no_hybrid};
+ghost use Rattle.check_tables.specs.Lookups.{written_number};
+ghost use Rattle.hail_load.specs.declared.parts.Part.TheVariants.{Value, Hybrid};
+ghost use Rattle.hail_load.specs.Code.{code_of};
+ghost use Rattle.hail_load.specs.Known.{IsKnown};
+ghost use Rattle.hail_load.specs.Loading.{make, new_of, newhybrid_of, with_filled, init_of, done};
+ghost use Rattle.hail_load.specs.LoadAnswers.{AreGlobals, Loads};
+ghost use Rattle.hail_load.specs.Answering.{Makes, AreThere, AreWhole, IsSame, not_made, store_of};
+
+use crate::fault::{LoadFault, LoadKind};
+use crate::judgement::judge;
+use crate::parts::{Made, Part, Spot};
+use crate::targets::target_spot;
+use crate::tree::{Command, Hail, Piece, Target};
+use bundle_check::Checked;
+use demands::Scope;
+use ir_lex::Name;
+use mu_types::TypeDef;
+use mu_values::Scalar;
+use std::alloc::{AllocError, Global};
+use typed_heap::{CellId, Heap, HeapFault};
+
+/// No heap has more objects.
+const MOST_OBJECTS: u32 = 4294967293;
+
+/// Keeps the name of the object that is made next.
+fn name_next(
+    alloc: Global,
+    heap: &Heap,
+    made: &mut Scope<Made>,
+    name: &Name,
+    part: Part,
+) -> Result<(), AllocError>
+    ensures room { OnOk result (length heap.now.objects + 1 < 2 ^ 32 - 1) }
+    ensures made { OnOk result (made.new ≡ added made.old name.now.text (record { object = length heap.now.objects; part = part })) }
+{
+    if heap.objects() >= MOST_OBJECTS {
+        return Err(AllocError);
+    }
+    let object = heap.objects();
+    made.define(alloc, name.text.as_slice(), Made { object, part })?;
+    Ok(())
+}
+
+/// Why an object is not made.
+fn refused(fault: HeapFault, place: usize) -> LoadFault
+    ensures { result ≡ not_made fault place }
+{
+    match fault {
+        HeapFault::HeapFull { .. } => LoadFault::At {
+            kind: LoadKind::HeapFull,
+            place,
+        },
+        HeapFault::Memory => LoadFault::Memory,
+    }
+}
+
+/// Makes an object of a type that is no hybrid.
+fn make_object(
+    alloc: Global,
+    code: &Checked,
+    heap: &mut Heap,
+    made: &mut Scope<Made>,
+    place: usize,
+    name: &Name,
+    t: u32,
+) -> Result<(), LoadFault>
+    requires known { IsKnown (code_of code.now) }
+    requires t { t < length (code_of code.now).graph }
+    ensures made { Makes (make (code_of code.now) (store_of heap.old made.old) place name.now (Value t)) (store_of heap.new made.new) result }
+    ensures err { OnErr result (heap.new ≡ heap.old) }
+    ensures whole { AreWhole heap.old.objects → AreWhole heap.new.objects }
+    ensures there { OnOk result (AreThere (code_of code.now).graph made.old → AreThere (code_of code.now).graph made.new) }
+{
+    name_next(alloc, heap, made, name, Part::Value(t))?;
+    match heap.new_object(code.classes(), t) {
+        Ok(_) => Ok(()),
+        Err(fault) => Err(refused(fault, place)),
+    }
+}
+
+/// Makes an object of a hybrid, with so many elements.
+fn make_hybrid(
+    alloc: Global,
+    code: &Checked,
+    heap: &mut Heap,
+    made: &mut Scope<Made>,
+    place: usize,
+    name: &Name,
+    t: u32,
+    many: u128,
+) -> Result<(), LoadFault>
+    requires known { IsKnown (code_of code.now) }
+    requires t { t < length (code_of code.now).graph }
+    ensures made { Makes (make (code_of code.now) (store_of heap.old made.old) place name.now (Hybrid t many)) (store_of heap.new made.new) result }
+    ensures err { OnErr result (heap.new ≡ heap.old) }
+    ensures whole { AreWhole heap.old.objects → AreWhole heap.new.objects }
+    ensures there { OnOk result (AreThere (code_of code.now).graph made.old → AreThere (code_of code.now).graph made.new) }
+{
+    name_next(alloc, heap, made, name, Part::Hybrid { of_type: t, many })?;
+    match heap.new_hybrid(code.classes(), t, many) {
+        Ok(_) => Ok(()),
+        Err(fault) => Err(refused(fault, place)),
+    }
+}
+
+/// Whether a type is no hybrid.
+fn is_no_hybrid(definition: &TypeDef) -> bool
+    ensures { result ≡ is_no_hybrid (Some definition.now) }
+{
+    !matches!(definition, TypeDef::Hybrid { .. } | TypeDef::Sig { .. })
+}
+
+/// Whether a type is a hybrid.
+fn is_hybrid(definition: &TypeDef) -> bool
+    ensures { result ≡ is_hybrid (Some definition.now) }
+{
+    matches!(definition, TypeDef::Hybrid { .. })
+}
+
+/// The type is not the one that belongs here.
+fn wrong_type(of_type: &Name) -> Result<(), LoadFault>
+    ensures { result ≡ Err (At LoadKind.WrongType of_type.now.place) }
+{
+    Err(LoadFault::At {
+        kind: LoadKind::WrongType,
+        place: of_type.place,
+    })
+}
+
+/// `.new`
+fn new_object(
+    alloc: Global,
+    code: &Checked,
+    heap: &mut Heap,
+    made: &mut Scope<Made>,
+    place: usize,
+    name: &Name,
+    of_type: &Name,
+) -> Result<(), LoadFault>
+    requires known { IsKnown (code_of code.now) }
+    ensures made { Makes (new_of (code_of code.now) (store_of heap.old made.old) place name.now of_type.now (written_number (found (code_of code.now).names of_type.now.text))) (store_of heap.new made.new) result }
+    ensures err { OnErr result (heap.new ≡ heap.old) }
+    ensures whole { AreWhole heap.old.objects → AreWhole heap.new.objects }
+    ensures there { OnOk result (AreThere (code_of code.now).graph made.old → AreThere (code_of code.now).graph made.new) }
+{
+    match code.tables().type_named(of_type) {
+        Some(t) => if is_no_hybrid(code.classes().definition(t)) {
+            make_object(alloc, code, heap, made, place, name, t)
+        } else {
+            wrong_type(of_type)
+        },
+        None => wrong_type(of_type),
+    }
+}
+
+/// `.newhybrid`
+fn new_hybrid(
+    alloc: Global,
+    code: &Checked,
+    heap: &mut Heap,
+    made: &mut Scope<Made>,
+    place: usize,
+    name: &Name,
+    of_type: &Name,
+    many: u128,
+) -> Result<(), LoadFault>
+    requires known { IsKnown (code_of code.now) }
+    ensures made { Makes (newhybrid_of (code_of code.now) (store_of heap.old made.old) place name.now of_type.now many (written_number (found (code_of code.now).names of_type.now.text))) (store_of heap.new made.new) result }
+    ensures err { OnErr result (heap.new ≡ heap.old) }
+    ensures whole { AreWhole heap.old.objects → AreWhole heap.new.objects }
+    ensures there { OnOk result (AreThere (code_of code.now).graph made.old → AreThere (code_of code.now).graph made.new) }
+{
+    match code.tables().type_named(of_type) {
+        Some(t) => if is_hybrid(code.classes().definition(t)) {
+            make_hybrid(alloc, code, heap, made, place, name, t, many)
+        } else {
+            wrong_type(of_type)
+        },
+        None => wrong_type(of_type),
+    }
+}
+
+/// The cells from an offset on begin with these scalars.
+#[tactic(auto, using(crate::proofs::Filling::fillings))]
+fn set_cells(heap: &mut Heap, object: u32, from: u32, scalars: &[Scalar])
+    requires whole { AreWhole heap.old.objects }
+    requires there { IsSomeAnd (slice_get heap.old.objects object) (λ o. from + length scalars.now ≤ length o.leaves) }
+    requires small { from + length scalars.now < 2 ^ 32 }
+    requires room { length scalars.now ≤ heap.old.spare }
+    ensures objects { heap.new.objects ≡ with_filled heap.old.objects object from scalars.now (slice_get heap.old.objects object) }
+    ensures left { heap.new.left ≡ heap.old.left }
+    ensures whole { AreWhole heap.new.objects }
+{
+    let mut at = from;
+    let mut left = scalars;
+    'each: while let [scalar, more @ ..] = left {
+        heap.set(CellId { object, at }, *scalar);
+        at += 1;
+        left = more;
+    }
+}
+
+/// Sets the cells of a part. No part has fewer cells than its source has scalars; where no memory is found nothing is set.
+fn fill(heap: &mut Heap, spot: Spot, scalars: &[Scalar]) -> Result<(), AllocError>
+    requires { AreWhole heap.old.objects }
+    ensures objects { OnOk result (heap.new.objects ≡ with_filled heap.old.objects spot.object spot.at scalars.now (slice_get heap.old.objects spot.object)) }
+    ensures left { heap.new.left ≡ heap.old.left }
+    ensures err { OnErr result (heap.new.objects ≡ heap.old.objects) }
+    ensures whole { AreWhole heap.new.objects }
+{
+    if spot.object >= heap.objects() {
+        return Ok(());
+    }
+    if spot.at as usize + scalars.len() > heap.size(spot.object) as usize {
+        return Err(AllocError);
+    }
+    heap.reserve(scalars.len())?;
+    set_cells(heap, spot.object, spot.at, scalars);
+    Ok(())
+}
+
+/// `.init`: the target is found first, then the source is judged whole, and then its cells are set.
+fn init(
+    alloc: Global,
+    code: &Checked,
+    heap: &mut Heap,
+    made: &Scope<Made>,
+    target: &Target,
+    source: &[Piece],
+) -> Result<(), LoadFault>
+    requires known { IsKnown (code_of code.now) }
+    requires made { AreThere (code_of code.now).graph made.now }
+    requires whole { AreWhole heap.old.objects }
+    ensures made { Makes (init_of (code_of code.now) (store_of heap.old made.now) target.now source.now) (store_of heap.new made.now) result }
+    ensures err { OnErr result (IsSame heap.old heap.new) }
+    ensures whole { AreWhole heap.new.objects }
+{
+    let spot = target_spot(code, made, &target.root, target.indexes.as_slice())?;
+    let mut scalars = Vec::new(alloc);
+    judge(alloc, code, heap, made, spot.part, source, &mut scalars)?;
+    fill(heap, spot, &scalars)?;
+    Ok(())
+}
+
+/// One command. After a refusal the objects are as before.
+fn perform(
+    alloc: Global,
+    code: &Checked,
+    heap: &mut Heap,
+    made: &mut Scope<Made>,
+    command: &Command,
+) -> Result<(), LoadFault>
+    requires known { IsKnown (code_of code.now) }
+    requires there { AreThere (code_of code.now).graph made.old }
+    requires whole { AreWhole heap.old.objects }
+    ensures made { Makes (done (code_of code.now) (store_of heap.old made.old) command.now) (store_of heap.new made.new) result }
+    ensures err { OnErr result (IsSame heap.old heap.new) }
+    ensures whole { AreWhole heap.new.objects }
+    ensures there { OnOk result (AreThere (code_of code.now).graph made.new) }
+{
+    match command {
+        Command::New {
+            place,
+            object,
+            of_type,
+        } => new_object(alloc, code, heap, made, *place, object, of_type),
+        Command::NewHybrid {
+            place,
+            object,
+            of_type,
+            length,
+        } => new_hybrid(
+            alloc,
+            code,
+            heap,
+            made,
+            *place,
+            object,
+            of_type,
+            length.number.magnitude,
+        ),
+        Command::Init { target, source } => {
+            init(alloc, code, heap, made, target, source.as_slice())
+        }
+    }
+}
+
+/// Tells what is known of the code of a bundle; it does nothing.
+#[tactic(auto, using(crate::proofs::Knowing::is_known))]
+fn tell_known(code: &Checked)
+    ensures { IsKnown (code_of code.now) }
+{
+    let _items = code.items();
+}
+
+/// Loads a script into a heap that holds the objects of the bundle's globals and no others. Its commands are carried out in order, and
+/// the first fault of the first that is refused is answered:
+///
+/// - `WrongType` at the type in `< >` of `.new` where that is a hybrid, and of `.newhybrid` where it is none;
+/// - `HeapFull` at the directive of an object with more cells than are left;
+/// - `WrongType` at the `[` of an index of what has no parts, and `OutOfRange` at the number of an index that is not below the number
+///   of parts;
+/// - `WrongType` at a source that does not fit its part: a number for anything but an int; NULL for anything but a reference; a constant
+///   of another type; a global, or a target behind `&`, for what is no reference to a place, or none that fits; a function for what is
+///   no reference to a function of its signature; an object for what is no reference to an object that fits; and a list, at its `{`,
+///   for what has no parts or another number of them. For a whole hybrid and for its elements only a list fits;
+/// - `OutOfRange` at a number that does not fit the width.
+///
+/// The target is looked at before the source, and a source from left to right. Whether a reference to a place is wanted is judged before
+/// what stands behind the `&`, and whether that fits after it. A source is judged whole before a cell is set, so after a refusal the heap
+/// holds what the commands before made. The same holds after `Memory`, which says that no memory was found, and where there would be
+/// more than 4,294,967,293 objects.
+///
+/// Each command takes the time of a hash or two, and time for its source, for the cells of what it makes, for the fields before a field
+/// that an index names, and for the leaves of what a reference refers to.
+pub fn load_hail(
+    alloc: Global,
+    hail: &Hail,
+    code: &Checked,
+    heap: &mut Heap,
+) -> Result<(), LoadFault>
+    requires { AreGlobals (code_of code.now) heap.old.objects }
+    ensures { Loads (code_of code.now) hail.now heap.old heap.new result }
+{
+    tell_known(code);
+    let mut made = Scope::new(alloc);
+    for command in hail.as_slice() {
+        perform(alloc, code, heap, &mut made, command)?;
+    }
+    Ok(())
+}
