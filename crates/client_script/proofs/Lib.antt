@@ -8,3 +8,6 @@ pub mod Answering
 pub mod Limitless
 pub mod OneAnswer
 pub mod ToldValues
+pub mod Partial
+pub mod Naming
+pub mod Planning

@@ -3,6 +3,8 @@ pub mod Told
 pub mod Grammar
 pub mod Demands
 pub mod Meaning
+pub mod ScriptClients
+pub mod Plans
 pub mod Texts
 pub mod Judged
 pub mod ScriptAnswers

@@ -1,15 +1,19 @@
 //! The script of a client: what answers the traps of a run.
 #![tactic(auto)]
 
+mod actions;
+mod client;
 mod entries;
 mod fault;
 mod judging;
 mod laws;
 mod parts;
+mod plan;
 mod reading;
 mod script;
 mod told;
 mod tree;
+mod values;
 
 pub use fault::{ScriptFault, ScriptKind};
 pub use laws::{answer_is_one, script_is_grammar, texts_are_answered, values_are_told};

@@ -14,7 +14,7 @@ use std::alloc::{AllocError, Global};
 use text_forms::Listing;
 
 /// A copy of some scalars.
-fn copied(alloc: Global, scalars: &[Scalar]) -> Result<Listing<Scalar>, AllocError>
+pub(crate) fn copied(alloc: Global, scalars: &[Scalar]) -> Result<Listing<Scalar>, AllocError>
     ensures { IfOk result (λ copy. copy ≡ scalars.now) }
 {
     let mut copy = Listing::new(alloc);

@@ -1,0 +1,23 @@
+//! What answers a trap: clients, and hooks that are clients by a handler.
+//!
+//! A trap gives a client a view of itself and the stack that was trapped. The client hands the stack back, with a reply or with the
+//! reason why there is none.
+#![tactic(auto)]
+
+mod blank;
+mod client;
+mod copying;
+mod hook;
+mod laws;
+mod notes;
+mod reply;
+mod view;
+
+pub use blank::PassBlank;
+pub use client::Client;
+pub use copying::copy_values;
+pub use hook::{Handler, Hook};
+pub use laws::{blank_hooks_are_auto, hooks_resume};
+pub use notes::{Notes, Watch, Watches};
+pub use reply::{ClassedValue, ClientFault, Reply, ReplyEnd, With};
+pub use view::TrapView;

@@ -1,0 +1,75 @@
+//! A script as a client.
+ghost use Rattle.std.specs.Prelude.{◌≡◌, Some};
+ghost use Rattle.frames.specs.Chains.{frames_of};
+ghost use Rattle.mu_model.specs.Answers.{entry_answer, answer_of, advanced, plain_answer};
+ghost use Rattle.mu_model.specs.Clients as clients;
+ghost use Rattle.client_hooks.specs.Replies.{answer_in, stack_of};
+ghost use Rattle.client_script.specs.Meaning.{entry_meant};
+ghost use Rattle.client_script.specs.ScriptClients.{client_of, values_named};
+ghost use Rattle.client_script.specs.Plans.{Makes, planned};
+
+use crate::actions::{notes, watches};
+use crate::plan::{Plan, Refusal};
+use crate::script::Script;
+use crate::tree::Entry;
+use crate::values::end;
+use client_hooks::{Client, ClientFault, Notes, Reply, ReplyEnd, TrapView, Watches};
+use frames::Frames;
+use stacks::ReadyStack;
+use std::alloc::Global;
+
+/// The answer of an entry.
+fn plan(alloc: Global, view: &TrapView, frames: &Frames, entry: &Entry) -> Result<Plan, Refusal>
+    ensures { Makes planned (entry_answer view.now.tables (frames_of frames.now) (entry_meant entry.now)) result }
+{
+    let notes = notes(alloc, frames, entry.actions.as_slice())?;
+    let end = end(alloc, view, frames, &entry.reply)?;
+    let watches = watches(alloc, entry.actions.as_slice())?;
+    Ok(Plan {
+        notes,
+        watches,
+        end,
+    })
+}
+
+/// The answer after the last entry.
+fn stop(alloc: Global, stack: ReadyStack) -> Reply
+    ensures answer { answer_in result ≡ plain_answer clients.Stop }
+    ensures stack { stack_of result.end ≡ stack }
+{
+    Reply {
+        notes: Notes::new(alloc),
+        watches: Watches::new(alloc),
+        end: ReplyEnd::Stop { stack },
+    }
+}
+
+/// The answer is that of the next entry, in the order of its actions; after the last entry it is to stop. The next entry is the same
+/// until `advance`. It takes memory for the answer.
+impl Client for Script {
+    ghost holds = { values_named };
+
+    ghost may = { λ s p view answer. answer ≡ answer_of p view (client_of s) };
+
+    ghost advances = { λ old new. client_of new ≡ advanced (client_of old) };
+
+    fn answer(
+        &self,
+        alloc: Global,
+        view: &TrapView,
+        stack: ReadyStack,
+    ) -> Result<Reply, ClientFault> {
+        let Some(entry) = self.first() else {
+            return Ok(stop(alloc, stack));
+        };
+        match plan(alloc, view, stack.frames(), entry) {
+            Ok(plan) => Ok(plan.onto(stack)),
+            Err(Refusal::Misuse) => Err(ClientFault::Misuse(stack)),
+            Err(Refusal::Memory) => Err(ClientFault::Memory(stack)),
+        }
+    }
+
+    fn advance(&mut self) {
+        self.skip();
+    }
+}

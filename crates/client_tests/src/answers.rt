@@ -1,0 +1,388 @@
+// What scripts and hooks answer.
+ghost use Rattle.std.specs.Prelude.{◌<◌, length, IfOk};
+ghost use Rattle.std.specs.List.{All};
+ghost use Rattle.bundle_check.specs.Checking.{bundle_tables};
+
+use bundle_check::{Checked, check};
+use bundle_facts::{constants_have_classes, widths_are_narrow};
+use bundle_names::resolve;
+use client_hooks::{Client, ClientFault, Hook, PassBlank, Reply, ReplyEnd, TrapView, Watch, With};
+use client_script::{Script, ScriptFault, read_script};
+use frames::{Frame, Frames};
+use ir_text::read_bundle;
+use mu_base::{Ids, Types};
+use mu_model::Note;
+use mu_values::{Passed, Scalar, Slots};
+use stacks::{Directory, ReadyStack};
+use std::alloc::{AllocError, Global};
+use std::process::Abort;
+use std::test::Fail;
+
+const BUNDLE: &[u8] =
+    b".typedef @i64 = int<64> .funcsig @m = () -> () .const @k <@i64> = 7 .global @g <@i64> .funcdecl @f <@m>";
+
+const SEVEN: Scalar = Scalar::Int { width: 64, bits: 7 };
+
+const LONG: &[u8] =
+    b"{ frames kept 0 watch 2 unwatch 0x10 pass (@k kept 0 1 @g) } // comment\n{rebind kept 0 0 throw @f}{ throw @k } { exit } { stop }";
+
+// A checked bundle is dropped at one place alone, since each place is proved: the tests lend it.
+fn checked(alloc: Global) -> Result<Checked, Fail> {
+    let bundle = read_bundle(alloc, BUNDLE)?;
+    let names = resolve(alloc, bundle)?;
+    Ok(check(alloc, names)?)
+}
+
+// One value with its class.
+fn one(alloc: Global, class: u32, scalar: Scalar) -> Result<Passed, AllocError> {
+    let mut types = Types::new(alloc);
+    types.push(class)?;
+    let mut values = Slots::new(alloc);
+    values.push_scalar(scalar)?;
+    Ok(Passed::new(types, values))
+}
+
+// A frame that waits, and keeps one value.
+fn waiting(
+    alloc: Global,
+    block: u32,
+    at: u32,
+    class: u32,
+    scalar: Scalar,
+) -> Result<Frame, AllocError> {
+    let kept = one(alloc, class, scalar)?;
+    Ok(Frame {
+        block,
+        at,
+        slots: Slots::new(alloc),
+        fresh: false,
+        waits: Types::new(alloc),
+        handler: None,
+        kept,
+        cells: Ids::new(alloc),
+    })
+}
+
+fn bottom(alloc: Global) -> Result<Frames, AllocError> {
+    let frame = waiting(alloc, 7, 1, 0, SEVEN)?;
+    match Frames::new(alloc, frame) {
+        Ok(frames) => Ok(frames),
+        Err((_frame, refusal)) => Err(refusal),
+    }
+}
+
+fn enter(frames: &mut Frames, frame: Frame) -> Result<(), AllocError> {
+    match frames.enter(frame) {
+        Ok(()) => Ok(()),
+        Err((_frame, refusal)) => Err(refusal),
+    }
+}
+
+fn enter_two(frames: &mut Frames, alloc: Global, stackref: u32) -> Result<(), AllocError> {
+    enter(frames, waiting(alloc, 8, 2, 0, Scalar::Null)?)?;
+    enter(frames, waiting(alloc, 9, 3, stackref, Scalar::Stack(5))?)
+}
+
+// Three frames, of which the top one keeps a stack.
+fn three_frames(alloc: Global, stackref: u32) -> Result<Frames, AllocError> {
+    let mut frames = bottom(alloc)?;
+    enter_two(&mut frames, alloc, stackref)?;
+    Ok(frames)
+}
+
+fn ready(alloc: Global, stackref: u32) -> Result<ReadyStack, AllocError> {
+    let mut all = Directory::new(alloc);
+    let frames = three_frames(alloc, stackref)?;
+    match all.make(frames, Types::new(alloc)) {
+        Ok(number) => all.take(number, 0).map_err(|_| AllocError),
+        Err((_frames, refusal)) => Err(refusal),
+    }
+}
+
+// The type of constant 0.
+fn asked(alloc: Global, code: &Checked) -> Result<Types, AllocError>
+    requires { 0 < length (bundle_tables code.now).constants }
+    ensures { IfOk result (λ types. All (λ c. c < length (bundle_tables code.now).types.definitions) types.members) }
+{
+    let _items = code.items();
+    constants_have_classes();
+    let mut types = Types::new(alloc);
+    types.push(code.constant_type(0))?;
+    Ok(types)
+}
+
+// A view of a trap that asks for a value of the type of constant 0.
+fn trap(alloc: Global, code: &Checked) -> Result<TrapView, AllocError> {
+    let _items = code.items();
+    widths_are_narrow();
+    if code.constants() == 0 {
+        return Err(AllocError);
+    }
+    let types = asked(alloc, code)?;
+    TrapView::new(alloc, code.tables(), 4, None, types)
+}
+
+// Asks a client, through its bound.
+fn ask<C: Client>(alloc: Global, code: &Checked, client: &C) -> Result<Option<Reply>, AllocError> {
+    let view = trap(alloc, code)?;
+    let stack = ready(alloc, view.stackref())?;
+    match client.answer(alloc, &view, stack) {
+        Ok(reply) => Ok(Some(reply)),
+        Err(ClientFault::Misuse(_stack)) => Ok(None),
+        Err(ClientFault::Memory(_stack)) => Err(AllocError),
+    }
+}
+
+// What the first entry of a script answers; none is misuse.
+fn answer(alloc: Global, code: &Checked, text: &[u8]) -> Result<Option<Reply>, Fail> {
+    let script = read_script(alloc, text, code)?;
+    Ok(ask(alloc, code, &script)?)
+}
+
+fn is_one(values: &Passed, scalar: Scalar) -> bool {
+    values.values().len() == 1 && values.values().at(0) == [scalar].as_slice()
+}
+
+fn is_frame(note: Option<&Note>, number: u32, block: u32, at: u32) -> bool {
+    matches!(note, Some(Note::Frame { frame: n, block: b, at: a }) if *n == number && *b == block && *a == at)
+}
+
+fn is_kept(note: Option<&Note>, number: u32, scalar: Scalar) -> bool {
+    matches!(note, Some(Note::Kept { frame, values }) if *frame == number && is_one(values, scalar))
+}
+
+// What is recorded, watched and passed.
+fn records(rt: &impl Abort, alloc: Global, code: &Checked) -> Result<(), Fail> {
+    let Some(reply) = answer(alloc, code, b"{ frames kept 2 kept 1 kept 0 exit }")? else {
+        return panic!(rt; "misuse");
+    };
+    let notes = reply.notes.into_list();
+    assert_eq!(rt; notes.len(), 6);
+    assert!(rt; is_frame(notes.get(0), 0, 9, 3));
+    assert!(rt; is_frame(notes.get(1), 1, 8, 2));
+    assert!(rt; is_frame(notes.get(2), 2, 7, 1));
+    assert!(rt; is_kept(notes.get(3), 2, SEVEN));
+    assert!(rt; is_kept(notes.get(4), 1, Scalar::Null));
+    assert!(rt; is_kept(notes.get(5), 0, Scalar::Stack(5)));
+    Ok(())
+}
+
+fn are_watched(watches: &[Watch]) -> bool {
+    let on = Watch {
+        number: 7,
+        enabled: true,
+    };
+    let off = Watch {
+        number: 8,
+        enabled: false,
+    };
+    watches == [on, off].as_slice()
+}
+
+fn watches(rt: &impl Abort, alloc: Global, code: &Checked) -> Result<(), Fail> {
+    let Some(reply) = answer(alloc, code, b"{ watch 7 unwatch 8 stop }")? else {
+        return panic!(rt; "misuse");
+    };
+    assert!(rt; are_watched(reply.watches.as_slice()));
+    Ok(())
+}
+
+fn passes_two(with: &With, first: Scalar, second: Scalar) -> bool {
+    match with {
+        With::Pass(values) => {
+            let values = values.values();
+            values.len() == 2
+                && values.at(0) == [first].as_slice()
+                && values.at(1) == [second].as_slice()
+        }
+        With::Throw(_) => false,
+    }
+}
+
+fn passes(end: &ReplyEnd, first: Scalar, second: Scalar) -> bool {
+    match end {
+        ReplyEnd::Resume { with, .. } => passes_two(with, first, second),
+        _ => false,
+    }
+}
+
+fn throws_seven(with: &With) -> bool {
+    match with {
+        With::Throw(exception) => exception.value.as_slice() == [SEVEN].as_slice(),
+        With::Pass(_) => false,
+    }
+}
+
+fn throws(end: &ReplyEnd) -> bool {
+    match end {
+        ReplyEnd::Resume { with, .. } => throws_seven(with),
+        _ => false,
+    }
+}
+
+fn rebinds(end: &ReplyEnd, throw: bool) -> bool {
+    match end {
+        ReplyEnd::Rebind { target, with, .. } => {
+            target.value.as_slice() == [Scalar::Stack(5)].as_slice() && throws_seven(with) == throw
+        }
+        _ => false,
+    }
+}
+
+fn is_zero(end: &ReplyEnd) -> bool {
+    match end {
+        ReplyEnd::Resume { with, .. } => match with {
+            With::Pass(values) => is_one(values, Scalar::Int { width: 64, bits: 0 }),
+            With::Throw(_) => false,
+        },
+        _ => false,
+    }
+}
+
+fn exits(end: &ReplyEnd) -> bool {
+    matches!(end, ReplyEnd::Exit { .. })
+}
+
+fn stops(end: &ReplyEnd) -> bool {
+    matches!(end, ReplyEnd::Stop { .. })
+}
+
+// A way in which a reply ends.
+#[derive(Clone, Copy)]
+enum Wanted {
+    Passes(Scalar, Scalar),
+    Throws,
+    Rebinds { throw: bool },
+    Exits,
+    Stops,
+    Misuse,
+}
+
+fn is_wanted(reply: &Option<Reply>, wanted: &Wanted) -> bool {
+    match reply {
+        None => matches!(wanted, Wanted::Misuse),
+        Some(reply) => match wanted {
+            Wanted::Passes(first, second) => passes(&reply.end, *first, *second),
+            Wanted::Throws => throws(&reply.end),
+            Wanted::Rebinds { throw } => rebinds(&reply.end, *throw),
+            Wanted::Exits => exits(&reply.end),
+            Wanted::Stops => stops(&reply.end),
+            Wanted::Misuse => false,
+        },
+    }
+}
+
+fn answers(
+    rt: &impl Abort,
+    alloc: Global,
+    code: &Checked,
+    text: &[u8],
+    wanted: Wanted,
+) -> Result<(), Fail> {
+    let reply = answer(alloc, code, text)?;
+    assert!(rt; is_wanted(&reply, &wanted));
+    Ok(())
+}
+
+// A value of another type is no fault here.
+fn replies(rt: &impl Abort, alloc: Global, code: &Checked) -> Result<(), Fail> {
+    let cell = Scalar::Place { object: 0, at: 0 };
+    let passed = Wanted::Passes(SEVEN, Scalar::Stack(5));
+    answers(rt, alloc, code, b"{ pass (@k kept 0 0) }", passed)?;
+    let named = Wanted::Passes(cell, Scalar::Func(0));
+    answers(rt, alloc, code, b"{ pass (@g @f) }", named)?;
+    answers(rt, alloc, code, b"{ throw kept 2 0 }", Wanted::Throws)?;
+    let passing = Wanted::Rebinds { throw: false };
+    answers(rt, alloc, code, b"{ rebind kept 0 0 pass (@k) }", passing)?;
+    let throwing = Wanted::Rebinds { throw: true };
+    answers(rt, alloc, code, b"{ rebind kept 0 0 throw @k }", throwing)?;
+    answers(rt, alloc, code, b"{ exit }", Wanted::Exits)?;
+    answers(rt, alloc, code, b"{ stop }", Wanted::Stops)
+}
+
+fn misuses(rt: &impl Abort, alloc: Global, code: &Checked) -> Result<(), Fail> {
+    answers(rt, alloc, code, b"{ frames kept 3 exit }", Wanted::Misuse)?;
+    answers(
+        rt,
+        alloc,
+        code,
+        b"{ watch 7 pass (kept 3 0) }",
+        Wanted::Misuse,
+    )?;
+    answers(rt, alloc, code, b"{ throw kept 1 1 }", Wanted::Misuse)?;
+    answers(rt, alloc, code, b"{ rebind @k pass () }", Wanted::Misuse)?;
+    answers(
+        rt,
+        alloc,
+        code,
+        b"{ rebind kept 0 0 pass (kept 0 1) }",
+        Wanted::Misuse,
+    )
+}
+
+fn asks(
+    rt: &impl Abort,
+    alloc: Global,
+    code: &Checked,
+    script: &Script,
+    wanted: Wanted,
+) -> Result<(), Fail> {
+    let reply = ask(alloc, code, script)?;
+    assert!(rt; is_wanted(&reply, &wanted));
+    Ok(())
+}
+
+fn takes_entries_in_order(rt: &impl Abort, alloc: Global, code: &Checked) -> Result<(), Fail> {
+    let mut script = read_script(alloc, b"{ exit } { throw kept 2 0 }", code)?;
+    asks(rt, alloc, code, &script, Wanted::Exits)?;
+    asks(rt, alloc, code, &script, Wanted::Exits)?;
+    script.advance();
+    asks(rt, alloc, code, &script, Wanted::Throws)?;
+    script.advance();
+    asks(rt, alloc, code, &script, Wanted::Stops)?;
+    script.advance();
+    asks(rt, alloc, code, &script, Wanted::Stops)
+}
+
+fn hooks(rt: &impl Abort, alloc: Global, code: &Checked) -> Result<(), Fail> {
+    let mut hook = Hook::new(PassBlank);
+    hook.advance();
+    let Some(reply) = ask(alloc, code, &hook)? else {
+        return panic!(rt; "misuse");
+    };
+    assert!(rt; is_zero(&reply.end));
+    Ok(())
+}
+
+// Whether a fault stands at the end of a text, or at a token that reaches its end.
+fn is_at_the_end(text: &[u8], place: usize) -> bool {
+    place <= text.len() && !text[place..].contains(&b' ')
+}
+
+fn reads_prefixes(rt: &impl Abort, alloc: Global, code: &Checked) -> Result<(), Fail> {
+    for cut in 0..=LONG.len() {
+        let text = &LONG[..cut];
+        match read_script(alloc, text, code) {
+            Ok(script) => assert!(rt; script.len() <= 5),
+            Err(ScriptFault::At { place, .. }) => assert!(rt; is_at_the_end(text, place)),
+            Err(ScriptFault::Memory) => return Err(AllocError.into()),
+        }
+    }
+    Ok(())
+}
+
+fn answers_all(rt: &impl Abort, alloc: Global, code: &Checked) -> Result<(), Fail> {
+    records(rt, alloc, code)?;
+    watches(rt, alloc, code)?;
+    replies(rt, alloc, code)?;
+    misuses(rt, alloc, code)?;
+    takes_entries_in_order(rt, alloc, code)?;
+    hooks(rt, alloc, code)?;
+    reads_prefixes(rt, alloc, code)
+}
+
+#[test]
+fn answers_traps(rt: HostRuntime) -> Result<(), Fail> {
+    let code = checked(rt.alloc())?;
+    answers_all(&rt, rt.alloc(), &code)
+}
