@@ -7,3 +7,4 @@ pub mod Causes
 pub mod InSteps
 pub mod Beginning
 pub mod Reading
+pub mod Moments

@@ -5,12 +5,16 @@ use Rattle.mu_base.specs.Faults.{Rose}
 use Rattle.mu_base.specs.Files.{Files, file, IsMissing}
 use Rattle.mu_base.specs.Outcome.{Outcome, got, failed, too_long, IsLonger}
 use Rattle.mu_command.specs.declared.job.Job.{Job}
+use Rattle.ir_tree.specs.declared.items.Item.{Item}
+use Rattle.mu_model.specs.Programs.{named}
+use Rattle.text_programs.specs.Moments.{MomentsAreSound}
 use Rattle.mu_texts.specs.declared.ready.Ready.{Ready}
+use Rattle.mu_texts.specs.declared.ready.Ready.TheVariants as ready
 use Rattle.mu_texts.specs.declared.what.What.{What}
 use Rattle.mu_texts.specs.declared.what.What.TheVariants.{Bundle}
 use Rattle.mu_texts.specs.What.{slot_of}
 use Rattle.mu_command.specs.Job.{job_of, file_of, bundle_word, word}
-use Rattle.mu_texts.specs.Answer.{Answer, ready_answer}
+use Rattle.mu_texts.specs.Answer.{Answer, first_setting, ready_answer}
 use Rattle.mu_command.specs.Answer.{Outcomes, asked, answer_of}
 use Rattle.mu_command.specs.Allowed.{Seen, AllowsWord, AllowsJob, file_limit}
 use Rattle.mu_command.specs.Written.{Writes}
@@ -54,6 +58,15 @@ pub record IsRefused (seen : Seen) (words : List (List ℕ)) (job : Job) : Type 
 abbrev pub OfJob : (Job → Type 0) → Option Job → Type 0
 OfJob P None = ⊥
 OfJob P (Some job) = P job
+
+-- ---- the run that is told
+
+-- Whatever bytes the bundle's file has, of which a run is asked: at each of its moments the log meets the axioms, no two of its events race,
+-- each of its reads was an option of its past, and the next step has a rule.
+abbrev pub RunsAreSound : List (List ℕ) → Type 0
+RunsAreSound words =
+    (job : Job) (bytes : List ℕ) (code : List Item) (n budget cells : ℕ) → job_of words ≡ Some job → asked words job bytes ≡ Ok (ready.Entered code n budget cells) →
+    MomentsAreSound (named code) (first_setting code budget cells) n
 
 -- ---- completeness
 

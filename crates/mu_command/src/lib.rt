@@ -7,6 +7,7 @@ mod loading;
 mod options;
 mod program;
 mod running;
+mod sound;
 mod words;
 mod writing;
 

@@ -4,12 +4,13 @@ ghost use Rattle.mu_base.specs.Faults.{Rose};
 ghost use Rattle.mu_base.specs.Files.{Files};
 ghost use Rattle.mu_texts.specs.Answer.{is_end};
 ghost use Rattle.mu_command.specs.Answer.{answer_of};
-ghost use Rattle.mu_command.specs.Central.{Answered, MayFail, IsPast, SomeFile, OfJob, IsAccepted, IsRefused, IsQuiet, outcomes_of, OneAnswer};
+ghost use Rattle.mu_command.specs.Central.{Answered, MayFail, IsPast, SomeFile, OfJob, IsAccepted, IsRefused, IsQuiet, outcomes_of, OneAnswer, RunsAreSound};
 ghost use Rattle.mu_command.specs.Job.{job_of};
 ghost use Rattle.mu_command.specs.Written.{IsWhole, Writes};
 
 use crate::finding::find;
 use crate::running::write;
+use crate::sound::runs_are_sound;
 use crate::writing::put_line;
 use mu_base::{Inputs, Sink, Status, Words};
 use mu_texts::Stop;
@@ -62,6 +63,9 @@ pub fn mu<I: Inputs, S: Sink>(alloc: Global, words: &Words, inputs: &mut I, out:
         (IsAccepted (record { told = I.holds inputs.old; before = I.faults inputs.old; now = I.faults inputs.new }) words.now result) (job_of words.now) }
     ensures sink_fault { result ≡ Status.SinkFault → Rose (S.faults out.old) (S.faults out.new) }
 
+    // What holds of the run that is told, at each of its moments.
+    ensures moments { RunsAreSound words.now }
+
     // What the inputs tell stays, and no count of faults falls.
     ensures inputs_stay { I.holds inputs.new ≡ I.holds inputs.old }
     ensures input_faults { (s : ℕ) → I.faults inputs.old s ≤ I.faults inputs.new s }
@@ -73,6 +77,7 @@ pub fn mu<I: Inputs, S: Sink>(alloc: Global, words: &Words, inputs: &mut I, out:
         → Writes (answer_of words.now (job_of words.now) (outcomes_of files words.now (job_of words.now)))
         (S.written out.old) (S.written out.new) (S.ends out.old) (S.ends out.new) result }
 {
+    runs_are_sound();
     answer(alloc, words, inputs, out)
 }
 

@@ -2,3 +2,4 @@ pub mod Accepting
 pub mod Refusing
 pub mod Entering
 pub mod Runnable
+pub mod Moments

@@ -5,9 +5,10 @@ use Rattle.ir_tree.specs.declared.items.Item.{Item}
 use Rattle.bundle_check.specs.declared.code.Function.{Function}
 use Rattle.bundle_check.specs.declared.fault.EntryFault.TheVariants.{BadSignature, NoBody}
 use Rattle.bundle_check.specs.Checking.{bundle_tables, bundle_functions}
-use Rattle.bundle_check.specs.Answers.{find, function_number, entry_of, takes_nothing, first_in}
+use Rattle.bundle_check.specs.Answers.{find, function_number, entry_of, entry, takes_nothing, first_in}
 use Rattle.check_tables.specs.Lookups.{signature_in, takes_of, noted_classes}
 use Rattle.typed_heap.specs.Places.{with_some}
+use Rattle.mu_model.specs.Types.{classes_taken}
 use Rattle.mu_model.specs.Configuration.{Configuration}
 use Rattle.mu_model.specs.Programs.{named}
 use Rattle.mu_model.specs.Run.{Setting, first_configuration, begins_in}
@@ -50,6 +51,9 @@ begun bundle s n m =
     let b = body_of_some (slice_get (bundle_functions bundle) n) m.has in
     let e : (named bundle).body n ≡ Some (Some b.0) = body_same bundle n ∙ b.1 in
     (begins_in (named bundle) s n b.0, rw e refl)
+
+pub nothing_is_taken : (bundle : List Item) (name : List ℕ) (n : ℕ) → entry bundle name ≡ Ok n → classes_taken (bundle_tables bundle) n ≡ []
+nothing_is_taken bundle name n entered = told _ (may_be bundle (function_number (find bundle name)) n entered).takes
 
 pub entered_runs_have_an_ending : EnteredRunsHaveAnEnding
 entered_runs_have_an_ending bytes bundle read names checked s name n plain entered =

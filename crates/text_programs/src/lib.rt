@@ -4,4 +4,7 @@
 
 mod laws;
 
-pub use laws::{bundles_that_are_read_have_blocks, entered_runs_have_an_ending, texts_never_break};
+pub use laws::{
+    bundles_that_are_read_have_blocks, entered_runs_have_an_ending, moments_are_sound,
+    texts_never_break,
+};

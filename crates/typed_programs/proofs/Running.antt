@@ -84,7 +84,7 @@ global_place bundle names checked w same n c e =
 no_entries : (p : Tables) (k : Client) → k.entries ≡ [] → ClientFits p k
 no_entries p k e w globals = subst (λ (es : List ScriptEntry). All (λ (e : ScriptEntry). EntryFits (type_graph p) w e.reply) es) (sym e) (All-nil (λ (e : ScriptEntry). EntryFits (type_graph p) w e.reply))
 
-plain_fits : (bundle : List Item) → first_unmet (name_demands bundle) ≡ None → first_unmet (check_demands bundle) ≡ None → (s : Setting) (f : ℕ) → IsPlain bundle s →
+pub plain_fits : (bundle : List Item) → first_unmet (name_demands bundle) ≡ None → first_unmet (check_demands bundle) ≡ None → (s : Setting) (f : ℕ) → IsPlain bundle s →
     classes_taken (bundle_tables bundle) f ≡ [] → IsFitting bundle s f
 plain_fits bundle names checked s f plain none = record {
   globals = record { functions = refl; places = global_place bundle names checked (first_world (bundle_tables bundle) s) plain.objects };

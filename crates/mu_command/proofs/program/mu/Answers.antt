@@ -11,3 +11,6 @@ returns-clause-complete g c = λ files told quiet. complete _ files _ _ _ _ _ _ 
 
 pub returns-clause-accepted : goal.returns-clause-accepted
 returns-clause-accepted g c = λ s. accepted_cause _ _ _ _ _ _ _ c.answer.ensures.answered s
+
+pub returns-clause-moments : goal.returns-clause-moments
+returns-clause-moments g c = c.runs_are_sound.ensures c.args.words.now
