@@ -30,6 +30,6 @@ steps_answer bundle s t end same are met h = h ∙ steps_so bundle s same are me
 
 pub stays_shown : (end : StepEnd) (s t : OneThread) → Stays end s t → Stays end (configuration s) (configuration t)
 stays_shown (Went ls) s t h = tt
-stays_shown (Ended ls e) s t h = ap configuration h
+stays_shown (Ended ls e) s t h = (h.0, ap configuration h.1)
 
 pub ruleset machines = (steps_there, steps_answer, stays_shown)

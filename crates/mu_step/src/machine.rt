@@ -44,8 +44,8 @@ impl<'a, M: Memory> Model for Machine<'a, M> {
 
 impl<'a, M: Memory + Drop> Machine<'a, M> {
     /// A machine at the beginning of the run of a function: thread 0 stands on stack 0, where the function's first block begins. The
-    /// heap has the objects of the globals, and those that were loaded; the memory knows nothing yet, and brings the rule of release
-    /// sequences. The budget is 1,000,000 steps at most.
+    /// run has the objects of the heap, which are to be those of the globals and then those that were loaded, and as many cells as the
+    /// heap has left. The memory knows nothing yet, and brings the rule of release sequences. The budget is 1,000,000 steps at most.
     #[tactic(auto, using(crate::specs::Starting::begins))]
     pub fn new(
         alloc: Global,
@@ -75,7 +75,8 @@ impl<'a, M: Memory + Drop> Machine<'a, M> {
         })
     }
 
-    /// One step of the run. Where no memory is found, and where the step gives the ending, nothing changes.
+    /// One step of the run. Where no memory is found, and where the step gives the ending, nothing changes; an ending comes without
+    /// lines, and the next step gives it again.
     #[tactic(auto, using(crate::specs::Machines::machines))]
     pub fn step(&mut self) -> Result<StepEnd, AllocError>
         requires built { IsBuilt self.old.bundle }
