@@ -27,7 +27,7 @@ use Rattle.code_check.specs.declared.code.CommonForm.TheVariants as commons
 use Rattle.code_check.specs.declared.code.Form.{Form}
 use Rattle.code_check.specs.declared.code.Form.TheVariants as forms
 use Rattle.code_check.specs.declared.code.Code.{Code}
-use Rattle.code_check.specs.Typed.{Blocks, HasType, ComputationFits, AllocationFits, AddressingFits, FormFits}
+use Rattle.code_check.specs.Typed.{Blocks, HasType, HaveValueTypes, ComputationFits, AllocationFits, AddressingFits, TrappingFits, FormFits}
 use Rattle.code_check.proofs.TypedEndings.{code_at}
 use Rattle.bundle_check.specs.declared.code.BlockCode.{BlockCode}
 use Rattle.bundle_check.specs.Functions.{body_of}
@@ -47,8 +47,8 @@ use Rattle.bundle_facts.proofs.Accepted.{classes_are_defined}
 use Rattle.step_forms.specs.declared.act.Act.{Act}
 use Rattle.step_forms.specs.declared.act.Act.TheVariants as made
 use Rattle.step_forms.specs.declared.way.Way.TheVariants as ways
-use Rattle.step_forms.specs.Asked.{asked}
-use Rattle.step_forms.specs.Classes.{ActIsThere, ComputationIsThere, AllocationIsThere, AddressingIsThere, FormIsThere, FormsAreThere}
+use Rattle.step_forms.specs.Asked.{Lists, asked}
+use Rattle.step_forms.specs.Classes.{AreThere, ActIsThere, ComputationIsThere, AllocationIsThere, AddressingIsThere, TrappingIsThere, FormIsThere, FormsAreThere}
 
 -- ---- acts of the abstract machine
 
@@ -64,6 +64,8 @@ IsThere graph (acts.Finds w s) = class_found w < length graph
 IsThere graph (acts.Makes c) = c < length graph
 IsThere graph (acts.MakesHybrid c n) = c < length graph
 IsThere graph (acts.MakesOwn c) = c < length graph
+IsThere graph (acts.Traps cs) = AreThere graph cs
+IsThere graph (acts.Watches n cs g) = AreThere graph cs
 IsThere graph _ = Unit {0}
 
 -- where there is an act
@@ -145,10 +147,10 @@ module _ (graph : List TypeDef) where
   access bundle vars (accessing.Atomicrmw o op c l a) = search (behind, cell)
   access bundle vars (accessing.Fence o) = tt
 
-  trapping : (bundle : List Item) (vars : List Value) (f : TrappingForm) → AnyIsThere graph (trapping_at bundle vars f)
-  trapping bundle vars (asking.Trap cs) = tt
-  trapping bundle vars (asking.Watchpoint n cs t) = search (behind)
-  trapping bundle vars (asking.Wpbranch n t u) = search (behind)
+  trapping : (bundle : List Item) (vars : List Value) (f : TrappingForm) → TrappingIsThere graph f → AnyIsThere graph (trapping_at bundle vars f)
+  trapping bundle vars (asking.Trap cs) h = h
+  trapping bundle vars (asking.Watchpoint n cs t) h = search (behind, h)
+  trapping bundle vars (asking.Wpbranch n t u) h = search (behind)
 
   switch : (bundle : List Item) (vars : List Value) (f : SwitchForm) → AnyIsThere graph (switch_at bundle vars f)
   switch bundle vars (switching.SwapReturning s cs e) = search (behind)
@@ -172,31 +174,33 @@ module _ (graph : List TypeDef) where
   form bundle types vars (forms.Allocation f) h = allocation bundle vars f h
   form bundle types vars (forms.Addressing f) h = addressing bundle vars f h
   form bundle types vars (forms.Access f) h = access bundle vars f
-  form bundle types vars (forms.Trapping f) h = trapping bundle vars f
+  form bundle types vars (forms.Trapping f) h = trapping bundle vars f h
   form bundle types vars (forms.Switch f) h = switch bundle vars f
   form bundle types vars (forms.Common f) h = common bundle vars f
 
   -- ---- acts of the program
 
-  of_asked : (act : Act) (vs : List Value) (cs : List ℕ) → IsThere graph (asked act vs cs) → ActIsThere graph act
-  of_asked (made.Casts c s) vs cs h = h
-  of_asked (made.Finds (ways.Field c n) s) vs cs h = h
-  of_asked (made.Finds (ways.Element c i) s) vs cs h = h
-  of_asked (made.Finds (ways.Shift c i) s) vs cs h = h
-  of_asked (made.Finds (ways.VarPart c) s) vs cs h = h
-  of_asked (made.Makes c) vs cs h = h
-  of_asked (made.MakesHybrid c n) vs cs h = h
-  of_asked (made.MakesOwn c) vs cs h = h
-  of_asked _ vs cs h = tt
+  of_asked : (act : Act) (ls : Lists) → IsThere graph (asked act ls) → ActIsThere graph ls act
+  of_asked (made.Casts c s) ls h = h
+  of_asked (made.Finds (ways.Field c n) s) ls h = h
+  of_asked (made.Finds (ways.Element c i) s) ls h = h
+  of_asked (made.Finds (ways.Shift c i) s) ls h = h
+  of_asked (made.Finds (ways.VarPart c) s) ls h = h
+  of_asked (made.Makes c) ls h = h
+  of_asked (made.MakesHybrid c n) ls h = h
+  of_asked (made.MakesOwn c) ls h = h
+  of_asked made.Traps ls h = h
+  of_asked (made.Watches n block) ls h = h
+  of_asked _ ls h = tt
 
-  pub act_is_there : (bundle : List Item) (types : List ℕ) (vars : List Value) (f : Form) (act : Act) (vs : List Value) (cs : List ℕ) → FormIsThere graph f →
-      act_at bundle types vars f ≡ Some (asked act vs cs) → ActIsThere graph act
-  act_is_there bundle types vars f act vs cs h e = of_asked act vs cs (subst (AnyIsThere graph) e (form bundle types vars f h))
+  pub act_is_there : (bundle : List Item) (types : List ℕ) (vars : List Value) (f : Form) (act : Act) (ls : Lists) → FormIsThere graph f →
+      act_at bundle types vars f ≡ Some (asked act ls) → ActIsThere graph ls act
+  act_is_there bundle types vars f act ls h e = of_asked act ls (subst (AnyIsThere graph) e (form bundle types vars f h))
 
-  pub decided_is_there : (bundle : List Item) (types : List ℕ) (vars : List Value) (f : Form) (r : Result Act AllocError) (vs : List Value) (cs : List ℕ) → FormIsThere graph f →
-      IfOk r (λ act. act_at bundle types vars f ≡ Some (asked act vs cs)) → IfOk r (ActIsThere graph)
-  decided_is_there bundle types vars f (Ok act) vs cs h e = act_is_there bundle types vars f act vs cs h e
-  decided_is_there bundle types vars f (Err fault) vs cs h e = tt
+  pub decided_is_there : (bundle : List Item) (types : List ℕ) (vars : List Value) (f : Form) (r : Result Act AllocError) (ls : Lists) → FormIsThere graph f →
+      IfOk r (λ act. act_at bundle types vars f ≡ Some (asked act ls)) → IfOk r (ActIsThere graph ls)
+  decided_is_there bundle types vars f (Ok act) ls h e = act_is_there bundle types vars f act ls h e
+  decided_is_there bundle types vars f (Err fault) ls h e = tt
 
 -- ---- instructions of accepted bundles
 
@@ -220,10 +224,20 @@ module _ (bundle : List Item) (named : first_unmet (name_demands bundle) ≡ Non
   addressing_fits ks (finding.Shiftiref c d l x) gs h = within _ c h.0
   addressing_fits ks (finding.Getvarpartiref c l) gs h = within _ c h.0
 
+  values_fit : (cs : List ℕ) → HaveValueTypes (bundle_tables bundle) cs → AreThere (bundle_tables bundle).types.definitions cs
+  values_fit [] h = tt
+  values_fit (c ∷ cs) h = ((classes_are_defined bundle named checked h.0.number c h.0.class).class.within, values_fit cs h.1)
+
+  trapping_fits : (blocks : Blocks) (ks : List ℕ) (f : TrappingForm) (gs : List ℕ) → TrappingFits (bundle_tables bundle) blocks ks f gs → TrappingIsThere (bundle_tables bundle).types.definitions f
+  trapping_fits blocks ks (asking.Trap cs) gs h = values_fit cs h.0
+  trapping_fits blocks ks (asking.Watchpoint n cs t) gs h = values_fit cs h.1.0
+  trapping_fits blocks ks (asking.Wpbranch n t u) gs h = tt
+
   form_fits : (blocks : Blocks) (returns ks : List ℕ) (f : Form) (gs : List ℕ) → FormFits (bundle_tables bundle) blocks returns ks f gs → FormIsThere (bundle_tables bundle).types.definitions f
   form_fits blocks returns ks (forms.Computation f) gs h = computation_fits ks f gs h
   form_fits blocks returns ks (forms.Allocation f) gs h = allocation_fits ks f gs h
   form_fits blocks returns ks (forms.Addressing f) gs h = addressing_fits ks f gs h
+  form_fits blocks returns ks (forms.Trapping f) gs h = trapping_fits blocks ks f gs h
   form_fits blocks returns ks _ gs h = tt
 
   code_is_there : (n at : ℕ) (b : BlockCode) (code : Code) → slice_get (bundle_blocks bundle) n ≡ Some b → slice_get b.code at ≡ Some code →

@@ -1,3 +1,4 @@
+pub mod Built
 pub mod Classes
 pub mod Fields
 pub mod Signed

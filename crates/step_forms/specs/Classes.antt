@@ -1,5 +1,7 @@
--- Inner: nothing that a reader believes of a run rests on this. It is where the class that an act names is that of a type of the graph.
+-- Inner: nothing that a reader believes of a run rests on this. It is where the classes that an act names, or asks a client for values
+-- of, are those of types of the graph.
 use Rattle.std.specs.Prelude.{◌≡◌, ℕ, ◌<◌, List, Some, length, slice_get}
+use Rattle.std.specs.List.{All}
 use Rattle.type_laws.specs.declared.definition.TypeDef.{TypeDef}
 use Rattle.code_check.specs.declared.code.ComputationForm.{ComputationForm}
 use Rattle.code_check.specs.declared.code.ComputationForm.TheVariants as computing
@@ -7,6 +9,8 @@ use Rattle.code_check.specs.declared.code.AllocationForm.{AllocationForm}
 use Rattle.code_check.specs.declared.code.AllocationForm.TheVariants as making
 use Rattle.code_check.specs.declared.code.AddressingForm.{AddressingForm}
 use Rattle.code_check.specs.declared.code.AddressingForm.TheVariants as finding
+use Rattle.code_check.specs.declared.code.TrappingForm.{TrappingForm}
+use Rattle.code_check.specs.declared.code.TrappingForm.TheVariants as asking
 use Rattle.code_check.specs.declared.code.Form.{Form}
 use Rattle.code_check.specs.declared.code.Form.TheVariants as forms
 use Rattle.code_check.specs.declared.code.Code.{Code}
@@ -15,6 +19,7 @@ use Rattle.bundle_check.specs.Checking.{bundle_tables, bundle_blocks}
 use Rattle.model_numbers.specs.Laws.{OfAccepted}
 use Rattle.step_forms.specs.declared.act.Act.{Act}
 use Rattle.step_forms.specs.declared.act.Act.TheVariants as made
+use Rattle.step_forms.specs.Asked.{Lists}
 use Rattle.step_forms.specs.declared.way.Way.{Way}
 use Rattle.step_forms.specs.declared.way.Way.TheVariants as ways
 
@@ -26,13 +31,18 @@ class_of_way (ways.Element c i) = c
 class_of_way (ways.Shift c i) = c
 class_of_way (ways.VarPart c) = c
 
-abbrev pub ActIsThere : List TypeDef → Act → Type 0
-ActIsThere graph (made.Casts c s) = c < length graph
-ActIsThere graph (made.Finds w s) = class_of_way w < length graph
-ActIsThere graph (made.Makes c) = c < length graph
-ActIsThere graph (made.MakesHybrid c n) = c < length graph
-ActIsThere graph (made.MakesOwn c) = c < length graph
-ActIsThere graph _ = Unit {0}
+abbrev pub AreThere : List TypeDef → List ℕ → Type 0
+AreThere graph cs = All (λ c. c < length graph) cs
+
+abbrev pub ActIsThere : List TypeDef → Lists → Act → Type 0
+ActIsThere graph ls (made.Casts c s) = c < length graph
+ActIsThere graph ls (made.Finds w s) = class_of_way w < length graph
+ActIsThere graph ls (made.Makes c) = c < length graph
+ActIsThere graph ls (made.MakesHybrid c n) = c < length graph
+ActIsThere graph ls (made.MakesOwn c) = c < length graph
+ActIsThere graph ls made.Traps = AreThere graph ls.waits
+ActIsThere graph ls (made.Watches n block) = AreThere graph ls.waits
+ActIsThere graph ls _ = Unit {0}
 
 -- ---- of an instruction
 
@@ -53,10 +63,16 @@ AddressingIsThere graph (finding.Getelemiref c d l x) = c < length graph
 AddressingIsThere graph (finding.Shiftiref c d l x) = c < length graph
 AddressingIsThere graph (finding.Getvarpartiref c l) = c < length graph
 
+abbrev pub TrappingIsThere : List TypeDef → TrappingForm → Type 0
+TrappingIsThere graph (asking.Trap cs) = AreThere graph cs
+TrappingIsThere graph (asking.Watchpoint n cs t) = AreThere graph cs
+TrappingIsThere graph (asking.Wpbranch n t u) = Unit {0}
+
 abbrev pub FormIsThere : List TypeDef → Form → Type 0
 FormIsThere graph (forms.Computation f) = ComputationIsThere graph f
 FormIsThere graph (forms.Allocation f) = AllocationIsThere graph f
 FormIsThere graph (forms.Addressing f) = AddressingIsThere graph f
+FormIsThere graph (forms.Trapping f) = TrappingIsThere graph f
 FormIsThere graph _ = Unit {0}
 
 -- so it is of each instruction of a bundle that meets its demands

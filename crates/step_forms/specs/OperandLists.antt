@@ -1,6 +1,8 @@
 -- Inner: lists of operands, as a loop reads them.
 use Rattle.std.specs.Prelude.{◌≡◌, ℕ, ◌+◌, ◌++◌, List, [], ◌∷◌, Option, Some, None, IsSome, IsSomeAnd, map, slice_get, refl}
-use Rattle.std.proofs.Common.{take}
+use Rattle.std.proofs.Common.{take, get_or}
+use Rattle.std.proofs.lemmas.List.{take_more}
+use Rattle.std.proofs.lemmas.Option.{slice_get_within, get_or_from_slice_get}
 use Rattle.ir_tree.specs.declared.items.Item.{Item}
 use Rattle.check_tables.specs.declared.tables.Tables.{Tables}
 use Rattle.code_check.specs.declared.code.Source.{Source}
@@ -38,6 +40,13 @@ numbered-at vars ns n k h e = all_some_at (slice_get vars) ns n k h e
 pub numbered-take : (vars : List Value) (ns : List ℕ) (n k : ℕ) (vs : List Value) (v : Value) → slice_get ns n ≡ Some k → all_some (map (slice_get vars) (take n ns)) ≡ Some vs → slice_get vars k ≡ Some v → all_some (map (slice_get vars) (take (n + 1) ns)) ≡ Some (vs ++ v ∷ [])
 numbered-take vars ns n k vs v at e h = all_some_take (slice_get vars) ns n k vs v at e h
 
+-- a list, as a loop copies it
+pub copied-take : (cs ds : List ℕ) (n c : ℕ) → slice_get cs n ≡ Some c → ds ≡ take n cs → ds ++ c ∷ [] ≡ take (n + 1) cs
+copied-take cs ds n c e h =
+    let one : take (n + 1) cs ≡ take n cs ++ get_or cs n c ∷ [] = take_more cs n c (slice_get_within cs n c e) in
+    let same : get_or cs n c ≡ c = get_or_from_slice_get cs n c c e in
+    rw (one, same, h) refl
+
 pub ruleset values = (values_at-at, values_at-take)
 
 pub ruleset classes = (classes_at-at, classes_at-take)
@@ -45,3 +54,5 @@ pub ruleset classes = (classes_at-at, classes_at-take)
 pub ruleset numbers = (numbers-at, numbers-take)
 
 pub ruleset numbered = (numbered-at, numbered-take)
+
+pub ruleset copies = (copied-take)

@@ -1,10 +1,9 @@
 // Instructions that read and write memory.
-ghost use Rattle.std.specs.Prelude.{◌≡◌, ℕ, List, Some, IsSome};
-ghost use Rattle.frames.specs.Activations.{Value};
+ghost use Rattle.std.specs.Prelude.{◌≡◌, Some, IsSome};
 ghost use Rattle.mu_model.specs.Acts as acts;
 ghost use Rattle.mu_model.specs.AccessForms.{cell_act, load_act, store_act, cmpxchg_act, atomicrmw_act, update_op};
 ghost use Rattle.model_numbers.specs.Sources.{value_at};
-ghost use Rattle.step_forms.specs.Asked.{asked, access_of};
+ghost use Rattle.step_forms.specs.Asked.{asked, Lists, access_of};
 
 use crate::access::Access;
 use crate::act::Act;
@@ -22,7 +21,7 @@ use mu_values::{Scalar, UpdateOp};
 #[tactic(auto, using(crate::specs::AccessLaws::cells))]
 fn at_place(place: Scalar, access: Access) -> Act
     requires { IsSome (cell_act (acts.Accesses (access_of access)) place) }
-    ensures { (vs : List Value) (cs : List ℕ) → cell_act (acts.Accesses (access_of access)) place ≡ Some (asked result vs cs) }
+    ensures { (ls : Lists) → cell_act (acts.Accesses (access_of access)) place ≡ Some (asked result ls) }
 {
     match place {
         Scalar::Place { object, at } => Act::Accesses {
@@ -57,7 +56,7 @@ fn update_op(word: UpdateWord) -> UpdateOp
 #[tactic(auto, using(crate::specs::AccessLaws::loads))]
 pub fn load(code: &Checked, vars: &Variables, order: Order, location: Source) -> Act
     requires { IsSome (load_act order (value_at code.now vars.now location)) }
-    ensures { (vs : List Value) (cs : List ℕ) → load_act order (value_at code.now vars.now location) ≡ Some (asked result vs cs) }
+    ensures { (ls : Lists) → load_act order (value_at code.now vars.now location) ≡ Some (asked result ls) }
 {
     at_place(scalar(code, vars, location), Access::Loads { order })
 }
@@ -66,7 +65,7 @@ pub fn load(code: &Checked, vars: &Variables, order: Order, location: Source) ->
 #[tactic(auto, using(crate::specs::AccessLaws::stores))]
 pub fn store(code: &Checked, vars: &Variables, order: Order, location: Source, value: Source) -> Act
     requires { IsSome (store_act order (value_at code.now vars.now location) (value_at code.now vars.now value)) }
-    ensures { (vs : List Value) (cs : List ℕ) → store_act order (value_at code.now vars.now location) (value_at code.now vars.now value) ≡ Some (asked result vs cs) }
+    ensures { (ls : Lists) → store_act order (value_at code.now vars.now location) (value_at code.now vars.now value) ≡ Some (asked result ls) }
 {
     let stored = scalar(code, vars, value);
     at_place(
@@ -97,7 +96,7 @@ pub fn cmpxchg(
     desired: Source,
 ) -> Act
     requires { IsSome (cmpxchg_act comparison.weak comparison.success comparison.failure (value_at code.now vars.now location) (value_at code.now vars.now expected) (value_at code.now vars.now desired)) }
-    ensures { (vs : List Value) (cs : List ℕ) → cmpxchg_act comparison.weak comparison.success comparison.failure (value_at code.now vars.now location) (value_at code.now vars.now expected) (value_at code.now vars.now desired) ≡ Some (asked result vs cs) }
+    ensures { (ls : Lists) → cmpxchg_act comparison.weak comparison.success comparison.failure (value_at code.now vars.now location) (value_at code.now vars.now expected) (value_at code.now vars.now desired) ≡ Some (asked result ls) }
 {
     let Comparison {
         weak,
@@ -129,7 +128,7 @@ pub fn atomicrmw(
     operand: Source,
 ) -> Act
     requires { IsSome (atomicrmw_act order (update_op word) (value_at code.now vars.now location) (value_at code.now vars.now operand)) }
-    ensures { (vs : List Value) (cs : List ℕ) → atomicrmw_act order (update_op word) (value_at code.now vars.now location) (value_at code.now vars.now operand) ≡ Some (asked result vs cs) }
+    ensures { (ls : Lists) → atomicrmw_act order (update_op word) (value_at code.now vars.now location) (value_at code.now vars.now operand) ≡ Some (asked result ls) }
 {
     let operand = scalar(code, vars, operand);
     at_place(

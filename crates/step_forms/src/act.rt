@@ -1,5 +1,6 @@
 // Acts.
 use crate::access::Access;
+use crate::entering::Entering;
 use crate::way::Way;
 use heap_cells::CellId;
 use mu_base::Order;
@@ -40,4 +41,33 @@ pub enum Act {
     Accesses { access: Access, cell: CellId },
     /// A fence.
     Fences(Order),
+    /// The client is asked for values of the classes in the room.
+    Traps,
+    /// The same, but where the watchpoint is disabled: then another block, whose parameters are the values in the room.
+    Watches { watchpoint: u32, block: u32 },
+    /// One block where the watchpoint is disabled, whose parameters are the values in the room, and else another one, whose parameters
+    /// are the other values there.
+    Chooses { watchpoint: u32, disabled: u32, enabled: u32 },
+    /// Another stack is entered, and this one waits for values of the classes in the room.
+    Swaps { stack: Scalar, entering: Entering },
+    /// Another stack is entered, and this one ends.
+    Leaves { stack: Scalar, entering: Entering },
+    /// A thread on the stack, with its own object.
+    Starts { stack: Scalar, own: Scalar, entering: Entering },
+    /// A stack of the function.
+    MakesStack { function: u32 },
+    /// The stack ends.
+    KillsStack { stack: Scalar },
+    /// The thread's stack is told.
+    Tells,
+    /// The thread ends.
+    Exits,
+    /// The thread's own object is set.
+    SetsOwn(Scalar),
+    /// The thread's own object is told.
+    TellsOwn,
+    /// Waiting at the cell while it holds what is expected, with a limit or without.
+    Waits { timed: bool, expected: Scalar, cell: CellId },
+    /// So many are woken that wait at the cell.
+    Wakes { many: u32, cell: CellId },
 }

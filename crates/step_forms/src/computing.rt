@@ -1,13 +1,12 @@
 // Computations.
-ghost use Rattle.std.specs.Prelude.{◌≡◌, ℕ, ◌≤◌, [], ◌∷◌, List, Some, IsSome, IfOk};
+ghost use Rattle.std.specs.Prelude.{◌≡◌, ℕ, ◌≤◌, [], ◌∷◌, Some, IsSome, IfOk};
 ghost use Rattle.bundle_check.specs.Checking.{bundle_tables};
-ghost use Rattle.frames.specs.Activations.{Value};
 ghost use Rattle.typed_heap.specs.Places.{with_some};
 ghost use Rattle.mu_model.specs.Acts as acts;
 ghost use Rattle.mu_model.specs.Types.{class_width};
 ghost use Rattle.mu_model.specs.ComputationForms.{result_or_fault, bit, binary_act, compare_act, convert_act, scalar_act, select_act, extractvalue_act, insertvalue_act};
 ghost use Rattle.model_numbers.specs.Sources.{value_at};
-ghost use Rattle.step_forms.specs.Asked.{asked};
+ghost use Rattle.step_forms.specs.Asked.{asked, lists_of, Lists};
 
 use crate::act::Act;
 use crate::operands::{is_one, push_value, read, scalar, scalars};
@@ -22,7 +21,7 @@ use mu_values::{BinOp, CmpOp, ConvOp, Scalar};
 use std::alloc::AllocError;
 
 fn result_or_fault(width: u32, computed: Option<u128>) -> Act
-    ensures { (vs : List Value) (cs : List ℕ) → asked result vs cs ≡ result_or_fault width computed }
+    ensures { (ls : Lists) → asked result ls ≡ result_or_fault width computed }
 {
     match computed {
         Some(bits) => Act::Gives(Scalar::Int { width, bits }),
@@ -41,7 +40,7 @@ pub fn binary(
     right: Source,
 ) -> Act
     requires { IsSome (binary_act (bundle_tables code.now) op class (value_at code.now vars.now left) (value_at code.now vars.now right)) }
-    ensures { (vs : List Value) (cs : List ℕ) → binary_act (bundle_tables code.now) op class (value_at code.now vars.now left) (value_at code.now vars.now right) ≡ Some (asked result vs cs) }
+    ensures { (ls : Lists) → binary_act (bundle_tables code.now) op class (value_at code.now vars.now left) (value_at code.now vars.now right) ≡ Some (asked result ls) }
 {
     let a = scalar(code, vars, left);
     let b = scalar(code, vars, right);
@@ -64,7 +63,7 @@ fn bit(holds: bool) -> u128
 #[tactic(auto, using(crate::specs::OperandLaws::comparisons))]
 pub fn compare(code: &Checked, vars: &Variables, op: CmpOp, left: Source, right: Source) -> Act
     requires { IsSome (compare_act op (value_at code.now vars.now left) (value_at code.now vars.now right)) }
-    ensures { (vs : List Value) (cs : List ℕ) → compare_act op (value_at code.now vars.now left) (value_at code.now vars.now right) ≡ Some (asked result vs cs) }
+    ensures { (ls : Lists) → compare_act op (value_at code.now vars.now left) (value_at code.now vars.now right) ≡ Some (asked result ls) }
 {
     let a = scalar(code, vars, left);
     let b = scalar(code, vars, right);
@@ -96,7 +95,7 @@ pub fn convert(
     operand: Source,
 ) -> Act
     requires { IsSome (convert_act (bundle_tables code.now) op from to (value_at code.now vars.now operand)) }
-    ensures { (vs : List Value) (cs : List ℕ) → convert_act (bundle_tables code.now) op from to (value_at code.now vars.now operand) ≡ Some (asked result vs cs) }
+    ensures { (ls : Lists) → convert_act (bundle_tables code.now) op from to (value_at code.now vars.now operand) ≡ Some (asked result ls) }
 {
     match scalar(code, vars, operand) {
         Scalar::Int {
@@ -117,7 +116,7 @@ pub fn convert(
 #[tactic(auto, using(crate::specs::OperandLaws::operands))]
 pub fn refcast(code: &Checked, vars: &Variables, class: u32, operand: Source) -> Act
     requires { IsSome (scalar_act (acts.Casts class) (value_at code.now vars.now operand)) }
-    ensures { (vs : List Value) (cs : List ℕ) → scalar_act (acts.Casts class) (value_at code.now vars.now operand) ≡ Some (asked result vs cs) }
+    ensures { (ls : Lists) → scalar_act (acts.Casts class) (value_at code.now vars.now operand) ≡ Some (asked result ls) }
 {
     Act::Casts {
         class,
@@ -134,7 +133,7 @@ fn give(
     room: &mut Room,
 ) -> Result<Act, AllocError>
     requires { IsSome (value_at code.now vars.now source) }
-    ensures { IfOk result (λ act. with_some (value_at code.now vars.now source) (λ v. Some (acts.Gives (v ∷ []))) ≡ Some (asked act room.new.values.values room.new.types.members)) }
+    ensures { IfOk result (λ act. with_some (value_at code.now vars.now source) (λ v. Some (acts.Gives (v ∷ []))) ≡ Some (asked act (lists_of room.new))) }
 {
     room.values.clear();
     push_value(code, vars, source, &mut room.values)?;
@@ -152,7 +151,7 @@ pub fn select(
     room: &mut Room,
 ) -> Result<Act, AllocError>
     requires { IsSome (select_act (value_at code.now vars.now condition) (value_at code.now vars.now if_one) (value_at code.now vars.now if_zero)) }
-    ensures { IfOk result (λ act. select_act (value_at code.now vars.now condition) (value_at code.now vars.now if_one) (value_at code.now vars.now if_zero) ≡ Some (asked act room.new.values.values room.new.types.members)) }
+    ensures { IfOk result (λ act. select_act (value_at code.now vars.now condition) (value_at code.now vars.now if_one) (value_at code.now vars.now if_zero) ≡ Some (asked act (lists_of room.new))) }
 {
     if is_one(code, vars, condition) {
         give(code, vars, if_one, room)
@@ -172,7 +171,7 @@ pub fn extractvalue(
     room: &mut Room,
 ) -> Result<Act, AllocError>
     requires { IsSome (extractvalue_act (bundle_tables code.now) class field (value_at code.now vars.now operand)) }
-    ensures { IfOk result (λ act. extractvalue_act (bundle_tables code.now) class field (value_at code.now vars.now operand) ≡ Some (asked act room.new.values.values room.new.types.members)) }
+    ensures { IfOk result (λ act. extractvalue_act (bundle_tables code.now) class field (value_at code.now vars.now operand) ≡ Some (asked act (lists_of room.new))) }
 {
     let value = read(code, vars, operand);
     let parts = divided(code, class, field, scalars(&value));
@@ -193,7 +192,7 @@ pub fn insertvalue(
     room: &mut Room,
 ) -> Result<Act, AllocError>
     requires { IsSome (insertvalue_act (bundle_tables code.now) class field (value_at code.now vars.now operand) (value_at code.now vars.now value)) }
-    ensures { IfOk result (λ act. insertvalue_act (bundle_tables code.now) class field (value_at code.now vars.now operand) (value_at code.now vars.now value) ≡ Some (asked act room.new.values.values room.new.types.members)) }
+    ensures { IfOk result (λ act. insertvalue_act (bundle_tables code.now) class field (value_at code.now vars.now operand) (value_at code.now vars.now value) ≡ Some (asked act (lists_of room.new))) }
 {
     let operand = read(code, vars, operand);
     let value = read(code, vars, value);

@@ -1,15 +1,14 @@
 // Instructions that say where the function goes on, or that enter or leave one.
-ghost use Rattle.std.specs.Prelude.{◌≡◌, ℕ, List, map, Some, IsSome, IfOk};
+ghost use Rattle.std.specs.Prelude.{◌≡◌, map, Some, IsSome, IfOk};
 ghost use Rattle.mu_values.specs.SameScalar.{same_scalar};
 ghost use Rattle.bundle_check.specs.Checking.{bundle_tables};
-ghost use Rattle.frames.specs.Activations.{Value};
 ghost use Rattle.typed_heap.specs.Places.{with_some};
 ghost use Rattle.mu_model.specs.Acts as acts;
 ghost use Rattle.mu_model.specs.ComputationForms.{scalar_act};
 ghost use Rattle.mu_model.specs.ControlForms.{branch_act, branch2_act, switch_act, call_act, ret_act};
 ghost use Rattle.model_numbers.specs.Sources.{value_at, values_at, classes_at, goal_at};
 ghost use Rattle.model_numbers.specs.Forms.{arm_at};
-ghost use Rattle.step_forms.specs.Asked.{asked};
+ghost use Rattle.step_forms.specs.Asked.{asked, lists_of, Lists};
 
 use crate::act::Act;
 use crate::operands::{constant, is_one, only, read_classes, read_goal, read_values, scalar};
@@ -30,7 +29,7 @@ pub fn branch(
     room: &mut Room,
 ) -> Result<Act, AllocError>
     requires { IsSome (branch_act (goal_at code.now vars.now target.now)) }
-    ensures { IfOk result (λ act. branch_act (goal_at code.now vars.now target.now) ≡ Some (asked act room.new.values.values room.new.types.members)) }
+    ensures { IfOk result (λ act. branch_act (goal_at code.now vars.now target.now) ≡ Some (asked act (lists_of room.new))) }
 {
     read_goal(code, vars, target, &mut room.values)?;
     Ok(Act::Goes {
@@ -49,7 +48,7 @@ pub fn branch2(
     room: &mut Room,
 ) -> Result<Act, AllocError>
     requires { IsSome (branch2_act (value_at code.now vars.now condition) (goal_at code.now vars.now if_one.now) (goal_at code.now vars.now if_zero.now)) }
-    ensures { IfOk result (λ act. branch2_act (value_at code.now vars.now condition) (goal_at code.now vars.now if_one.now) (goal_at code.now vars.now if_zero.now) ≡ Some (asked act room.new.values.values room.new.types.members)) }
+    ensures { IfOk result (λ act. branch2_act (value_at code.now vars.now condition) (goal_at code.now vars.now if_one.now) (goal_at code.now vars.now if_zero.now) ≡ Some (asked act (lists_of room.new))) }
 {
     if is_one(code, vars, condition) {
         branch(code, vars, if_one, room)
@@ -76,7 +75,7 @@ pub fn switch(
     room: &mut Room,
 ) -> Result<Act, AllocError>
     requires { IsSome (switch_act (value_at code.now vars.now operand) (goal_at code.now vars.now default.now) (map (arm_at code.now vars.now) cases.now)) }
-    ensures { IfOk result (λ act. switch_act (value_at code.now vars.now operand) (goal_at code.now vars.now default.now) (map (arm_at code.now vars.now) cases.now) ≡ Some (asked act room.new.values.values room.new.types.members)) }
+    ensures { IfOk result (λ act. switch_act (value_at code.now vars.now operand) (goal_at code.now vars.now default.now) (map (arm_at code.now vars.now) cases.now) ≡ Some (asked act (lists_of room.new))) }
 {
     let wanted = scalar(code, vars, operand);
     let mut left = cases;
@@ -99,7 +98,7 @@ pub fn call(
     room: &mut Room,
 ) -> Result<Act, AllocError>
     requires { IsSome (call_act acts.Calls (value_at code.now vars.now callee) (values_at code.now vars.now arguments.now)) }
-    ensures { IfOk result (λ act. call_act acts.Calls (value_at code.now vars.now callee) (values_at code.now vars.now arguments.now) ≡ Some (asked act room.new.values.values room.new.types.members)) }
+    ensures { IfOk result (λ act. call_act acts.Calls (value_at code.now vars.now callee) (values_at code.now vars.now arguments.now) ≡ Some (asked act (lists_of room.new))) }
 {
     read_values(code, vars, arguments, &mut room.values)?;
     match scalar(code, vars, callee) {
@@ -119,7 +118,7 @@ pub fn tailcall(
     room: &mut Room,
 ) -> Result<Act, AllocError>
     requires { IsSome (call_act acts.Replaces (value_at code.now vars.now callee) (values_at code.now vars.now arguments.now)) }
-    ensures { IfOk result (λ act. call_act acts.Replaces (value_at code.now vars.now callee) (values_at code.now vars.now arguments.now) ≡ Some (asked act room.new.values.values room.new.types.members)) }
+    ensures { IfOk result (λ act. call_act acts.Replaces (value_at code.now vars.now callee) (values_at code.now vars.now arguments.now) ≡ Some (asked act (lists_of room.new))) }
 {
     read_values(code, vars, arguments, &mut room.values)?;
     match scalar(code, vars, callee) {
@@ -139,7 +138,7 @@ pub fn ret(
     room: &mut Room,
 ) -> Result<Act, AllocError>
     requires { IsSome (with_some (classes_at (bundle_tables code.now) types.now values.now) (λ cs. ret_act cs (values_at code.now vars.now values.now))) }
-    ensures { IfOk result (λ act. with_some (classes_at (bundle_tables code.now) types.now values.now) (λ cs. ret_act cs (values_at code.now vars.now values.now)) ≡ Some (asked act room.new.values.values room.new.types.members)) }
+    ensures { IfOk result (λ act. with_some (classes_at (bundle_tables code.now) types.now values.now) (λ cs. ret_act cs (values_at code.now vars.now values.now)) ≡ Some (asked act (lists_of room.new))) }
 {
     read_classes(code, types, values, &mut room.types)?;
     read_values(code, vars, values, &mut room.values)?;
@@ -150,7 +149,7 @@ pub fn ret(
 #[tactic(auto, using(crate::specs::OperandLaws::operands))]
 pub fn throw(code: &Checked, vars: &Variables, exception: Source) -> Act
     requires { IsSome (scalar_act acts.Throws (value_at code.now vars.now exception)) }
-    ensures { (vs : List Value) (cs : List ℕ) → scalar_act acts.Throws (value_at code.now vars.now exception) ≡ Some (asked result vs cs) }
+    ensures { (ls : Lists) → scalar_act acts.Throws (value_at code.now vars.now exception) ≡ Some (asked result ls) }
 {
     Act::Throws(scalar(code, vars, exception))
 }

@@ -1,21 +1,28 @@
 // What an instruction does.
-ghost use Rattle.std.specs.Prelude.{◌≡◌, ℕ, true, List, Some, IsSome, IfOk};
+ghost use Rattle.std.specs.Prelude.{◌≡◌, true, Some, IsSome, IfOk};
 ghost use Rattle.bundle_check.specs.Checking.{bundle_tables};
-ghost use Rattle.frames.specs.Activations.{Value};
-ghost use Rattle.model_numbers.specs.Forms.{computation_at, control_at, allocation_at, addressing_at, access_at, act_at};
-ghost use Rattle.step_forms.specs.Asked.{asked};
-ghost use Rattle.step_forms.specs.Built.{form_is_built};
+ghost use Rattle.model_numbers.specs.Forms.{computation_at, control_at, allocation_at, addressing_at, access_at, trapping_at, switch_at, common_at, act_at};
+ghost use Rattle.step_forms.specs.Asked.{asked, lists_of, Lists};
+ghost use Rattle.step_forms.specs.Built.{form_is_built, act_is_built};
 ghost use Rattle.step_forms.specs.Classes.{ActIsThere, FormIsThere};
 
 use crate::accessing::{Comparison, atomicrmw, cmpxchg, load, store};
 use crate::act::Act;
+use crate::common::{
+    futex_wait, futex_wait_timeout, futex_wake, kill_stack, new_stack, set_threadlocal,
+};
 use crate::computing::{binary, compare, convert, extractvalue, insertvalue, refcast, select};
 use crate::control::{branch, branch2, call, ret, switch, tailcall, throw};
 use crate::objects::{getelemiref, getfieldiref, getiref, getvarpartiref, newhybrid, shiftiref};
 use crate::room::Room;
+use crate::stacks::{newthread, swap_killing, swap_returning};
+use crate::trapping::{trap, watchpoint, wpbranch};
 use crate::variables::Variables;
 use bundle_check::Checked;
-use code_check::{AccessForm, AddressingForm, AllocationForm, ComputationForm, ControlForm, Form};
+use code_check::{
+    AccessForm, AddressingForm, AllocationForm, CommonForm, ComputationForm, ControlForm, Form,
+    SwitchForm, TrappingForm,
+};
 use std::alloc::AllocError;
 
 /// Whether the machine has a rule for the form.
@@ -40,7 +47,7 @@ fn compute(
     room: &mut Room,
 ) -> Result<Act, AllocError>
     requires { IsSome (computation_at code.now vars.now form.now) }
-    ensures { IfOk result (λ act. computation_at code.now vars.now form.now ≡ Some (asked act room.new.values.values room.new.types.members)) }
+    ensures { IfOk result (λ act. computation_at code.now vars.now form.now ≡ Some (asked act (lists_of room.new))) }
 {
     match form {
         ComputationForm::Binary {
@@ -91,7 +98,7 @@ fn go_on(
     room: &mut Room,
 ) -> Result<Act, AllocError>
     requires { IsSome (control_at code.now types.now vars.now form.now) }
-    ensures { IfOk result (λ act. control_at code.now types.now vars.now form.now ≡ Some (asked act room.new.values.values room.new.types.members)) }
+    ensures { IfOk result (λ act. control_at code.now types.now vars.now form.now ≡ Some (asked act (lists_of room.new))) }
 {
     match form {
         ControlForm::Branch { target } => branch(code, vars, target, room),
@@ -124,7 +131,7 @@ fn go_on(
 /// What an instruction does that makes an object.
 fn make(code: &Checked, vars: &Variables, form: &AllocationForm) -> Act
     requires { IsSome (allocation_at code.now vars.now form.now) }
-    ensures { (vs : List Value) (cs : List ℕ) → allocation_at code.now vars.now form.now ≡ Some (asked result vs cs) }
+    ensures { (ls : Lists) → allocation_at code.now vars.now form.now ≡ Some (asked result ls) }
 {
     match form {
         AllocationForm::New { class } => Act::Makes { class: *class },
@@ -140,7 +147,7 @@ fn make(code: &Checked, vars: &Variables, form: &AllocationForm) -> Act
 /// What an instruction does that finds a place.
 fn find(code: &Checked, vars: &Variables, form: &AddressingForm) -> Act
     requires { IsSome (addressing_at code.now vars.now form.now) }
-    ensures { (vs : List Value) (cs : List ℕ) → addressing_at code.now vars.now form.now ≡ Some (asked result vs cs) }
+    ensures { (ls : Lists) → addressing_at code.now vars.now form.now ≡ Some (asked result ls) }
 {
     match form {
         AddressingForm::Getiref { reference, .. } => getiref(code, vars, *reference),
@@ -170,7 +177,7 @@ fn find(code: &Checked, vars: &Variables, form: &AddressingForm) -> Act
 /// What an instruction does that reads or writes memory.
 fn access(code: &Checked, vars: &Variables, form: &AccessForm) -> Act
     requires { IsSome (access_at code.now vars.now form.now) }
-    ensures { (vs : List Value) (cs : List ℕ) → access_at code.now vars.now form.now ≡ Some (asked result vs cs) }
+    ensures { (ls : Lists) → access_at code.now vars.now form.now ≡ Some (asked result ls) }
 {
     match form {
         AccessForm::Load {
@@ -211,9 +218,88 @@ fn access(code: &Checked, vars: &Variables, form: &AccessForm) -> Act
     }
 }
 
+/// What an instruction does that asks the client, or may be made to.
+fn ask(
+    code: &Checked,
+    vars: &Variables,
+    form: &TrappingForm,
+    room: &mut Room,
+) -> Result<Act, AllocError>
+    requires { IsSome (trapping_at code.now vars.now form.now) }
+    ensures { IfOk result (λ act. trapping_at code.now vars.now form.now ≡ Some (asked act (lists_of room.new))) }
+{
+    match form {
+        TrappingForm::Trap { classes } => trap(classes.as_slice(), room),
+        TrappingForm::Watchpoint {
+            number,
+            classes,
+            disabled,
+        } => watchpoint(code, vars, *number, classes.as_slice(), disabled, room),
+        TrappingForm::Wpbranch {
+            number,
+            disabled,
+            enabled,
+        } => wpbranch(code, vars, *number, disabled, enabled, room),
+    }
+}
+
+/// What an instruction does that enters a stack.
+fn enter(
+    code: &Checked,
+    vars: &Variables,
+    form: &SwitchForm,
+    room: &mut Room,
+) -> Result<Act, AllocError>
+    requires { IsSome (switch_at code.now vars.now form.now) }
+    ensures { IfOk result (λ act. switch_at code.now vars.now form.now ≡ Some (asked act (lists_of room.new))) }
+{
+    match form {
+        SwitchForm::SwapReturning {
+            stack,
+            classes,
+            entered,
+        } => swap_returning(code, vars, *stack, classes.as_slice(), entered, room),
+        SwitchForm::SwapKilling { stack, entered } => {
+            swap_killing(code, vars, *stack, entered, room)
+        }
+        SwitchForm::Newthread {
+            stack,
+            threadlocal,
+            entered,
+        } => newthread(code, vars, *stack, *threadlocal, entered, room),
+    }
+}
+
+/// What an instruction does that is under a name.
+fn common(code: &Checked, vars: &Variables, form: &CommonForm) -> Act
+    requires { IsSome (common_at code.now vars.now form.now) }
+    ensures { (ls : Lists) → common_at code.now vars.now form.now ≡ Some (asked result ls) }
+{
+    match form {
+        CommonForm::NewStack { function, .. } => new_stack(code, vars, *function),
+        CommonForm::KillStack { stack } => kill_stack(code, vars, *stack),
+        CommonForm::ThreadExit => Act::Exits,
+        CommonForm::CurrentStack => Act::Tells,
+        CommonForm::SetThreadlocal { reference } => set_threadlocal(code, vars, *reference),
+        CommonForm::GetThreadlocal => Act::TellsOwn,
+        CommonForm::FutexWait {
+            location, value, ..
+        } => futex_wait(code, vars, *location, *value),
+        CommonForm::FutexWake {
+            location, count, ..
+        } => futex_wake(code, vars, *location, *count),
+        CommonForm::FutexWaitTimeout {
+            location,
+            value,
+            limit,
+            ..
+        } => futex_wait_timeout(code, vars, *location, *value, *limit),
+    }
+}
+
 /// What an instruction does, with the values of its block's variables, of which the classes are told. The values and classes that go
-/// with the act stand in the room, which is changed even where no memory is found. A class that the act names is in the graph where that
-/// of the form is.
+/// with the act stand in the room, which is changed even where no memory is found. A class that the act names, or asks a client for values
+/// of, is in the graph where that of the form is. An act that the machine does not do yet is that of a form without a rule.
 pub fn decide(
     code: &Checked,
     types: &[u32],
@@ -221,11 +307,11 @@ pub fn decide(
     form: &Form,
     room: &mut Room,
 ) -> Result<Act, AllocError>
-    requires built { form_is_built form.now ≡ true }
     requires there { IsSome (act_at code.now types.now vars.now form.now) }
     requires classes { FormIsThere (bundle_tables code.now).types.definitions form.now }
-    ensures act { IfOk result (λ act. act_at code.now types.now vars.now form.now ≡ Some (asked act room.new.values.values room.new.types.members)) }
-    ensures classes { IfOk result (ActIsThere (bundle_tables code.now).types.definitions) }
+    ensures act { IfOk result (λ act. act_at code.now types.now vars.now form.now ≡ Some (asked act (lists_of room.new))) }
+    ensures classes { IfOk result (ActIsThere (bundle_tables code.now).types.definitions (lists_of room.new)) }
+    ensures built { IfOk result (λ act. form_is_built form.now ≡ true → act_is_built act ≡ true) }
 {
     match form {
         Form::Computation(form) => compute(code, vars, form, room),
@@ -233,6 +319,8 @@ pub fn decide(
         Form::Allocation(form) => Ok(make(code, vars, form)),
         Form::Addressing(form) => Ok(find(code, vars, form)),
         Form::Access(form) => Ok(access(code, vars, form)),
-        _ => unreachable!(),
+        Form::Trapping(form) => ask(code, vars, form, room),
+        Form::Switch(form) => enter(code, vars, form, room),
+        Form::Common(form) => Ok(common(code, vars, form)),
     }
 }

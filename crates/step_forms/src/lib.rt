@@ -5,20 +5,25 @@
 mod access;
 mod accessing;
 mod act;
+mod common;
 mod computing;
 mod control;
 mod deciding;
+mod entering;
 mod laws;
 mod objects;
 mod operands;
 mod parts;
 mod room;
+mod stacks;
+mod trapping;
 mod variables;
 mod way;
 
 pub use access::Access;
 pub use act::Act;
 pub use deciding::{decide, form_is_built};
+pub use entering::Entering;
 pub use laws::forms_are_there;
 pub use operands::{push_value, read_classes, read_goal, read_kept, read_values, scalar};
 pub use room::Room;

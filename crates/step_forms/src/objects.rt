@@ -1,14 +1,13 @@
 // Instructions that make objects, and those that find places in them.
-ghost use Rattle.std.specs.Prelude.{◌≡◌, ℕ, List, Some, IsSome};
+ghost use Rattle.std.specs.Prelude.{◌≡◌, Some, IsSome};
 ghost use Rattle.mu_values.specs.Integers.{IsInteger, signed};
 ghost use Rattle.bundle_check.specs.Checking.{bundle_tables};
-ghost use Rattle.frames.specs.Activations.{Value};
 ghost use Rattle.typed_heap.specs.Places as places;
 ghost use Rattle.mu_model.specs.Acts as acts;
 ghost use Rattle.mu_model.specs.ComputationForms.{scalar_act};
 ghost use Rattle.mu_model.specs.ObjectForms.{newhybrid_act, getiref_act, find_by_act};
 ghost use Rattle.model_numbers.specs.Sources.{value_at};
-ghost use Rattle.step_forms.specs.Asked.{asked};
+ghost use Rattle.step_forms.specs.Asked.{asked, Lists};
 
 use crate::act::Act;
 use crate::operands::scalar;
@@ -29,7 +28,7 @@ pub fn newhybrid(
     length: Source,
 ) -> Act
     requires { IsSome (newhybrid_act (bundle_tables code.now) class length_class (value_at code.now vars.now length)) }
-    ensures { (vs : List Value) (cs : List ℕ) → newhybrid_act (bundle_tables code.now) class length_class (value_at code.now vars.now length) ≡ Some (asked result vs cs) }
+    ensures { (ls : Lists) → newhybrid_act (bundle_tables code.now) class length_class (value_at code.now vars.now length) ≡ Some (asked result ls) }
 {
     match scalar(code, vars, length) {
         Scalar::Int { bits, .. } => Act::MakesHybrid { class, many: bits },
@@ -41,7 +40,7 @@ pub fn newhybrid(
 #[tactic(auto, using(crate::specs::OperandLaws::objects))]
 pub fn getiref(code: &Checked, vars: &Variables, reference: Source) -> Act
     requires { IsSome (getiref_act (value_at code.now vars.now reference)) }
-    ensures { (vs : List Value) (cs : List ℕ) → getiref_act (value_at code.now vars.now reference) ≡ Some (asked result vs cs) }
+    ensures { (ls : Lists) → getiref_act (value_at code.now vars.now reference) ≡ Some (asked result ls) }
 {
     match scalar(code, vars, reference) {
         Scalar::Object(object) => Act::Gives(Scalar::Place { object, at: 0 }),
@@ -60,7 +59,7 @@ pub fn getfieldiref(
     location: Source,
 ) -> Act
     requires { IsSome (scalar_act (acts.Finds (places.Field class field)) (value_at code.now vars.now location)) }
-    ensures { (vs : List Value) (cs : List ℕ) → scalar_act (acts.Finds (places.Field class field)) (value_at code.now vars.now location) ≡ Some (asked result vs cs) }
+    ensures { (ls : Lists) → scalar_act (acts.Finds (places.Field class field)) (value_at code.now vars.now location) ≡ Some (asked result ls) }
 {
     Act::Finds {
         way: Way::Field { class, field },
@@ -93,7 +92,7 @@ pub fn getelemiref(
     index: Source,
 ) -> Act
     requires { IsSome (find_by_act (bundle_tables code.now) (places.Element class) index_class (value_at code.now vars.now location) (value_at code.now vars.now index)) }
-    ensures { (vs : List Value) (cs : List ℕ) → find_by_act (bundle_tables code.now) (places.Element class) index_class (value_at code.now vars.now location) (value_at code.now vars.now index) ≡ Some (asked result vs cs) }
+    ensures { (ls : Lists) → find_by_act (bundle_tables code.now) (places.Element class) index_class (value_at code.now vars.now location) (value_at code.now vars.now index) ≡ Some (asked result ls) }
 {
     match scalar(code, vars, index) {
         Scalar::Int { width, bits } => Act::Finds {
@@ -118,7 +117,7 @@ pub fn shiftiref(
     offset: Source,
 ) -> Act
     requires { IsSome (find_by_act (bundle_tables code.now) (places.Shift class) offset_class (value_at code.now vars.now location) (value_at code.now vars.now offset)) }
-    ensures { (vs : List Value) (cs : List ℕ) → find_by_act (bundle_tables code.now) (places.Shift class) offset_class (value_at code.now vars.now location) (value_at code.now vars.now offset) ≡ Some (asked result vs cs) }
+    ensures { (ls : Lists) → find_by_act (bundle_tables code.now) (places.Shift class) offset_class (value_at code.now vars.now location) (value_at code.now vars.now offset) ≡ Some (asked result ls) }
 {
     match scalar(code, vars, offset) {
         Scalar::Int { width, bits } => Act::Finds {
@@ -136,7 +135,7 @@ pub fn shiftiref(
 #[tactic(auto, using(crate::specs::OperandLaws::operands))]
 pub fn getvarpartiref(code: &Checked, vars: &Variables, class: u32, location: Source) -> Act
     requires { IsSome (scalar_act (acts.Finds (places.VarPart class)) (value_at code.now vars.now location)) }
-    ensures { (vs : List Value) (cs : List ℕ) → scalar_act (acts.Finds (places.VarPart class)) (value_at code.now vars.now location) ≡ Some (asked result vs cs) }
+    ensures { (ls : Lists) → scalar_act (acts.Finds (places.VarPart class)) (value_at code.now vars.now location) ≡ Some (asked result ls) }
 {
     Act::Finds {
         way: Way::VarPart { class },

@@ -216,6 +216,18 @@ pub fn read_classes(
     Ok(())
 }
 
+/// These classes, in place of what the list held. Where no memory is found some may be missing.
+#[tactic(auto, using(crate::specs::OperandLists::copies))]
+pub(crate) fn copy_classes(classes: &[u32], out: &mut Types) -> Result<(), AllocError>
+    ensures { OnOk result (out.new.members ≡ classes.now) }
+{
+    out.clear();
+    for n in 0..classes.len() {
+        out.push(name_at(classes, n))?;
+    }
+    Ok(())
+}
+
 /// The classes of variables, in place of what the list held.
 #[tactic(auto, using(crate::specs::OperandLists::numbers))]
 fn kept_classes(types: &[u32], names: &[u32], out: &mut Types) -> Result<(), AllocError>

@@ -13,6 +13,10 @@ pub struct Room {
     pub values: Slots,
     /// The classes of such values.
     pub types: Types,
+    /// Values of operands of a second destination.
+    pub others: Slots,
+    /// The classes of values that a stack is left for, or that a client is asked for.
+    pub waits: Types,
     /// The scalars of a value that is put together.
     pub scalars: Vec<Scalar>,
 }
@@ -22,10 +26,14 @@ impl Room {
     pub fn new(alloc: Global) -> Room
         ensures values { result.values.values ≡ [] }
         ensures types { result.types.members ≡ [] }
+        ensures others { result.others.values ≡ [] }
+        ensures waits { result.waits.members ≡ [] }
     {
         Room {
             values: Slots::new(alloc),
             types: Types::new(alloc),
+            others: Slots::new(alloc),
+            waits: Types::new(alloc),
             scalars: Vec::new(alloc),
         }
     }
