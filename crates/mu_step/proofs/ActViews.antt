@@ -6,6 +6,7 @@ use Rattle.mu_values.specs.declared.scalars.Scalar.{Scalar}
 use Rattle.mu_values.specs.declared.scalars.Scalar.TheVariants.{Null}
 use Rattle.mu_values.specs.Slots.{TypedValues}
 use Rattle.code_check.specs.declared.code.Code.{Code}
+use Rattle.code_check.specs.declared.code.Form.{Form}
 use Rattle.code_check.specs.declared.code.Target.{Target}
 use Rattle.bundle_check.specs.declared.code.BlockCode.{BlockCode}
 use Rattle.bundle_check.specs.declared.code.Function.{Function}
@@ -26,7 +27,8 @@ use Rattle.mu_model.specs.Outcomes.{Outcome, Stuck}
 use Rattle.model_numbers.specs.Sources.{goal_at}
 use Rattle.model_numbers.specs.Forms.{act_at}
 use Rattle.model_numbers.specs.Numbered.{optional_goal_at, kept_at}
-use Rattle.step_forms.specs.Built.{form_is_built}
+use Rattle.step_forms.specs.Built.{form_is_built, act_is_built}
+use Rattle.step_forms.specs.declared.act.Act as made
 use Rattle.step_forms.specs.Classes.{FormIsThere, FormsAreThere}
 use Rattle.mu_step.specs.OneThread.{OneThread}
 use Rattle.mu_step.specs.Acting.{answers, went_on, acting, stepping, faulting, goes_on, gets, entered, awaited, entered_above, objects_end}
@@ -135,6 +137,11 @@ pub asked_so : {A E : Type 0} (bundle : List Item) (s : OneThread) (f : Activati
 asked_so bundle s f b i j cs vs (Ok a) act at same classes vars h =
     at.acts (act a) (ap (λ cs. act_at bundle cs f.vars i.form) (sym classes) ∙ ap (λ vs. act_at bundle cs vs i.form) (sym vars) ∙ ap (λ (i : Code). act_at bundle cs vs i.form) same ∙ h)
 asked_so bundle s f b i j cs vs (Err e) act at same classes vars h = tt
+
+-- what a form that is built asks is built too
+pub built_so : {E : Type 0} (r : Result made.Act E) (form : Form) → IfOk r (λ act. form_is_built form ≡ true → act_is_built act ≡ true) → form_is_built form ≡ true → IfOk r (λ act. act_is_built act ≡ true)
+built_so (Ok act) form h built = h built
+built_so (Err e) form h built = tt
 
 -- ---- faults
 

@@ -5,7 +5,8 @@ ghost use Rattle.frames.specs.Activations.{Value};
 ghost use Rattle.frames.specs.Chains.{stands};
 ghost use Rattle.mu_model.specs.Outcomes.{Stuck};
 ghost use Rattle.mu_model.specs.Acts as acts;
-ghost use Rattle.step_forms.specs.Asked.{asked};
+ghost use Rattle.step_forms.specs.Asked.{asked, lists_of};
+ghost use Rattle.step_forms.specs.Built.{act_is_built};
 ghost use Rattle.step_forms.specs.Classes.{ActIsThere};
 ghost use Rattle.mu_step.specs.Built.{IsBuilt};
 ghost use Rattle.mu_step.specs.OneThread.{OneThread};
@@ -129,9 +130,10 @@ impl<M: Memory> State<M> {
         requires left { self.old.left ≡ true }
         requires room { self.old.steps < self.old.budget }
         requires narrow { AreNarrow (graph_of code.now) }
-        requires classes { ActIsThere (graph_of code.now) act }
-        requires there { acting code.now self.old (asked act room.old.values.values room.old.types.members) ≢ Stuck }
-        ensures ok { IfOk result (λ end. answers end self.new ≡ acting code.now self.old (asked act room.old.values.values room.old.types.members)) }
+        requires built { act_is_built act ≡ true }
+        requires classes { ActIsThere (graph_of code.now) (lists_of room.old) act }
+        requires there { acting code.now self.old (asked act (lists_of room.old)) ≢ Stuck }
+        ensures ok { IfOk result (λ end. answers end self.new ≡ acting code.now self.old (asked act (lists_of room.old))) }
         ensures err { OnErr result (self.new ≡ self.old) }
         ensures stays { IfOk result (λ end. Stays end self.old self.new) }
     {
@@ -181,6 +183,20 @@ impl<M: Memory> State<M> {
                 out,
             ),
             Act::Fences(order) => self.fence(alloc, code, order, &mut room.values, out),
+            Act::Traps
+            | Act::Watches { .. }
+            | Act::Chooses { .. }
+            | Act::Swaps { .. }
+            | Act::Leaves { .. }
+            | Act::Starts { .. }
+            | Act::MakesStack { .. }
+            | Act::KillsStack { .. }
+            | Act::Tells
+            | Act::Exits
+            | Act::SetsOwn(_)
+            | Act::TellsOwn
+            | Act::Waits { .. }
+            | Act::Wakes { .. } => unreachable!(),
         }
     }
 
@@ -191,8 +207,9 @@ impl<M: Memory> State<M> {
         requires left { self.now.left ≡ true }
         requires room { self.now.steps < self.now.budget }
         requires there { stepping code.now self.now ≢ Stuck }
-        ensures act { IfOk result (λ act. stepping code.now self.now ≡ acting code.now self.now (asked act room.new.values.values room.new.types.members)) }
-        ensures classes { IfOk result (ActIsThere (graph_of code.now)) }
+        ensures act { IfOk result (λ act. stepping code.now self.now ≡ acting code.now self.now (asked act (lists_of room.new))) }
+        ensures classes { IfOk result (ActIsThere (graph_of code.now) (lists_of room.new)) }
+        ensures built { IfOk result (λ act. act_is_built act ≡ true) }
     {
         let _items = code.items();
         forms_are_there();

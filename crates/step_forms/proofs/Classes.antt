@@ -1,5 +1,6 @@
 -- The classes that acts name.
 use Rattle.std.proofs.Common.{◌≡◌, ℕ, ◌<◌, Bool, true, false, List, [], ◌∷◌, Option, Some, None, Result, Ok, Err, length, subst, if◌then◌else◌}
+use Rattle.std.proofs.lemmas.List.Elements.{All-nil, All-cons}
 use Rattle.std.specs.Prelude.{slice_get, IfOk}
 use Rattle.std.specs.declared.alloc.AllocError.{AllocError}
 use Rattle.demands.specs.Demands.{first_unmet}
@@ -225,12 +226,12 @@ module _ (bundle : List Item) (named : first_unmet (name_demands bundle) ≡ Non
   addressing_fits ks (finding.Getvarpartiref c l) gs h = within _ c h.0
 
   values_fit : (cs : List ℕ) → HaveValueTypes (bundle_tables bundle) cs → AreThere (bundle_tables bundle).types.definitions cs
-  values_fit [] h = tt
-  values_fit (c ∷ cs) h = ((classes_are_defined bundle named checked h.0.number c h.0.class).class.within, values_fit cs h.1)
+  values_fit [] h = All-nil (λ c. c < length (bundle_tables bundle).types.definitions)
+  values_fit (c ∷ cs) h = All-cons (λ c. c < length (bundle_tables bundle).types.definitions) c cs (classes_are_defined bundle named checked h.0.number c h.0.class).class.within (values_fit cs h.1)
 
   trapping_fits : (blocks : Blocks) (ks : List ℕ) (f : TrappingForm) (gs : List ℕ) → TrappingFits (bundle_tables bundle) blocks ks f gs → TrappingIsThere (bundle_tables bundle).types.definitions f
   trapping_fits blocks ks (asking.Trap cs) gs h = values_fit cs h.0
-  trapping_fits blocks ks (asking.Watchpoint n cs t) gs h = values_fit cs h.1.0
+  trapping_fits blocks ks (asking.Watchpoint n cs t) gs h = values_fit cs h.1
   trapping_fits blocks ks (asking.Wpbranch n t u) gs h = tt
 
   form_fits : (blocks : Blocks) (returns ks : List ℕ) (f : Form) (gs : List ℕ) → FormFits (bundle_tables bundle) blocks returns ks f gs → FormIsThere (bundle_tables bundle).types.definitions f

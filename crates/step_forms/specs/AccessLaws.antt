@@ -1,5 +1,5 @@
 -- Inner: what is there where an access of a cell is.
-use Rattle.std.specs.Prelude.{◌≡◌, ℕ, Bool, List, [], ◌∷◌, Option, Some, None, IsSome, refl}
+use Rattle.std.specs.Prelude.{◌≡◌, ℕ, Bool, Option, Some, None, IsSome, refl}
 use Rattle.std.proofs.Common.{◌⊎◌, inl, inr}
 use Rattle.mu_base.specs.declared.order.Order.{Order}
 use Rattle.mu_values.specs.declared.scalars.Scalar.{Scalar}

@@ -88,11 +88,9 @@ pub fn futex_wait(code: &Checked, vars: &Variables, location: Source, value: Sou
     requires { IsSome (futex_wait_act false (value_at code.now vars.now location) (value_at code.now vars.now value)) }
     ensures { (ls : Lists) → futex_wait_act false (value_at code.now vars.now location) (value_at code.now vars.now value) ≡ Some (asked result ls) }
 {
-    waits(
-        false,
-        scalar(code, vars, value),
-        scalar(code, vars, location),
-    )
+    let expected = scalar(code, vars, value);
+    let place = scalar(code, vars, location);
+    waits(false, expected, place)
 }
 
 /// `@uvm.futex.wait_timeout`. That there is a limit is all that matters of it.
@@ -107,11 +105,9 @@ pub fn futex_wait_timeout(
     requires { IsSome (futex_wait_timeout_act (value_at code.now vars.now location) (value_at code.now vars.now value) (value_at code.now vars.now limit)) }
     ensures { (ls : Lists) → futex_wait_timeout_act (value_at code.now vars.now location) (value_at code.now vars.now value) (value_at code.now vars.now limit) ≡ Some (asked result ls) }
 {
-    waits(
-        true,
-        scalar(code, vars, value),
-        scalar(code, vars, location),
-    )
+    let expected = scalar(code, vars, value);
+    let place = scalar(code, vars, location);
+    waits(true, expected, place)
 }
 
 /// `@uvm.futex.wake`. The number is unsigned.

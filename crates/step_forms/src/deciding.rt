@@ -283,10 +283,14 @@ fn common(code: &Checked, vars: &Variables, form: &CommonForm) -> Act
         CommonForm::SetThreadlocal { reference } => set_threadlocal(code, vars, *reference),
         CommonForm::GetThreadlocal => Act::TellsOwn,
         CommonForm::FutexWait {
-            location, value, ..
+            location,
+            value,
+            ..
         } => futex_wait(code, vars, *location, *value),
         CommonForm::FutexWake {
-            location, count, ..
+            location,
+            count,
+            ..
         } => futex_wake(code, vars, *location, *count),
         CommonForm::FutexWaitTimeout {
             location,

@@ -1,11 +1,5 @@
-use Rattle.mu_step.proofs.ActViews.{asks_at, asks_built, asks_classes, asks_same, asked_so}
+use Rattle.mu_step.proofs.ActViews.{asks_at, asks_built, asks_classes, asks_same, asked_so, built_so}
 use Rattle.mu_step.proofs.state.State.asks.Goals as goal
-
-pub decide-requires-clause-built : goal.decide-requires-clause-built
-decide-requires-clause-built g c =
-    asks_built c.args.code.now _ _ _ _ _ c.requires.built c.block-block.ensures
-    (asks_at c.args.code.now _ _ _ _ _ _ c.self.view_is c.top-top.ensures c.requires.left c.requires.room c.requires.there c.block-block.ensures c.as_slice.ensures c.index-as_slice-top.is)
-    c.index-as_slice-top.is
 
 pub decide-requires-clause-there : goal.decide-requires-clause-there
 decide-requires-clause-there g c =
@@ -24,3 +18,10 @@ returns-clause-act g c =
     asked_so c.args.code.now _ _ _ _ _ _ _ _ _
     (asks_at c.args.code.now _ _ _ _ _ _ c.self.view_is c.top-top.ensures c.requires.left c.requires.room c.requires.there c.block-block.ensures c.as_slice.ensures c.index-as_slice-top.is)
     c.index-as_slice-top.is c.as_slice-2.ensures c.of.ensures c.decide.ensures.act
+
+pub returns-clause-built : goal.returns-clause-built
+returns-clause-built g c =
+    built_so _ _ c.decide.ensures.built
+    (asks_built c.args.code.now _ _ _ _ _ c.requires.built c.block-block.ensures
+    (asks_at c.args.code.now _ _ _ _ _ _ c.self.view_is c.top-top.ensures c.requires.left c.requires.room c.requires.there c.block-block.ensures c.as_slice.ensures c.index-as_slice-top.is)
+    c.index-as_slice-top.is)
