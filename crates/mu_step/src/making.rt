@@ -81,12 +81,7 @@ pub(crate) fn remember_all<M: Memory>(
 
 /// Makes the next object of a type.
 #[tactic(auto, using(crate::specs::ObjectLaws::made_there, crate::specs::ObjectLaws::full_so))]
-fn new_object(
-    heap: &mut Heap,
-    code: &Checked,
-    class: u32,
-    making: Making,
-) -> Result<u32, HeapFault>
+fn new_object(heap: &mut Heap, code: &Checked, class: u32, making: Making) -> Result<u32, HeapFault>
     requires narrow { AreNarrow (graph_of code.now) }
     requires class { class < length (graph_of code.now) }
     ensures number { IfOk result (λ n. n ≡ length heap.old.objects) }
