@@ -84,15 +84,14 @@ answered_so (Err f) t o p h e = tt
 -- ---- the option that is picked
 
 -- what a memory and a schedule answered
-pub record Looked (s v : OneThread) (a : Access) (cell : CellId) (w : Wanted) (known : List (List Scalar)) (options n : ℕ) (k : Chosen) : Type 0 where
+pub record Looked (s v : OneThread) (a : Access) (cell : CellId) (w : Wanted) (known : List (List Scalar)) (options : ℕ) (k : Chosen) : Type 0 where
   pub view : v ≡ s
   pub knows : known ≡ initials v.objects
   pub wants : w ≡ wanted a
   pub count : options ≡ length (choices v.rule (initial_of known) v.log 0 cell w)
-  pub look : n ≡ (pick_of options (drop 0 v.picks)).0
-  pub choice : slice_get (choices v.rule (initial_of known) v.log 0 cell w) n ≡ Some k
+  pub choice : slice_get (choices v.rule (initial_of known) v.log 0 cell w) (pick_of options (drop 0 v.picks)).0 ≡ Some k
 
-module _ (bundle : List Item) (s v : OneThread) (a : Access) (cell : CellId) (w : Wanted) (known : List (List Scalar)) (options n : ℕ) (k : Chosen) (q : Looked s v a cell w known options n k) where
+module _ (bundle : List Item) (s v : OneThread) (a : Access) (cell : CellId) (w : Wanted) (known : List (List Scalar)) (options : ℕ) (k : Chosen) (q : Looked s v a cell w known options k) where
   same : choices v.rule (initial_of known) v.log 0 cell w ≡ options_of s a cell
   same =
       ap (λ known. choices v.rule (initial_of known) v.log 0 cell w) q.knows ∙ ap (λ w. choices v.rule (initial_of (initials v.objects)) v.log 0 cell w) q.wants
@@ -101,12 +100,12 @@ module _ (bundle : List Item) (s v : OneThread) (a : Access) (cell : CellId) (w 
   many : options ≡ length (options_of s a cell)
   many = q.count ∙ ap length same
 
-  number : n ≡ (pick (length (options_of s a cell)) s.picks).0
+  number : (pick_of options (drop 0 v.picks)).0 ≡ (pick (length (options_of s a cell)) s.picks).0
   number =
-      q.look ∙ ap (λ p. p.0) (pick_same options v.picks) ∙ ap (λ m. (pick m v.picks).0) many ∙ ap (λ (x : OneThread). (pick (length (options_of s a cell)) x.picks).0) q.view
+      ap (λ p. p.0) (pick_same options v.picks) ∙ ap (λ m. (pick m v.picks).0) many ∙ ap (λ (x : OneThread). (pick (length (options_of s a cell)) x.picks).0) q.view
 
   chosen : slice_get (options_of s a cell) (pick (length (options_of s a cell)) s.picks).0 ≡ Some k
-  chosen = ap (slice_get (options_of s a cell)) (sym number) ∙ ap (λ ks. slice_get ks n) (sym same) ∙ q.choice
+  chosen = ap (slice_get (options_of s a cell)) (sym number) ∙ ap (λ ks. slice_get ks (pick_of options (drop 0 v.picks)).0) (sym same) ∙ q.choice
 
   pub low : (count : ℕ) → count ≡ length v.log → count ≤ 1000000 → k.position < 4294967295
   low count e short =

@@ -16,15 +16,16 @@ use Rattle.mem_axioms.specs.declared.types.Rule.{Rule}
 use Rattle.mem_axioms.specs.declared.types.Event.{Event}
 use Rattle.mu_model.specs.declared.endings.StepEnd.{StepEnd}
 use Rattle.mu_model.specs.declared.endings.Ending.TheVariants.{HeapFull}
-use Rattle.mu_model.specs.Acts.{Act, Gives, Finds, Casts}
+use Rattle.mu_model.specs.Acts.{Gives, Finds, Casts}
 use Rattle.mu_model.specs.Objects.{cast_any}
 use Rattle.mu_model.specs.Outcomes.{Outcome, Stuck}
 use Rattle.mu_model.specs.Types.{class_definition}
+use Rattle.mu_step.specs.declared.making.Making.{Making}
 use Rattle.mu_step.specs.OneThread.{OneThread}
 use Rattle.mu_step.specs.Acting.{answers, went_on, acting, faulting, goes_on}
-use Rattle.mu_step.specs.Making.{graph_of, made, owns, owned, IsFull}
+use Rattle.mu_step.specs.Making.{graph_of, made, act_of, leaves_made, result_made, frame_made, state_made, IsFull}
 use Rattle.mu_step.specs.ActLaws.{given_there, given_is}
-use Rattle.mu_step.specs.ObjectLaws.{finds_there, casts_there, told_exact}
+use Rattle.mu_step.specs.ObjectLaws.{finds_there, casts_there, making_is, told_exact}
 
 pub finds_at : (bundle : List Item) (s v : OneThread) (way : Way) (x : Scalar) → v ≡ s → acting bundle s (Finds way x) ≢ Stuck → IsSome (find_place (graph_of bundle) v.objects (move (graph_of bundle) way) x)
 finds_at bundle s v way x view h = subst (λ (s : OneThread). IsSome (find_place (graph_of bundle) s.objects (move (graph_of bundle) way) x)) (sym view) (finds_there bundle s way x h)
@@ -52,14 +53,11 @@ there_so o p h e = λ stuck. h (e ∙ stuck)
 pub number_so : (os ps : List HeapObject) (o : HeapObject) (n : ℕ) → ps ≡ os ++ o ∷ [] → n ≡ length os → n + 1 ≡ length ps
 number_so os ps o n is number = ap (λ n. n + 1) number ∙ sym (length-append os (o ∷ [])) ∙ ap length (sym is)
 
-pub given_there_so : (bundle : List Item) (s v : OneThread) (a : Act) (cs : List ℕ) (vs : List Value) → v ≡ s → acting bundle s a ≡ acting bundle (made bundle s cs) (Gives vs) → acting bundle s a ≢ Stuck → IsSome (goes_on bundle v.frames.top vs)
-given_there_so bundle s v a cs vs view is h =
-    subst (λ (s : OneThread). IsSome (goes_on bundle s.frames.top vs)) (sym view) (given_there bundle (made bundle s cs) vs (λ stuck. h (is ∙ stuck)))
-
-pub own_there_so : (bundle : List Item) (s v : OneThread) (a : Act) (cs : List ℕ) (n : ℕ) (vs : List Value) → v ≡ s → acting bundle s a ≡ acting bundle (owned (made bundle s cs) n) (Gives vs) → acting bundle s a ≢ Stuck
-    → IsSome (goes_on bundle (owns v.frames.top n) vs)
-own_there_so bundle s v a cs n vs view is h =
-    subst (λ (s : OneThread). IsSome (goes_on bundle (owns s.frames.top n) vs)) (sym view) (given_there bundle (owned (made bundle s cs) n) vs (λ stuck. h (is ∙ stuck)))
+pub made_there : (bundle : List Item) (s v : OneThread) (t : ℕ) (m : Making) (n : ℕ) → v ≡ s → length (leaves_made (graph_of bundle) t m) ≤ v.cells → n ≡ length v.objects → acting bundle s (act_of t m) ≢ Stuck
+    → IsSome (goes_on bundle (frame_made m v.frames.top n) ((result_made m n ∷ []) ∷ []))
+made_there bundle s v t m n view enough number h =
+    given_there bundle (state_made bundle v t m n) ((result_made m n ∷ []) ∷ [])
+    (λ stuck. subst (λ (s : OneThread). acting bundle s (act_of t m) ≢ Stuck) (sym view) h (making_is bundle v t m n enough number ∙ stuck))
 
 gave_at : (bundle : List Item) (u : OneThread) (vs : List Value) (fr : Chain) → acting bundle u (Gives vs) ≢ Stuck → goes_on bundle u.frames.top vs ≡ Some fr.top → fr.below ≡ u.frames.below → went_on (record u { frames = fr }) ≡ acting bundle u (Gives vs)
 gave_at bundle u vs fr h way below =
@@ -76,28 +74,14 @@ gave_same bundle v cs os left lg rl fr objects cells log rule =
     ∙ ap (λ lg. gave_state v (v.objects ++ object_of (graph_of bundle) cs ∷ []) (v.cells - length cs) lg rl fr) log
     ∙ ap (λ rl. gave_state v (v.objects ++ object_of (graph_of bundle) cs ∷ []) (v.cells - length cs) v.log rl fr) rule
 
-pub gave_new : (bundle : List Item) (s v : OneThread) (a : Act) (cs : List ℕ) (vs : List Value) (os : List HeapObject) (left : ℕ) (lg : List Event) (rl : Rule) (fr : Chain) (o : Outcome) → v ≡ s → acting bundle s a ≡ acting bundle (made bundle s cs) (Gives vs)
-    → acting bundle s a ≢ Stuck → os ≡ v.objects ++ object_of (graph_of bundle) cs ∷ [] → left ≡ v.cells - length cs → lg ≡ v.log → rl ≡ v.rule → goes_on bundle v.frames.top vs ≡ Some fr.top → fr.below ≡ v.frames.below
-    → o ≡ went_on (gave_state v os left lg rl fr) → o ≡ acting bundle s a
-gave_new bundle s v a cs vs os left lg rl fr o view is h objects cells log rule way below e =
-    let main : acting bundle (made bundle v cs) (Gives vs) ≢ Stuck → o ≡ acting bundle (made bundle v cs) (Gives vs) =
-    λ k. e ∙ ap went_on (gave_same bundle v cs os left lg rl fr objects cells log rule) ∙ gave_at bundle (made bundle v cs) vs fr k way below in
-    subst (λ (s : OneThread). acting bundle (made bundle s cs) (Gives vs) ≢ Stuck → o ≡ acting bundle (made bundle s cs) (Gives vs)) view main (λ stuck. h (is ∙ stuck)) ∙ sym is
-
-pub gave_own : (bundle : List Item) (s v : OneThread) (a : Act) (cs : List ℕ) (n : ℕ) (vs : List Value) (os : List HeapObject) (left : ℕ) (lg : List Event) (rl : Rule) (fr : Chain) (o : Outcome) → v ≡ s
-    → acting bundle s a ≡ acting bundle (owned (made bundle s cs) n) (Gives vs) → acting bundle s a ≢ Stuck → os ≡ v.objects ++ object_of (graph_of bundle) cs ∷ [] → left ≡ v.cells - length cs → lg ≡ v.log → rl ≡ v.rule
-    → goes_on bundle (owns v.frames.top n) vs ≡ Some fr.top → fr.below ≡ v.frames.below → o ≡ went_on (gave_state v os left lg rl fr) → o ≡ acting bundle s a
-gave_own bundle s v a cs n vs os left lg rl fr o view is h objects cells log rule way below e =
-    let main : acting bundle (owned (made bundle v cs) n) (Gives vs) ≢ Stuck → o ≡ acting bundle (owned (made bundle v cs) n) (Gives vs) =
-    λ k. e ∙ ap went_on (gave_same bundle v cs os left lg rl fr objects cells log rule) ∙ gave_at bundle (owned (made bundle v cs) n) vs fr k way below in
-    subst (λ (s : OneThread). acting bundle (owned (made bundle s cs) n) (Gives vs) ≢ Stuck → o ≡ acting bundle (owned (made bundle s cs) n) (Gives vs)) view main (λ stuck. h (is ∙ stuck)) ∙ sym is
-
--- by the view of a state
-pub made_is : (bundle : List Item) (s v : OneThread) (a : Act) (cs : List ℕ) (vs : List Value) → v ≡ s → acting bundle v a ≡ acting bundle (made bundle v cs) (Gives vs) → acting bundle s a ≡ acting bundle (made bundle s cs) (Gives vs)
-made_is bundle s v a cs vs view h = subst (λ (s : OneThread). acting bundle s a ≡ acting bundle (made bundle s cs) (Gives vs)) view h
-
-pub owned_is : (bundle : List Item) (s v : OneThread) (a : Act) (cs : List ℕ) (n : ℕ) (vs : List Value) → v ≡ s → acting bundle v a ≡ acting bundle (owned (made bundle v cs) n) (Gives vs) → acting bundle s a ≡ acting bundle (owned (made bundle s cs) n) (Gives vs)
-owned_is bundle s v a cs n vs view h = subst (λ (s : OneThread). acting bundle s a ≡ acting bundle (owned (made bundle s cs) n) (Gives vs)) view h
+pub gave_made : (bundle : List Item) (s v : OneThread) (t : ℕ) (m : Making) (n : ℕ) (os : List HeapObject) (left : ℕ) (lg : List Event) (rl : Rule) (fr : Chain) (o : Outcome) → v ≡ s → length (leaves_made (graph_of bundle) t m) ≤ v.cells → n ≡ length v.objects
+    → acting bundle s (act_of t m) ≢ Stuck → os ≡ v.objects ++ object_of (graph_of bundle) (leaves_made (graph_of bundle) t m) ∷ [] → left ≡ v.cells - length (leaves_made (graph_of bundle) t m) → lg ≡ v.log → rl ≡ v.rule
+    → goes_on bundle (frame_made m v.frames.top n) ((result_made m n ∷ []) ∷ []) ≡ Some fr.top → fr.below ≡ v.frames.below → o ≡ went_on (gave_state v os left lg rl fr) → o ≡ acting bundle s (act_of t m)
+gave_made bundle s v t m n os left lg rl fr o view enough number h objects cells log rule way below e =
+    let is : acting bundle v (act_of t m) ≡ acting bundle (state_made bundle v t m n) (Gives ((result_made m n ∷ []) ∷ [])) = making_is bundle v t m n enough number in
+    let there : acting bundle v (act_of t m) ≢ Stuck = subst (λ (s : OneThread). acting bundle s (act_of t m) ≢ Stuck) (sym view) h in
+    e ∙ ap went_on (gave_same bundle v (leaves_made (graph_of bundle) t m) os left lg rl fr objects cells log rule)
+    ∙ gave_at bundle (state_made bundle v t m n) ((result_made m n ∷ []) ∷ []) fr (λ stuck. there (is ∙ stuck)) way below ∙ sym is ∙ ap (λ (s : OneThread). acting bundle s (act_of t m)) view
 
 -- where no memory is found the object is taken back
 pub back_so : (s v : OneThread) (fr : Chain) (os : List HeapObject) (left : ℕ) (lg : List Event) (rl : Rule) → v ≡ s → fr ≡ v.frames → os ≡ v.objects → left ≡ v.cells → lg ≡ v.log → rl ≡ v.rule → gave_state v os left lg rl fr ≡ s

@@ -306,5 +306,3 @@ update_integers op x y w a v b h other old by =
     ]
 
 pub ruleset accessing = (cell_there, access_is)
-
-pub ruleset fencing = (fence_there, fence_is)

@@ -3,15 +3,18 @@ use Rattle.std.specs.Prelude.{◌≡◌, ℕ, ◌-◌, ◌<◌, List, [], ◌∷
 use Rattle.ir_tree.specs.declared.items.Item.{Item}
 use Rattle.type_laws.specs.declared.definition.TypeDef.{TypeDef}
 use Rattle.mu_values.specs.declared.scalars.Scalar.{Scalar}
+use Rattle.mu_values.specs.declared.scalars.Scalar.TheVariants.{Object, Place}
 use Rattle.bundle_check.specs.Checking.{bundle_tables}
 use Rattle.typed_heap.specs.declared.faults.PlaceFault.{PlaceFault}
 use Rattle.typed_heap.specs.declared.faults.HeapFault.{HeapFault}
 use Rattle.typed_heap.specs.declared.faults.HeapFault.TheVariants as heaps
-use Rattle.typed_heap.specs.Objects.{object_of}
-use Rattle.typed_heap.specs.Heap.{told_cells}
+use Rattle.typed_heap.specs.Objects.{leaf_classes, object_of}
+use Rattle.typed_heap.specs.Heap.{hybrid_classes, told_cells}
 use Rattle.frames.specs.Activations.{Activation}
-use Rattle.mu_model.specs.Acts.{Gives, Faults}
+use Rattle.mu_model.specs.Acts.{Act, Gives, Faults, Makes, MakesHybrid, MakesOwn}
 use Rattle.mu_model.specs.Outcomes.{Outcome, case_of_fault}
+use Rattle.mu_step.specs.declared.making.Making.{Making}
+use Rattle.mu_step.specs.declared.making.Making.TheVariants as kinds
 use Rattle.mu_step.specs.OneThread.{OneThread}
 use Rattle.mu_step.specs.Acting.{acting}
 
@@ -32,11 +35,32 @@ made bundle s cs = record s { objects = s.objects ++ object_of (graph_of bundle)
 abbrev pub owns : Activation → ℕ → Activation
 owns f n = record f { objects = f.objects ++ n ∷ [] }
 
--- the thread's top frame has it
-abbrev pub owned : OneThread → ℕ → OneThread
-owned s n = record s { frames = record s.frames { top = owns s.frames.top n } }
+-- ---- how an object is made
 
--- ---- objects that are made
+abbrev pub act_of : ℕ → Making → Act
+act_of t kinds.Object = Makes t
+act_of t (kinds.Hybrid many) = MakesHybrid t many
+act_of t kinds.Own = MakesOwn t
+
+-- the classes of its leaves
+abbrev pub leaves_made : List TypeDef → ℕ → Making → List ℕ
+leaves_made types t kinds.Object = leaf_classes types t
+leaves_made types t (kinds.Hybrid many) = hybrid_classes types t many
+leaves_made types t kinds.Own = leaf_classes types t
+
+-- what the instruction has for its result
+abbrev pub result_made : Making → ℕ → Scalar
+result_made kinds.Own n = Place n 0
+result_made _ n = Object n
+
+-- the frame that made object n
+abbrev pub frame_made : Making → Activation → ℕ → Activation
+frame_made kinds.Own f n = owns f n
+frame_made _ f n = f
+
+-- the object is made, and its result not given yet
+abbrev pub state_made : List Item → OneThread → ℕ → Making → ℕ → OneThread
+state_made bundle s t m n = record (made bundle s (leaves_made (graph_of bundle) t m)) { frames = record s.frames { top = frame_made m s.frames.top n } }
 
 -- what a heap refuses that is asked for so many cells where so many are left
 abbrev pub IsFull : HeapFault → ℕ → ℕ → Type 0

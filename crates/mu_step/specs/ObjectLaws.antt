@@ -25,9 +25,11 @@ use Rattle.mu_model.specs.Objects.{cast_any, object_added, owning}
 use Rattle.mu_model.specs.Frames.{onward}
 use Rattle.mu_model.specs.Outcomes.{Outcome, Stuck, on, unless_refused, tried, or_case, case_of_fault, has_result, faulted}
 use Rattle.model_numbers.specs.Numbered.{numbered}
+use Rattle.mu_step.specs.declared.making.Making.{Making}
+use Rattle.mu_step.specs.declared.making.Making.TheVariants as kinds
 use Rattle.mu_step.specs.OneThread.{OneThread}
 use Rattle.mu_step.specs.Acting.{begun, turn, doing_of, acting, faulting, goes_on}
-use Rattle.mu_step.specs.Making.{tells, graph_of, made, owns, owned, IsFull}
+use Rattle.mu_step.specs.Making.{tells, graph_of, made, owns, act_of, leaves_made, result_made, frame_made, state_made, IsFull}
 use Rattle.mu_step.specs.StepLaws.{on_there, acting_there, acting_is}
 
 -- ---- what is found
@@ -102,27 +104,27 @@ gives_object bundle s cs d = has_result (numbered bundle) (object_added (numbere
 abbrev gives_own : List Item → OneThread → List ℕ → Doing → Outcome
 gives_own bundle s cs d = has_result (numbered bundle) (object_added (numbered bundle) (begun s) cs) (owning (turn s d) (length s.objects)) (Place (length s.objects) 0)
 
-pub makes_full : (bundle : List Item) (s : OneThread) (t : ℕ) → s.cells < length (leaves_of bundle t) → acting bundle s (Makes t) ≡ faulting bundle s (HeapFull 0 (length (leaves_of bundle t)) s.cells)
+makes_full : (bundle : List Item) (s : OneThread) (t : ℕ) → s.cells < length (leaves_of bundle t) → acting bundle s (Makes t) ≡ faulting bundle s (HeapFull 0 (length (leaves_of bundle t)) s.cells)
 unfolding asking acting faulting
 makes_full bundle s t h = ap (asking bundle s (length (leaves_of bundle t)) (gives_object bundle s (leaves_of bundle t))) (le_false (length (leaves_of bundle t)) s.cells h)
 
-pub makes_is : (bundle : List Item) (s : OneThread) (t n : ℕ) → length (leaves_of bundle t) ≤ s.cells → n ≡ length s.objects
+makes_is : (bundle : List Item) (s : OneThread) (t n : ℕ) → length (leaves_of bundle t) ≤ s.cells → n ≡ length s.objects
     → acting bundle s (Makes t) ≡ acting bundle (made bundle s (leaves_of bundle t)) (Gives ((Object n ∷ []) ∷ []))
 unfolding asking acting
 makes_is bundle s t n h e =
     ap (asking bundle s (length (leaves_of bundle t)) (gives_object bundle s (leaves_of bundle t))) (le_true (length (leaves_of bundle t)) s.cells h)
     ∙ ap (λ n. acting bundle (made bundle s (leaves_of bundle t)) (Gives ((Object n ∷ []) ∷ []))) (sym e)
 
-pub own_full : (bundle : List Item) (s : OneThread) (t : ℕ) → s.cells < length (leaves_of bundle t) → acting bundle s (MakesOwn t) ≡ faulting bundle s (HeapFull 0 (length (leaves_of bundle t)) s.cells)
+own_full : (bundle : List Item) (s : OneThread) (t : ℕ) → s.cells < length (leaves_of bundle t) → acting bundle s (MakesOwn t) ≡ faulting bundle s (HeapFull 0 (length (leaves_of bundle t)) s.cells)
 unfolding asking acting faulting
 own_full bundle s t h = ap (asking bundle s (length (leaves_of bundle t)) (gives_own bundle s (leaves_of bundle t))) (le_false (length (leaves_of bundle t)) s.cells h)
 
-pub own_is : (bundle : List Item) (s : OneThread) (t n : ℕ) → length (leaves_of bundle t) ≤ s.cells → n ≡ length s.objects
-    → acting bundle s (MakesOwn t) ≡ acting bundle (owned (made bundle s (leaves_of bundle t)) n) (Gives ((Place n 0 ∷ []) ∷ []))
+own_is : (bundle : List Item) (s : OneThread) (t n : ℕ) → length (leaves_of bundle t) ≤ s.cells → n ≡ length s.objects
+    → acting bundle s (MakesOwn t) ≡ acting bundle (state_made bundle s t kinds.Own n) (Gives ((Place n 0 ∷ []) ∷ []))
 unfolding asking acting
 own_is bundle s t n h e =
     ap (asking bundle s (length (leaves_of bundle t)) (gives_own bundle s (leaves_of bundle t))) (le_true (length (leaves_of bundle t)) s.cells h)
-    ∙ ap (λ n. acting bundle (owned (made bundle s (leaves_of bundle t)) n) (Gives ((Place n 0 ∷ []) ∷ []))) (sym e)
+    ∙ ap (λ n. acting bundle (state_made bundle s t kinds.Own n) (Gives ((Place n 0 ∷ []) ∷ []))) (sym e)
 
 hybrid_asks : List Item → ℕ → ℕ → ℕ
 hybrid_asks bundle t many = length (leaves_of bundle t) + many * length (run_classes (graph_of bundle) t)
@@ -132,19 +134,31 @@ unfolding hybrid_asks
 hybrid_length bundle t many =
     length-append (leaves_of bundle t) (times many (run_classes (graph_of bundle) t)) ∙ ap (λ (m : ℕ). length (leaves_of bundle t) + m) (times_length many (run_classes (graph_of bundle) t))
 
-pub hybrid_full : (bundle : List Item) (s : OneThread) (t many : ℕ) → s.cells < length (hybrid_of bundle t many)
+hybrid_full : (bundle : List Item) (s : OneThread) (t many : ℕ) → s.cells < length (hybrid_of bundle t many)
     → acting bundle s (MakesHybrid t many) ≡ faulting bundle s (HeapFull 0 (length (hybrid_of bundle t many)) s.cells)
 unfolding asking hybrid_asks acting faulting
 hybrid_full bundle s t many h =
     ap (asking bundle s (hybrid_asks bundle t many) (gives_object bundle s (hybrid_of bundle t many))) (le_false (hybrid_asks bundle t many) s.cells (subst (λ n. s.cells < n) (hybrid_length bundle t many) h))
     ∙ ap (λ n. faulting bundle s (HeapFull 0 n s.cells)) (sym (hybrid_length bundle t many))
 
-pub hybrid_is : (bundle : List Item) (s : OneThread) (t many n : ℕ) → length (hybrid_of bundle t many) ≤ s.cells → n ≡ length s.objects
+hybrid_is : (bundle : List Item) (s : OneThread) (t many n : ℕ) → length (hybrid_of bundle t many) ≤ s.cells → n ≡ length s.objects
     → acting bundle s (MakesHybrid t many) ≡ acting bundle (made bundle s (hybrid_of bundle t many)) (Gives ((Object n ∷ []) ∷ []))
 unfolding asking hybrid_asks acting
 hybrid_is bundle s t many n h e =
     ap (asking bundle s (hybrid_asks bundle t many) (gives_object bundle s (hybrid_of bundle t many))) (le_true (hybrid_asks bundle t many) s.cells (subst (λ n. n ≤ s.cells) (hybrid_length bundle t many) h))
     ∙ ap (λ n. acting bundle (made bundle s (hybrid_of bundle t many)) (Gives ((Object n ∷ []) ∷ []))) (sym e)
+
+pub making_full : (bundle : List Item) (s : OneThread) (t : ℕ) (m : Making) → s.cells < length (leaves_made (graph_of bundle) t m)
+    → acting bundle s (act_of t m) ≡ faulting bundle s (HeapFull 0 (length (leaves_made (graph_of bundle) t m)) s.cells)
+making_full bundle s t kinds.Object h = makes_full bundle s t h
+making_full bundle s t (kinds.Hybrid many) h = hybrid_full bundle s t many h
+making_full bundle s t kinds.Own h = own_full bundle s t h
+
+pub making_is : (bundle : List Item) (s : OneThread) (t : ℕ) (m : Making) (n : ℕ) → length (leaves_made (graph_of bundle) t m) ≤ s.cells → n ≡ length s.objects
+    → acting bundle s (act_of t m) ≡ acting bundle (state_made bundle s t m n) (Gives ((result_made m n ∷ []) ∷ []))
+making_is bundle s t kinds.Object n h e = makes_is bundle s t n h e
+making_is bundle s t (kinds.Hybrid many) n h e = hybrid_is bundle s t many n h e
+making_is bundle s t kinds.Own n h e = own_is bundle s t n h e
 
 -- ---- what a heap answers
 
@@ -192,7 +206,7 @@ unfolding passes
 owns_passes true o f n vs h = refl
 owns_passes false o f n vs h = owns_there_by o f n (f.vars ++ vs) h
 
-pub owns_there : (bundle : List Item) (f : Activation) (n : ℕ) (vs : List Value) → IsSome (goes_on bundle (owns f n) vs) → IsSome (goes_on bundle f vs)
+owns_there : (bundle : List Item) (f : Activation) (n : ℕ) (vs : List Value) → IsSome (goes_on bundle (owns f n) vs) → IsSome (goes_on bundle f vs)
 unfolding goes_on passes
 owns_there bundle f n vs h = owns_passes f.fresh ((numbered bundle).going_on f.block f.at (f.vars ++ vs)) f n vs h
 
@@ -217,6 +231,19 @@ owned_passes true o f n block at vs out h =
     ap Some (stands_same f (stands f f.block 0 vs) block at out n is)
 owned_passes false o f n block at vs out h = owned_by o f n block at (f.vars ++ vs) out h
 
-pub owns_goes : (bundle : List Item) (f : Activation) (n block at : ℕ) (vs out : List Value) → goes_on bundle f vs ≡ Some (stands f block at out) → goes_on bundle (owns f n) vs ≡ Some (stands (owns f n) block at out)
+owns_goes : (bundle : List Item) (f : Activation) (n block at : ℕ) (vs out : List Value) → goes_on bundle f vs ≡ Some (stands f block at out) → goes_on bundle (owns f n) vs ≡ Some (stands (owns f n) block at out)
 unfolding goes_on passes
 owns_goes bundle f n block at vs out h = owned_passes f.fresh ((numbered bundle).going_on f.block f.at (f.vars ++ vs)) f n block at vs out h
+
+pub frame_there : (bundle : List Item) (f : Activation) (m : Making) (n : ℕ) (vs : List Value) → IsSome (goes_on bundle (frame_made m f n) vs) → IsSome (goes_on bundle f vs)
+frame_there bundle f kinds.Own n vs h = owns_there bundle f n vs h
+frame_there bundle f kinds.Object n vs h = h
+frame_there bundle f (kinds.Hybrid many) n vs h = h
+
+pub frame_goes : (bundle : List Item) (f : Activation) (m : Making) (n block at : ℕ) (vs out : List Value) → goes_on bundle f vs ≡ Some (stands f block at out)
+    → goes_on bundle (frame_made m f n) vs ≡ Some (stands (frame_made m f n) block at out)
+frame_goes bundle f kinds.Own n block at vs out h = owns_goes bundle f n block at vs out h
+frame_goes bundle f kinds.Object n block at vs out h = h
+frame_goes bundle f (kinds.Hybrid many) n block at vs out h = h
+
+pub ruleset frames_made = (frame_there, frame_goes)

@@ -1,14 +1,17 @@
 // Accesses of memory, and fences.
-ghost use Rattle.std.specs.Prelude.{◌≡◌, ◌≢◌, suc, ◌<◌, [], ◌∷◌, IsSome, Some, IfOk, OnOk, OnErr, true};
+ghost use Rattle.std.specs.Prelude.{◌≡◌, ◌≢◌, suc, ◌+◌, ◌<◌, [], ◌∷◌, IsSome, IsNone, Some, None, MatchOption, IfOk, OnOk, OnErr, length, slice_get, drop, true};
 ghost use Rattle.mem_axioms.specs.declared.types.Mode.TheVariants.{Read};
 ghost use Rattle.mem_axioms.specs.declared.types.Kind.TheVariants as kinds;
-ghost use Rattle.mem_axioms.specs.Objects.{HasCell};
-ghost use Rattle.mem_axioms.specs.EventFits.{EventFits};
+ghost use Rattle.mem_axioms.specs.Objects.{HasCell, initial_of};
+ghost use Rattle.mem_axioms.specs.Choices.{choices};
+ghost use Rattle.mem_axioms.specs.Races.{race};
+ghost use Rattle.mem_axioms.specs.EventFits.{EventFits, is_thread};
 ghost use Rattle.mem_axioms.specs.Rooms.{HasRoom};
 ghost use Rattle.mu_model.specs.declared.lines.Line.TheVariants as written;
 ghost use Rattle.mu_model.specs.Acts as acts;
 ghost use Rattle.mu_model.specs.Accesses.{wanted, updated, kind_of, access_results};
 ghost use Rattle.mu_model.specs.Changes.{pick};
+ghost use Rattle.mu_threads.specs.Picks.{pick as pick_of};
 ghost use Rattle.mu_model.specs.Outcomes.{Stuck};
 ghost use Rattle.frames.specs.Chains.{stands};
 ghost use Rattle.step_forms.specs.Asked.{access_of};
@@ -25,6 +28,7 @@ use heap_cells::CellId;
 use mem_axioms::{Chosen, Event, Kind, Memory, Mode, Race, Wanted};
 use mu_base::{Order, Steps};
 use mu_model::{Case, Ending, Line, Lines, Raced, StepEnd};
+use mu_threads::Schedule;
 use mu_values::{Scalar, Slots, UpdateOp};
 use std::alloc::{AllocError, Global};
 use std::marker::Brand;
@@ -152,6 +156,49 @@ fn line_of(alloc: Global, number: u32, event: Event) -> Result<Lines, AllocError
     Ok(lines)
 }
 
+/// How many options an access of a cell has, and the one that is picked.
+fn option_picked<M: Memory, L: Ledger>(
+    memory: &M,
+    picks: &Schedule,
+    cell: CellId,
+    wanted: &Wanted,
+    blank: Blank,
+) -> (u32, Chosen)
+    requires name { blank.name ≡ L.name }
+    requires parts { blank.parts ≡ L.parts }
+    requires one { L.parts ≡ 1 }
+    requires thread { is_thread (M.log memory.now) 0 ≡ true }
+    requires cell { HasCell (M.objects memory.now) cell }
+    requires events { length (M.log memory.now) + 1 < 4294967295 }
+    ensures count { result.0 ≡ length (choices (M.rule memory.now) (initial_of (M.objects memory.now)) (M.log memory.now) 0 cell wanted.now) }
+    ensures some { 0 < result.0 }
+    ensures option { slice_get (choices (M.rule memory.now) (initial_of (M.objects memory.now)) (M.log memory.now) 0 cell wanted.now) (pick_of result.0 (drop 0 picks.now)).0 ≡ Some result.1 }
+{
+    let mut counter = Steps::<L>::new(blank);
+    let options = memory.options(0, cell, wanted, &mut counter);
+    let picked = picks.look(0, options);
+    let chosen = memory.choose(0, cell, wanted, picked, &mut counter);
+    (options, chosen)
+}
+
+/// A memory gets an event; where it races, that is the answer, and the memory is as before.
+fn commit<M: Memory, L: Ledger>(memory: &mut M, event: Event, blank: Blank) -> Option<Race>
+    requires name { blank.name ≡ L.name }
+    requires parts { blank.parts ≡ L.parts }
+    requires one { L.parts ≡ 1 }
+    requires fits { EventFits (M.rule memory.old) (M.objects memory.old) (M.log memory.old) event }
+    requires room { HasRoom (M.room memory.old) event }
+    requires count { length (M.log memory.old) + 1 < 4294967295 }
+    ensures race { MatchOption result (race (M.rule memory.old) (M.log memory.old) event ≡ None) (λ found. race (M.rule memory.old) (M.log memory.old) event ≡ Some found.earlier) }
+    ensures added { IsNone result → M.log memory.new ≡ event ∷ M.log memory.old }
+    ensures raced { IsSome result → M.log memory.new ≡ M.log memory.old }
+    ensures same_objects { M.objects memory.new ≡ M.objects memory.old }
+    ensures same_rule { M.rule memory.new ≡ M.rule memory.old }
+{
+    let mut counter = Steps::<L>::new(blank);
+    memory.commit(event, &mut counter)
+}
+
 impl<M: Memory> State<M> {
     /// The thread accesses a cell.
     #[tactic(auto, using(crate::specs::AccessLaws::accessing))]
@@ -179,14 +226,14 @@ impl<M: Memory> State<M> {
         match self.heap.cell_of(place) {
             Ok(cell) => {
                 let _cells = self.heap.size(cell.object);
-                self.access_cell::<Brand>(alloc, code, access, cell, values, out, Blank::new(1))
+                self.access_cell(alloc, code, access, cell, values, out)
             }
             Err(fault) => self.refuse(alloc, code, case_of(fault), out),
         }
     }
 
     /// The thread accesses a cell that is there.
-    fn access_cell<L: Ledger>(
+    fn access_cell(
         &mut self,
         alloc: Global,
         code: &Checked,
@@ -194,11 +241,7 @@ impl<M: Memory> State<M> {
         cell: CellId,
         values: &mut Slots,
         out: &mut Slots,
-        blank: Blank,
     ) -> Result<StepEnd, AllocError>
-        requires name { blank.name ≡ L.name }
-        requires parts { blank.parts ≡ L.parts }
-        requires one { L.parts ≡ 1 }
         requires left { self.old.left ≡ true }
         requires room { self.old.steps < self.old.budget }
         requires cell { HasCell (initials self.old.objects) cell }
@@ -207,18 +250,20 @@ impl<M: Memory> State<M> {
         ensures err { OnErr result (self.new ≡ self.old) }
         ensures stays { IfOk result (λ end. Stays end self.old self.new) }
     {
-        let mut counter = Steps::<L>::new(blank);
-        let wanted = wanted(access);
-        let options = self.memory.options(0, cell, &wanted, &mut counter);
-        let picked = self.picks.look(0, options);
-        let chosen = self.memory.choose(0, cell, &wanted, picked, &mut counter);
+        let (options, chosen) = option_picked::<M, Brand>(
+            &self.memory,
+            &self.picks,
+            cell,
+            &wanted(access),
+            Blank::new(1),
+        );
         let event = Event {
             thread: 0,
             kind: kind_of(access, cell, chosen),
         };
         write_results(access, chosen, values)?;
         let place = passing(code, self.frames.top(), values, out)?;
-        self.log(alloc, event, Some(cell), options, place, out, &mut counter)
+        self.log(alloc, event, Some(cell), options, place, out)
     }
 
     /// The ending of a run whose last event races.
@@ -240,7 +285,7 @@ impl<M: Memory> State<M> {
 
     /// The thread's event is logged, and it goes on at a place, with the values in the list for its variables; a pick among so many
     /// options is taken. Where the event races that is the ending.
-    fn log<L: Ledger>(
+    fn log(
         &mut self,
         alloc: Global,
         event: Event,
@@ -248,7 +293,6 @@ impl<M: Memory> State<M> {
         options: u32,
         place: Place,
         out: &mut Slots,
-        counter: &mut Steps<L>,
     ) -> Result<StepEnd, AllocError>
         requires left { self.old.left ≡ true }
         requires room { self.old.steps < self.old.budget }
@@ -261,7 +305,7 @@ impl<M: Memory> State<M> {
     {
         let lines = line_of(alloc, self.events, event)?;
         self.memory.reserve(0, cell, 1)?;
-        match self.memory.commit(event, counter) {
+        match commit::<M, Brand>(&mut self.memory, event, Blank::new(1)) {
             Some(race) => Ok(ended(alloc, self.race_ending(event, race))),
             None => {
                 stand(&mut self.frames, place, out);
@@ -274,7 +318,6 @@ impl<M: Memory> State<M> {
     }
 
     /// The thread passes a fence.
-    #[tactic(auto, using(crate::specs::AccessLaws::fencing))]
     pub(crate) fn fence(
         &mut self,
         alloc: Global,
@@ -290,36 +333,12 @@ impl<M: Memory> State<M> {
         ensures err { OnErr result (self.new ≡ self.old) }
         ensures stays { IfOk result (λ end. Stays end self.old self.new) }
     {
-        self.fence_counted::<Brand>(alloc, code, order, values, out, Blank::new(1))
-    }
-
-    /// The same with a counter of the looks at memory.
-    fn fence_counted<L: Ledger>(
-        &mut self,
-        alloc: Global,
-        code: &Checked,
-        order: Order,
-        values: &mut Slots,
-        out: &mut Slots,
-        blank: Blank,
-    ) -> Result<StepEnd, AllocError>
-        requires name { blank.name ≡ L.name }
-        requires parts { blank.parts ≡ L.parts }
-        requires one { L.parts ≡ 1 }
-        requires left { self.old.left ≡ true }
-        requires room { self.old.steps < self.old.budget }
-        requires there { acting code.now self.old (acts.Fences order) ≢ Stuck }
-        ensures ok { IfOk result (λ end. answers end self.new ≡ acting code.now self.old (acts.Fences order)) }
-        ensures err { OnErr result (self.new ≡ self.old) }
-        ensures stays { IfOk result (λ end. Stays end self.old self.new) }
-    {
-        let mut counter = Steps::<L>::new(blank);
         let event = Event {
             thread: 0,
             kind: Kind::Fence { order },
         };
         values.clear();
         let place = passing(code, self.frames.top(), values, out)?;
-        self.log(alloc, event, None, 1, place, out, &mut counter)
+        self.log(alloc, event, None, 1, place, out)
     }
 }

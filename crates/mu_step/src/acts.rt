@@ -15,6 +15,7 @@ ghost use Rattle.mu_step.specs.Acting.{answers, went_on, acting, stepping};
 ghost use Rattle.mu_step.specs.Making.{graph_of};
 
 use crate::flow::{passing, push_on_top, stand};
+use crate::making::Making;
 use crate::state::{State, ended};
 use bundle_check::Checked;
 use bundle_facts::widths_are_narrow;
@@ -137,52 +138,25 @@ impl<M: Memory> State<M> {
         ensures err { OnErr result (self.new ≡ self.old) }
         ensures stays { IfOk result (λ end. Stays end self.old self.new) }
     {
+        let values = &mut room.values;
         match act {
-            Act::Gives(scalar) => self.give_scalar(alloc, code, scalar, &mut room.values, out),
-            Act::GivesValues => self.give(alloc, code, &room.values, out),
+            Act::Gives(scalar) => self.give_scalar(alloc, code, scalar, values, out),
+            Act::GivesValues => self.give(alloc, code, values, out),
             Act::Faults(case) => self.refuse(alloc, code, case, out),
-            Act::Goes { block } => Ok(self.go(alloc, block, &mut room.values)),
-            Act::Calls { function } => self.call(alloc, code, function, &mut room.values),
-            Act::Replaces { function } => {
-                Ok(self.call_in_place(alloc, code, function, &mut room.values))
-            }
+            Act::Goes { block } => Ok(self.go(alloc, block, values)),
+            Act::Calls { function } => self.call(alloc, code, function, values),
+            Act::Replaces { function } => Ok(self.call_in_place(alloc, code, function, values)),
             Act::Returns => self.give_back(alloc, code, room, out),
             Act::Throws(exception) => self.throw(alloc, code, exception, out),
-            Act::Casts { class, scalar } => self.cast(
-                alloc,
-                code,
-                class,
-                scalar,
-                &mut room.values,
-                out,
-            ),
-            Act::Finds { way, scalar } => self.find(
-                alloc,
-                code,
-                way,
-                scalar,
-                &mut room.values,
-                out,
-            ),
-            Act::Makes { class } => self.make(alloc, code, class, &mut room.values, out),
-            Act::MakesHybrid { class, many } => self.make_hybrid(
-                alloc,
-                code,
-                class,
-                many,
-                &mut room.values,
-                out,
-            ),
-            Act::MakesOwn { class } => self.make_own(alloc, code, class, &mut room.values, out),
-            Act::Accesses { access, cell } => self.access(
-                alloc,
-                code,
-                access,
-                cell,
-                &mut room.values,
-                out,
-            ),
-            Act::Fences(order) => self.fence(alloc, code, order, &mut room.values, out),
+            Act::Casts { class, scalar } => self.cast(alloc, code, class, scalar, values, out),
+            Act::Finds { way, scalar } => self.find(alloc, code, way, scalar, values, out),
+            Act::Makes { class } => self.make(alloc, code, class, Making::Object, values, out),
+            Act::MakesHybrid { class, many } => {
+                self.make(alloc, code, class, Making::Hybrid { many }, values, out)
+            }
+            Act::MakesOwn { class } => self.make(alloc, code, class, Making::Own, values, out),
+            Act::Accesses { access, cell } => self.access(alloc, code, access, cell, values, out),
+            Act::Fences(order) => self.fence(alloc, code, order, values, out),
             Act::Traps
             | Act::Watches { .. }
             | Act::Chooses { .. }

@@ -1,5 +1,5 @@
 use Rattle.mu_step.proofs.AccessViews.{fence_goes_there, fenced}
-use Rattle.mu_step.proofs.state.State.fence_counted.Goals as goal
+use Rattle.mu_step.proofs.state.State.fence.Goals as goal
 
 pub passing-requires : goal.passing-requires
 passing-requires g c = fence_goes_there c.args.code.now c.args.self.now _ c.args.order _ _ c.self.view_is c.requires.there c.top.ensures c.clear.ensures.values
