@@ -81,7 +81,7 @@ global_place bundle names checked w same n c e =
     some_is _ (λ d. DefinitionFits (type_graph p) w d (Place n 0)) (types.Iref refers.target) refers.definition
     (some_is (slice_get w.objects n) (λ o. place_fits (type_graph p) refers.target o 0 ≡ true) made there (place_first (type_graph p) refers.target made (fits_alone (type_graph p) refers.target)))
 
-pub no_entries : (p : Tables) (k : Client) → k.entries ≡ [] → ClientFits p k
+no_entries : (p : Tables) (k : Client) → k.entries ≡ [] → ClientFits p k
 no_entries p k e w globals = subst (λ (es : List ScriptEntry). All (λ (e : ScriptEntry). EntryFits (type_graph p) w e.reply) es) (sym e) (All-nil (λ (e : ScriptEntry). EntryFits (type_graph p) w e.reply))
 
 pub plain_fits : (bundle : List Item) → first_unmet (name_demands bundle) ≡ None → first_unmet (check_demands bundle) ≡ None → (s : Setting) → IsPlain bundle s →
