@@ -1,8 +1,7 @@
 -- What a script makes of an accepted text is what a run may begin with.
-use Rattle.std.proofs.Common.{◌≡◌, ℕ, List, [], Some, None, IsSomeAnd, slice_get, refl, sym, subst}
+use Rattle.std.proofs.Common.{◌≡◌, ℕ, List, [], None, slice_get, refl, sym, subst}
 use Rattle.std.specs.List.{All}
 use Rattle.demands.specs.Demands.{first_unmet}
-use Rattle.demands.specs.Names.{Names, found}
 use Rattle.ir_tree.specs.declared.items.Item.{Item}
 use Rattle.mu_values.specs.declared.scalars.Scalar.TheVariants.{Place}
 use Rattle.bundle_names.specs.Naming.{name_demands}
@@ -12,17 +11,13 @@ use Rattle.bundle_facts.proofs.Accepted as facts
 use Rattle.typed_heap.specs.Objects.{HeapObject}
 use Rattle.typed_heap.specs.Laws.{ObjectFits, KeepsLeaves}
 use Rattle.typed_heap.proofs.Fitted.{some_and, scalar_grows}
-use Rattle.hail_load.specs.declared.parts.Made.{Made}
-use Rattle.hail_load.specs.declared.tree.Command.{Command}
 use Rattle.hail_load.specs.Code.{Code, code_of}
-use Rattle.hail_load.specs.Fitting.{Store}
 use Rattle.hail_load.proofs.Knowing.{is_known}
 use Rattle.mu_model.specs.Types.{type_graph}
-use Rattle.mu_model.specs.Run.{Setting, global_objects}
-use Rattle.model_laws.specs.Values.{HasGlobals}
+use Rattle.mu_model.specs.Run.{global_objects}
 use Rattle.typed_programs.specs.Laws.{SettingFits}
 use Rattle.typed_programs.proofs.Running.{plain_fits}
-use Rattle.loaded_programs.specs.Laws.{LoadedSettingFits, ScriptsBeginWithGlobals, LoadedSettingsFit, loaded_objects}
+use Rattle.loaded_programs.specs.Laws.{LoadedSettingFits, ScriptsBeginWithGlobals, LoadedSettingsFit}
 use Rattle.loaded_programs.proofs.Globals.{begins_with_globals}
 use Rattle.loaded_programs.proofs.Sources.{Lawful, world_of}
 use Rattle.loaded_programs.proofs.Loading.{IsSound, grown, load_sound}

@@ -1,5 +1,5 @@
 -- The objects of the globals have the leaves of their types.
-use Rattle.std.proofs.Common.{◌≡◌, ℕ, ◌+◌, ◌<◌, Bool, true, false, nat_lt, List, [], ◌∷◌, length, map, Option, Some, None, slice_get, if◌then◌else◌, refl, sym, ap, ◌∙◌}
+use Rattle.std.proofs.Common.{◌≡◌, ℕ, ◌+◌, Bool, true, false, nat_lt, List, [], ◌∷◌, length, map, Option, Some, None, slice_get, if◌then◌else◌, refl, sym, ap, ◌∙◌}
 use Rattle.demands.specs.Demands.{AllMet, first_unmet}
 use Rattle.demands.proofs.Meeting.{all_met}
 use Rattle.ir_tree.specs.declared.items.Item.{Item}
@@ -9,7 +9,6 @@ use Rattle.type_laws.specs.declared.definition.TypeDef.TheVariants.{Int, Struct,
 use Rattle.type_laws.specs.Class.{class_of}
 use Rattle.mu_types.specs.Graph.{Table}
 use Rattle.bundle_names.specs.Naming.{name_demands}
-use Rattle.bundle_names.specs.Globals.{globals_of}
 use Rattle.check_tables.specs.declared.tables.Tables.{Tables}
 use Rattle.check_tables.specs.Types.{class_like, definition_at, definition_in, is_type_there, iref_at, iref_in, class_at, class_in}
 use Rattle.check_tables.specs.Lookups.{or_zero, type_named, leaves_named}
@@ -20,12 +19,10 @@ use Rattle.bundle_check.specs.Answers.{global_classes}
 use Rattle.bundle_check.specs.Checking.{bundle_tables, check_demands}
 use Rattle.typed_heap.specs.Objects.{HeapObject, leaf_classes, object_of}
 use Rattle.mu_model.specs.Types.{class_definition}
-use Rattle.mu_model.specs.Run.{target_leaves, global_objects}
+use Rattle.mu_model.specs.Run.{target_leaves}
 use Rattle.bundle_facts.proofs.Completed.{IsComplete, is_complete}
 use Rattle.bundle_facts.proofs.References.{iref_refers}
 use Rattle.bundle_facts.proofs.Shapes.{class_leaves, class_within, class_own}
-use Rattle.hail_load.specs.Code.{code_of}
-use Rattle.hail_load.specs.LoadAnswers.{AreGlobals}
 use Rattle.loaded_programs.specs.Laws.{BeginsWithGlobals}
 
 sized_is_type : (d : Option TypeDef) → is_sized d ≡ true → is_type_there d ≡ true

@@ -1,14 +1,13 @@
 -- What commands make fits.
-use Rattle.std.proofs.Common.{◌≡◌, ◌⊎◌, inl, inr, ℕ, zero, suc, ◌+◌, ◌<◌, Bool, true, false, nat_le, List, [], ◌∷◌, ◌++◌, length, map, take, drop, Option, Some, None, IsSomeAnd, Result, Ok, Err, slice_get, option_map, if◌then◌else◌, refl, sym, ap, subst, ◌∙◌, arith}
+use Rattle.std.proofs.Common.{◌≡◌, inl, inr, ℕ, ◌+◌, ◌<◌, Bool, true, false, nat_le, List, [], ◌∷◌, ◌++◌, length, take, drop, Option, Some, None, IsSomeAnd, Ok, Err, slice_get, option_map, if◌then◌else◌, refl, sym, ap, subst, ◌∙◌, arith}
 use Rattle.std.specs.Prelude.{slice_set}
 use Rattle.std.specs.List.{All, flat_map}
 use Rattle.std.proofs.lemmas.List.{append-nil}
 use Rattle.std.proofs.lemmas.List.Concat.{flat_map-cons}
 use Rattle.std.proofs.lemmas.List.Elements.{All-nil, All-cons, All-append, All-weaker, All-set}
-use Rattle.std.proofs.lemmas.Option.{slice_get-map, slice_get_within}
-use Rattle.demands.specs.declared.fault.Fault.{Fault}
+use Rattle.std.proofs.lemmas.Option.{slice_get-map}
 use Rattle.demands.specs.declared.fault.Fault.TheVariants.{At}
-use Rattle.demands.specs.Names.{Names, added, found}
+use Rattle.demands.specs.Names.{found}
 use Rattle.bundle_laws.proofs.Bodies.{found_added}
 use Rattle.bundle_constants.proofs.Members.{holds_at}
 use Rattle.type_laws.specs.declared.definition.TypeDef.{TypeDef}
@@ -22,10 +21,9 @@ use Rattle.typed_heap.specs.Objects.{HeapObject, leaf_classes, object_of}
 use Rattle.typed_heap.specs.Fits.{World, ScalarsFit}
 use Rattle.typed_heap.specs.Laws.{ObjectFits, KeepsLeaves, Grows}
 use Rattle.typed_heap.proofs.Fitted.{has, some_and, object_fits, hybrid_fits, scalars_grow, added_keeps, set_keeps}
-use Rattle.hail_load.specs.declared.fault.LoadKind.{LoadKind}
 use Rattle.hail_load.specs.declared.fault.LoadKind.TheVariants.{WrongType, HeapFull}
 use Rattle.hail_load.specs.declared.parts.Part.{Part}
-use Rattle.hail_load.specs.declared.parts.Part.TheVariants.{Value, Hybrid, Elements}
+use Rattle.hail_load.specs.declared.parts.Part.TheVariants.{Value, Hybrid}
 use Rattle.hail_load.specs.declared.parts.Spot.{Spot}
 use Rattle.hail_load.specs.declared.parts.Made.{Made}
 use Rattle.hail_load.specs.declared.tree.Root.{Root}

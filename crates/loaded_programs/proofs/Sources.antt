@@ -1,6 +1,6 @@
 -- A source that is no list is scalars that fit the leaves of the type that it is judged for.
-use Rattle.std.proofs.Common.{◌≡◌, ℕ, ◌<◌, ◌^◌, Bool, true, false, List, [], ◌∷◌, length, map, Option, Some, None, IsSomeAnd, Result, Ok, Err, slice_get, slice_index_or, if◌then◌else◌, refl, sym, ap, subst, ◌∙◌, arith}
-use Rattle.std.specs.Prelude.{ℤ, pos, neg_ℤ}
+use Rattle.std.proofs.Common.{◌≡◌, ℕ, ◌<◌, ◌^◌, Bool, true, false, List, [], ◌∷◌, length, Option, Some, None, IsSomeAnd, Result, Ok, Err, slice_get, slice_index_or, if◌then◌else◌, refl, sym, ap, subst, ◌∙◌}
+use Rattle.std.specs.Prelude.{pos, neg_ℤ}
 use Rattle.std.specs.List.{All}
 use Rattle.std.proofs.lemmas.Bool.{eqb-true}
 use Rattle.std.proofs.lemmas.List.Elements.{All-head}
@@ -16,15 +16,15 @@ use Rattle.type_laws.specs.Class.{class_of}
 use Rattle.type_laws.specs.Scalars.{is_scalar}
 use Rattle.type_laws.proofs.Depth.{args_within}
 use Rattle.mu_values.specs.declared.scalars.Scalar.{Scalar}
-use Rattle.mu_values.specs.declared.scalars.Scalar.TheVariants.{Int, Null, Object, Place, Func, Stack, Thread}
+use Rattle.mu_values.specs.declared.scalars.Scalar.TheVariants.{Int, Null, Object, Place, Func}
 use Rattle.mu_values.specs.Constants.{width_of, is_reference, number_bits, fits as fits_width}
 use Rattle.mu_values.proofs.Widths.{bits_below}
 use Rattle.ir_lex.specs.declared.name.Numeral.{Numeral}
 use Rattle.bundle_names.specs.declared.globals.Sort.{Sort}
 use Rattle.bundle_names.specs.declared.globals.Sort.TheVariants as sorts
 use Rattle.typed_heap.specs.Objects.{HeapObject, leaf_classes}
-use Rattle.typed_heap.specs.Fits.{World, DefinitionFits, ScalarFits, ScalarsFit, ValueFits, fits, place_fits}
-use Rattle.typed_heap.proofs.Fitted.{Has, has, some_and}
+use Rattle.typed_heap.specs.Fits.{World, DefinitionFits, ScalarsFit, ValueFits, fits, place_fits}
+use Rattle.typed_heap.proofs.Fitted.{has, some_and}
 use Rattle.bundle_facts.specs.Facts.{AreShaped, LeavesAreOfParts}
 use Rattle.bundle_facts.proofs.Shapes.{class_shape, class_within, class_own, class_leaves, class_fits, class_place_fits}
 use Rattle.hail_load.specs.declared.fault.LoadKind.{LoadKind}
@@ -36,7 +36,7 @@ use Rattle.hail_load.specs.declared.parts.Spot.{Spot}
 use Rattle.hail_load.specs.FitLaws.{is_found}
 use Rattle.hail_load.specs.Code.{Code}
 use Rattle.hail_load.specs.Fitting.{Store, refers, is_class, is_iref, where_fits, number_scalars, named_scalars, object_scalars, place_scalars, next_indexes, scalars_of}
-use Rattle.hail_load.specs.Parts.{target_spot, ◌>>=◌}
+use Rattle.hail_load.specs.Parts.{target_spot}
 use Rattle.hail_load.proofs.Referring.{refers_where_it_fits}
 
 -- what is known of the code of an accepted bundle
