@@ -1,4 +1,4 @@
--- A function that may be entered takes nothing and has a body, so a plain run of it begins.
+-- A function that may be entered takes nothing and has a body, so a run of it begins.
 use Rattle.std.proofs.Common.{◌≡◌, refl, ◌∙◌, subst, ℕ, Bool, true, false, List, [], ◌∷◌, Option, Some, None, slice_get, if◌then◌else◌}
 use Rattle.std.specs.Prelude.{is_some, Ok, Err}
 use Rattle.ir_tree.specs.declared.items.Item.{Item}
@@ -13,8 +13,9 @@ use Rattle.mu_model.specs.Configuration.{Configuration}
 use Rattle.mu_model.specs.Programs.{named}
 use Rattle.mu_model.specs.Run.{Setting, first_configuration, begins_in}
 use Rattle.model_numbers.proofs.Functions.{body_same}
+use Rattle.typed_programs.proofs.Running.{runs_have_an_ending}
 use Rattle.text_programs.specs.Laws.{EnteredRunsHaveAnEnding}
-use Rattle.text_programs.proofs.Texts.{runs_of_texts_have_an_ending}
+use Rattle.text_programs.proofs.Texts.{read_have_blocks}
 
 -- ---- what the answer to an entry tells
 
@@ -56,7 +57,7 @@ pub nothing_is_taken : (bundle : List Item) (name : List ℕ) (n : ℕ) → entr
 nothing_is_taken bundle name n entered = told _ (may_be bundle (function_number (find bundle name)) n entered).takes
 
 pub entered_runs_have_an_ending : EnteredRunsHaveAnEnding
-entered_runs_have_an_ending bytes bundle read names checked s name n plain entered =
+entered_runs_have_an_ending bytes bundle read names checked s name n fits entered =
     let m = may_be bundle (function_number (find bundle name)) n entered in
     let c = begun bundle s n m in
-    (rw c.1 refl, runs_of_texts_have_an_ending bytes bundle read names checked s n c.0 plain (told _ m.takes) c.1)
+    (rw c.1 refl, runs_have_an_ending bundle names checked (read_have_blocks bytes bundle read) s n c.0 (record { setting = fits; takes = told _ m.takes }) c.1)

@@ -1,21 +1,18 @@
--- Each moment of a plain run is well typed, so its log is sound and its step has a rule.
-use Rattle.std.proofs.Common.{◌≡◌, ℕ, List, [], Some, refl, sym, subst}
-use Rattle.std.specs.Prelude.{◌≢◌, Ok}
-use Rattle.ir_tree.specs.declared.items.Item.{Item}
-use Rattle.bundle_check.specs.Checking.{bundle_tables}
-use Rattle.bundle_check.specs.Answers.{find, function_number, entry}
+-- Each moment of a run is well typed, so its log is sound and its step has a rule.
+use Rattle.std.proofs.Common.{subst}
+use Rattle.std.specs.Prelude.{◌≢◌}
 use Rattle.mu_model.specs.Configuration.{Configuration}
 use Rattle.mu_model.specs.Acts.{Program}
-use Rattle.mu_model.specs.Outcomes.{Outcome, Next, Stuck}
+use Rattle.mu_model.specs.Outcomes.{Outcome, Stuck}
 use Rattle.mu_model.specs.Programs.{named}
 use Rattle.mu_model.specs.Step.{step}
-use Rattle.mu_model.specs.Run.{Setting, client_answers}
+use Rattle.mu_model.specs.Run.{client_answers}
 use Rattle.model_laws.specs.Places.{Places}
 use Rattle.model_laws.specs.Programs.{IsTyped}
 use Rattle.model_laws.specs.WellTyped.{WellTyped, Settles}
 use Rattle.model_laws.proofs.Proved.{first_well, clients_settle, meets, race_free, reads_offered}
 use Rattle.typed_programs.specs.PlacesOf.{places_of}
-use Rattle.typed_programs.proofs.Running.{accepted_is_typed, plain_fits}
+use Rattle.typed_programs.proofs.Running.{accepted_is_typed}
 use Rattle.text_programs.specs.Moments.{Reaches, here, onward, IsSoundMoment, MomentsOfTextsAreSound}
 use Rattle.text_programs.proofs.Texts.{read_have_blocks}
 use Rattle.text_programs.proofs.Entered.{nothing_is_taken}
@@ -37,9 +34,8 @@ module _ (p : Program) (t : Places) (typed : IsTyped p t) where
   }
 
 pub moments_are_sound : MomentsOfTextsAreSound
-moments_are_sound bytes bundle read names checked s name n plain entered c d first far =
+moments_are_sound bytes bundle read names checked s name n fits entered c d first far =
     let p = named bundle in
     let typed = accepted_is_typed bundle names checked (read_have_blocks bytes bundle read) in
-    let fit = plain_fits bundle names checked s n plain (nothing_is_taken bundle name n entered) in
-    let well = first_well p (places_of bundle) s n c typed fit.globals fit.objects fit.client fit.takes first in
+    let well = first_well p (places_of bundle) s n c typed fits.globals fits.objects fits.client (nothing_is_taken bundle name n entered) first in
     sound p (places_of bundle) typed d (stays_typed p (places_of bundle) typed c d well far)

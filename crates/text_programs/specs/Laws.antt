@@ -14,7 +14,7 @@ use Rattle.model_laws.specs.Programs.{IsTyped}
 use Rattle.model_laws.specs.Bounds.{HasEnding}
 use Rattle.bundle_facts.specs.Facts.{HaveBlocks}
 use Rattle.typed_programs.specs.PlacesOf.{places_of}
-use Rattle.typed_programs.specs.Laws.{IsPlain}
+use Rattle.typed_programs.specs.Laws.{SettingFits, IsPlain}
 
 -- each function that is defined in a bundle that is read has a block
 abbrev pub BundlesThatAreReadHaveBlocks : Type 0
@@ -38,9 +38,16 @@ abbrev pub RunsOfTextsNeverBreak : Type 0
 RunsOfTextsNeverBreak = OfAcceptedTexts (λ bundle. (s : Setting) (function : ℕ) (c : Configuration) → IsPlain bundle s → classes_taken (bundle_tables bundle) function ≡ [] →
     first_configuration (named bundle) s function ≡ Some c → program_run (named bundle) s function ≢ Breaks)
 
--- a plain run of a function that may be entered begins, and has an ending
+-- a plain setting fits
+abbrev pub PlainSettingFits : List Item → Type 0
+PlainSettingFits bundle = (s : Setting) → IsPlain bundle s → SettingFits bundle s
+
+abbrev pub PlainSettingsFit : Type 0
+PlainSettingsFit = OfAcceptedTexts PlainSettingFits
+
+-- a run of a function that may be entered, in a setting that fits, begins and has an ending
 abbrev pub EnteredRunsEnd : List Item → Type 0
-EnteredRunsEnd bundle = (s : Setting) (name : List ℕ) (function : ℕ) → IsPlain bundle s → entry bundle name ≡ Ok function →
+EnteredRunsEnd bundle = (s : Setting) (name : List ℕ) (function : ℕ) → SettingFits bundle s → entry bundle name ≡ Ok function →
     IsSome (first_configuration (named bundle) s function) × HasEnding (program_run (named bundle) s function)
 
 abbrev pub EnteredRunsHaveAnEnding : Type 0

@@ -19,7 +19,7 @@ use Rattle.mu_model.specs.Outcomes.{Next, Stuck}
 use Rattle.mu_model.specs.Programs.{named}
 use Rattle.mu_model.specs.Step.{step}
 use Rattle.mu_model.specs.Run.{Setting, first_configuration, client_answers}
-use Rattle.typed_programs.specs.Laws.{IsPlain}
+use Rattle.typed_programs.specs.Laws.{SettingFits}
 use Rattle.text_programs.specs.Laws.{OfAcceptedTexts}
 
 -- a run comes from one configuration to another by steps that go on
@@ -41,9 +41,9 @@ pub record IsSoundMoment (p : Program) (c : Configuration) : Type 0 where
 abbrev pub MomentsAreSound : Program → Setting → ℕ → Type 0
 MomentsAreSound p s function = (c d : Configuration) → first_configuration p s function ≡ Some c → Reaches p c d → IsSoundMoment p d
 
--- so it is of each plain run of a function that may be entered
+-- so it is of each run of a function that may be entered, in a setting that fits
 abbrev pub EnteredRunsAreSound : List Item → Type 0
-EnteredRunsAreSound bundle = (s : Setting) (name : List ℕ) (function : ℕ) → IsPlain bundle s → entry bundle name ≡ Ok function → MomentsAreSound (named bundle) s function
+EnteredRunsAreSound bundle = (s : Setting) (name : List ℕ) (function : ℕ) → SettingFits bundle s → entry bundle name ≡ Ok function → MomentsAreSound (named bundle) s function
 
 abbrev pub MomentsOfTextsAreSound : Type 0
 MomentsOfTextsAreSound = OfAcceptedTexts EnteredRunsAreSound

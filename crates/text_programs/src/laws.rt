@@ -1,5 +1,6 @@
 // What holds of every text that is read and accepted.
-ghost use Rattle.text_programs.specs.Laws.{BundlesThatAreReadHaveBlocks, TextsAreTyped, RunsOfTextsHaveAnEnding, RunsOfTextsNeverBreak, EnteredRunsHaveAnEnding};
+ghost use Rattle.text_programs.specs.Laws.{BundlesThatAreReadHaveBlocks, TextsAreTyped, RunsOfTextsHaveAnEnding, RunsOfTextsNeverBreak, PlainSettingsFit, EnteredRunsHaveAnEnding};
+ghost use Rattle.text_programs.specs.Lines.{LinesDoNotMix};
 ghost use Rattle.text_programs.specs.Moments.{MomentsOfTextsAreSound};
 
 /// Each function that is defined in a bundle that is read has a block.
@@ -15,13 +16,23 @@ pub fn texts_never_break()
     ensures breaks { RunsOfTextsNeverBreak }
 {}
 
-/// The plain run of a function that may be entered begins, and has an ending.
+/// A setting that is given the objects of the globals and a client without entries fits.
+pub fn plain_settings_fit()
+    ensures { PlainSettingsFit }
+{}
+
+/// A run of a function that may be entered, in a setting that fits, begins and has an ending.
 pub fn entered_runs_have_an_ending()
     ensures { EnteredRunsHaveAnEnding }
 {}
 
-/// At each moment of the plain run of a function that may be entered the log meets the axioms of memory, no two of its events race, each
-/// of its reads was an option of its past, and the next step has a rule.
+/// At each moment of the run of a function that may be entered, in a setting that fits, the log meets the axioms of memory, no two of its
+/// events race, each of its reads was an option of its past, and the next step has a rule.
 pub fn moments_are_sound()
     ensures { MomentsOfTextsAreSound }
+{}
+
+/// What a step does, and which lines it writes, is the same whatever lines an earlier step wrote.
+pub fn lines_do_not_mix()
+    ensures { LinesDoNotMix }
 {}

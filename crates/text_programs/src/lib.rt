@@ -1,10 +1,10 @@
-//! A text that is read and accepted is a well-typed program, so that no step of its plain runs is without a rule. This crate has no code;
+//! A text that is read and accepted is a well-typed program, so that no step of its runs is without a rule. This crate has no code;
 //! each of its functions does nothing, and its contract is a law.
 #![tactic(auto)]
 
 mod laws;
 
 pub use laws::{
-    bundles_that_are_read_have_blocks, entered_runs_have_an_ending, moments_are_sound,
-    texts_never_break,
+    bundles_that_are_read_have_blocks, entered_runs_have_an_ending, lines_do_not_mix,
+    moments_are_sound, plain_settings_fit, texts_never_break,
 };

@@ -31,7 +31,7 @@ use Rattle.model_laws.proofs.Bounded.{runs_end}
 use Rattle.bundle_laws.proofs.Tables.{tables_fit}
 use Rattle.bundle_facts.proofs.Accepted as facts
 use Rattle.typed_programs.specs.PlacesOf.{places_of}
-use Rattle.typed_programs.specs.Laws.{AcceptedIsTyped, IsFitting, RunsHaveAnEnding, NeverBreaks, IsPlain, PlainRunsHaveAnEnding, PlainRunsNeverBreak}
+use Rattle.typed_programs.specs.Laws.{AcceptedIsTyped, SettingFits, RunsHaveAnEnding, NeverBreaks, IsPlain, PlainRunsHaveAnEnding, PlainRunsNeverBreak}
 use Rattle.typed_programs.proofs.Shapes.{fits_alone, place_first}
 use Rattle.typed_programs.proofs.Typed.{named_is_typed}
 
@@ -48,7 +48,7 @@ runs_have_an_ending bundle names checked have s f c fit first =
     let typed = accepted_is_typed bundle names checked have in
     subst (λ (o : Option Configuration). HasEnding (run_from (named bundle) o)) (sym first)
     (runs_end (named bundle) (places_of bundle) c (suc c.budget) typed
-    (first_well (named bundle) (places_of bundle) s f c typed fit.globals fit.objects fit.client fit.takes first) (omega arith))
+    (first_well (named bundle) (places_of bundle) s f c typed fit.setting.globals fit.setting.objects fit.setting.client fit.takes first) (omega arith))
 
 pub never_breaks : NeverBreaks
 never_breaks bundle names checked have s f c fit first = no_break (program_run (named bundle) s f) (runs_have_an_ending bundle names checked have s f c fit first)
@@ -84,18 +84,17 @@ global_place bundle names checked w same n c e =
 no_entries : (p : Tables) (k : Client) → k.entries ≡ [] → ClientFits p k
 no_entries p k e w globals = subst (λ (es : List ScriptEntry). All (λ (e : ScriptEntry). EntryFits (type_graph p) w e.reply) es) (sym e) (All-nil (λ (e : ScriptEntry). EntryFits (type_graph p) w e.reply))
 
-pub plain_fits : (bundle : List Item) → first_unmet (name_demands bundle) ≡ None → first_unmet (check_demands bundle) ≡ None → (s : Setting) (f : ℕ) → IsPlain bundle s →
-    classes_taken (bundle_tables bundle) f ≡ [] → IsFitting bundle s f
-plain_fits bundle names checked s f plain none = record {
+pub plain_fits : (bundle : List Item) → first_unmet (name_demands bundle) ≡ None → first_unmet (check_demands bundle) ≡ None → (s : Setting) → IsPlain bundle s →
+    SettingFits bundle s
+plain_fits bundle names checked s plain = record {
   globals = record { functions = refl; places = global_place bundle names checked (first_world (bundle_tables bundle) s) plain.objects };
   objects = subst (λ (os : List HeapObject). All (ObjectFits (type_graph (bundle_tables bundle)) (first_world (bundle_tables bundle) s)) os) (sym plain.objects)
       (objects_fit (bundle_tables bundle) (first_world (bundle_tables bundle) s) (bundle_tables bundle).global_cells (tables_fit bundle names checked).graph);
   client = no_entries (bundle_tables bundle) s.client plain.entries;
-  takes = none;
 }
 
 pub plain_runs_have_an_ending : PlainRunsHaveAnEnding
-plain_runs_have_an_ending bundle names checked have s f c plain none first = runs_have_an_ending bundle names checked have s f c (plain_fits bundle names checked s f plain none) first
+plain_runs_have_an_ending bundle names checked have s f c plain none first = runs_have_an_ending bundle names checked have s f c (record { setting = plain_fits bundle names checked s plain; takes = none }) first
 
 pub plain_runs_never_break : PlainRunsNeverBreak
 plain_runs_never_break bundle names checked have s f c plain none first = no_break (program_run (named bundle) s f) (plain_runs_have_an_ending bundle names checked have s f c plain none first)

@@ -28,11 +28,15 @@ AcceptedIsTyped = OfAcceptedWithBlocks (λ bundle. IsTyped (named bundle) (place
 
 -- ---- runs
 
--- a setting whose objects fit, the globals' first, and whose client tells what fits; the run begins in a function that takes nothing
-pub record IsFitting (bundle : List Item) (s : Setting) (function : ℕ) : Type 0 where
+-- a setting whose objects fit, the globals' first, and whose client tells what fits
+pub record SettingFits (bundle : List Item) (s : Setting) : Type 0 where
   pub globals : HasGlobals (bundle_tables bundle) (first_world (bundle_tables bundle) s)
   pub objects : All (ObjectFits (type_graph (bundle_tables bundle)) (first_world (bundle_tables bundle) s)) s.objects
   pub client : ClientFits (bundle_tables bundle) s.client
+
+-- the setting of a run fits, and the run begins in a function that takes nothing
+pub record IsFitting (bundle : List Item) (s : Setting) (function : ℕ) : Type 0 where
+  pub setting : SettingFits bundle s
   pub takes : classes_taken (bundle_tables bundle) function ≡ []
 
 -- a run that begins has an ending, so no step of it is without a rule

@@ -1,0 +1,7 @@
+pub mod Filling
+pub mod Parts
+pub mod Sources
+pub mod Judging
+pub mod Globals
+pub mod Loading
+pub mod Fitted

@@ -1,0 +1,30 @@
+-- To believe: what a script for the heap makes, of every text that is read and accepted, is what a run may begin with.
+use Rattle.std.specs.Prelude.{◌≡◌, ℕ, List, []}
+use Rattle.ir_tree.specs.declared.items.Item.{Item}
+use Rattle.bundle_check.specs.Checking.{bundle_tables}
+use Rattle.typed_heap.specs.Objects.{HeapObject}
+use Rattle.hail_load.specs.declared.tree.Command.{Command}
+use Rattle.hail_load.specs.Code.{code_of}
+use Rattle.hail_load.specs.LoadAnswers.{AreGlobals}
+use Rattle.hail_load.specs.Loading.{load}
+use Rattle.mu_model.specs.Run.{Setting, global_objects}
+use Rattle.typed_programs.specs.Laws.{SettingFits}
+use Rattle.text_programs.specs.Laws.{OfAcceptedTexts}
+
+-- a script begins with the objects of the globals that a run begins with
+abbrev pub BeginsWithGlobals : List Item → Type 0
+BeginsWithGlobals bundle = AreGlobals (code_of bundle) (global_objects (bundle_tables bundle))
+
+abbrev pub ScriptsBeginWithGlobals : Type 0
+ScriptsBeginWithGlobals = OfAcceptedTexts BeginsWithGlobals
+
+-- the objects behind some commands, up to the first that is refused, where so many cells may be made
+abbrev pub loaded_objects : List Item → ℕ → List Command → List HeapObject
+loaded_objects bundle cells commands = (load (code_of bundle) (record { objects = global_objects (bundle_tables bundle); left = cells; made = [] }) commands).store.objects
+
+-- a setting with these objects and a client without entries fits
+abbrev pub LoadedSettingFits : List Item → Type 0
+LoadedSettingFits bundle = (s : Setting) (commands : List Command) (cells : ℕ) → s.objects ≡ loaded_objects bundle cells commands → s.client.entries ≡ [] → SettingFits bundle s
+
+abbrev pub LoadedSettingsFit : Type 0
+LoadedSettingsFit = OfAcceptedTexts LoadedSettingFits

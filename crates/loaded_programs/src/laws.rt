@@ -1,0 +1,12 @@
+// What holds of scripts for the heap of every text that is read and accepted.
+ghost use Rattle.loaded_programs.specs.Laws.{ScriptsBeginWithGlobals, LoadedSettingsFit};
+
+/// The objects of the globals that a run begins with are those that a script begins with.
+pub fn scripts_begin_with_globals()
+    ensures { ScriptsBeginWithGlobals }
+{}
+
+/// A setting whose objects are those behind some commands, up to the first that is refused, and whose client has no entries fits.
+pub fn loaded_settings_fit()
+    ensures { LoadedSettingsFit }
+{}
