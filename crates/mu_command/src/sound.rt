@@ -3,7 +3,7 @@ ghost use Rattle.std.specs.Prelude.{List, ℕ};
 ghost use Rattle.mu_command.specs.Central.{RunsAreSound};
 
 use ir_text::answer_is_one;
-use text_programs::moments_are_sound;
+use text_programs::{moments_are_sound, plain_settings_fit};
 
 // Each moment of the run that words ask for is sound.
 pub fn runs_are_sound()
@@ -11,4 +11,5 @@ pub fn runs_are_sound()
 {
     answer_is_one();
     moments_are_sound();
+    plain_settings_fit();
 }

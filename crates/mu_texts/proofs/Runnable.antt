@@ -16,7 +16,7 @@ use Rattle.typed_heap.specs.Places.{with_some}
 use Rattle.mu_model.specs.Configuration.{Configuration}
 use Rattle.mu_model.specs.Programs.{named as program}
 use Rattle.mu_model.specs.Run.{begins_in, first_configuration}
-use Rattle.text_programs.specs.Laws.{OfAcceptedTexts, EnteredRunsEnd, EnteredRunsHaveAnEnding}
+use Rattle.text_programs.specs.Laws.{OfAcceptedTexts, PlainSettingFits, PlainSettingsFit, EnteredRunsEnd, EnteredRunsHaveAnEnding}
 use Rattle.mu_step.specs.Built.{built_demands}
 use Rattle.mu_step.specs.BuiltLaws.{forms_built}
 use Rattle.mu_texts.specs.Refusals.{name_fault_name, check_fault_name, run_fault_name}
@@ -57,6 +57,9 @@ of_accepted holds bytes code one law h =
 pub runs_end : (bytes : List ℕ) (code : List Item) → AnswerIsOne → EnteredRunsHaveAnEnding → accepted bytes ≡ Ok code → EnteredRunsEnd code
 runs_end bytes code one law h = of_accepted EnteredRunsEnd bytes code one law h
 
+pub settings_fit : (bytes : List ℕ) (code : List Item) → AnswerIsOne → PlainSettingsFit → accepted bytes ≡ Ok code → PlainSettingFits code
+settings_fit bytes code one law h = of_accepted PlainSettingFits bytes code one law h
+
 -- ---- a function that is entered, of a bundle that is accepted and built
 
 pub was_built : (code bundle : List Item) → built code ≡ Ok bundle → code ≡ bundle
@@ -76,9 +79,9 @@ has_body None go h = cc
 has_body (Some None) go h = cc
 has_body (Some (Some block)) go h = refl
 
-pub runnable : (code : List Item) (name : List ℕ) (n budget cells : ℕ) → EnteredRunsEnd code → first_unmet (built_demands code) ≡ None → entry code name ≡ Ok n → budget ≤ 1000000 → IsRunnable code n budget cells
+pub runnable : (code : List Item) (name : List ℕ) (n budget cells : ℕ) → EnteredRunsEnd code → PlainSettingFits code → first_unmet (built_demands code) ≡ None → entry code name ≡ Ok n → budget ≤ 1000000 → IsRunnable code n budget cells
 unfolding run_of
-runnable code name n budget cells ends built entered short =
+runnable code name n budget cells ends fits built entered short =
     let s = first_setting code budget cells in
-    let r = ends s name n (record { objects = refl; entries = refl }) entered in
+    let r = ends s name n (fits s (record { objects = refl; entries = refl })) entered in
     record { built = forms_built code built; begins = has_body ((program code).body n) (begins_in (program code) s n) r.0; ends = r.1; short = short }

@@ -1,7 +1,7 @@
 // Reads the text of a bundle, and judges it.
 ghost use Rattle.std.specs.Prelude.{◌≡◌, ◌≤◌, None, Ok, IfOk, OnOk};
 ghost use Rattle.demands.specs.Demands.{first_unmet};
-ghost use Rattle.text_programs.specs.Laws.{EnteredRunsEnd};
+ghost use Rattle.text_programs.specs.Laws.{EnteredRunsEnd, PlainSettingFits};
 ghost use Rattle.mu_step.specs.Built.{built_demands};
 ghost use Rattle.mu_texts.specs.Answer.{as_written, named, checked, built, accepted, entered, for_check, for_print, for_run};
 ghost use Rattle.mu_texts.specs.Comes.{Comes, Passes, IsRefusal, IsRunnable, CanRun, begun};
@@ -20,7 +20,7 @@ use ir_tree::Bundle;
 use mu_base::Status;
 use mu_step::are_built;
 use std::alloc::{AllocError, Global};
-use text_programs::entered_runs_have_an_ending;
+use text_programs::{entered_runs_have_an_ending, plain_settings_fit};
 
 // The line of a refusal of the bundle.
 fn refused(alloc: Global, place: usize, fault: &str) -> Result<Stop, AllocError>
@@ -87,6 +87,7 @@ fn judge_built(alloc: Global, code: &Checked) -> Result<(), Stop>
 // The number of the function with that name, whose run may make so many steps and cells.
 fn enter(alloc: Global, code: &Checked, name: &str, budget: u32, cells: u32) -> Result<u32, Stop>
     requires ends { EnteredRunsEnd code.now }
+    requires fits { PlainSettingFits code.now }
     requires built { first_unmet (built_demands code.now) ≡ None }
     requires short { budget ≤ 1000000 }
     ensures number { Comes (entered code.now name.now) result }
@@ -107,9 +108,11 @@ fn enter(alloc: Global, code: &Checked, name: &str, budget: u32, cells: u32) -> 
 fn accept_to_run(alloc: Global, bytes: &[u8]) -> Result<Checked, Stop>
     ensures code { Comes (accepted bytes.now) result }
     ensures ends { IfOk result (λ code. EnteredRunsEnd code) }
+    ensures fits { IfOk result (λ code. PlainSettingFits code) }
 {
     answer_is_one();
     entered_runs_have_an_ending();
+    plain_settings_fit();
     match accept(alloc, bytes) {
         Ok(code) => Ok(code),
         Err(stop) => Err(stop),
@@ -119,6 +122,7 @@ fn accept_to_run(alloc: Global, bytes: &[u8]) -> Result<Checked, Stop>
 // The number of the function that a run begins with, in a bundle whose functions are built.
 fn entry_of(alloc: Global, code: &Checked, name: &str, budget: u32, cells: u32) -> Result<u32, Stop>
     requires ends { EnteredRunsEnd code.now }
+    requires fits { PlainSettingFits code.now }
     requires short { budget ≤ 1000000 }
     ensures built { IfOk result (λ n. built code.now ≡ Ok code.now) }
     ensures number { Comes (begun code.now name.now) result }
