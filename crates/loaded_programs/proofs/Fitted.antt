@@ -54,7 +54,7 @@ loaded_setting_fits bundle names checked s commands cells same none =
     }
 
 pub scripts_begin_with_globals : ScriptsBeginWithGlobals
-scripts_begin_with_globals bytes bundle read names checked = begins_with_globals bundle names checked
+scripts_begin_with_globals bundle names checked = begins_with_globals bundle names checked
 
 pub loaded_settings_fit : LoadedSettingsFit
 loaded_settings_fit bytes bundle read names checked = loaded_setting_fits bundle names checked

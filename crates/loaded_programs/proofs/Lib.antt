@@ -5,3 +5,4 @@ pub mod Judging
 pub mod Globals
 pub mod Loading
 pub mod Fitted
+pub mod Counting

@@ -1,13 +1,15 @@
--- To believe: what a script for the heap makes, of every text that is read and accepted, is what a run may begin with.
-use Rattle.std.specs.Prelude.{◌≡◌, ℕ, List, []}
+-- To believe: what a script for the heap makes of a bundle that is accepted is what a run may begin with.
+use Rattle.std.specs.Prelude.{◌≡◌, ℕ, ◌-◌, List, []}
 use Rattle.ir_tree.specs.declared.items.Item.{Item}
 use Rattle.bundle_check.specs.Checking.{bundle_tables}
 use Rattle.typed_heap.specs.Objects.{HeapObject}
 use Rattle.hail_load.specs.declared.tree.Command.{Command}
 use Rattle.hail_load.specs.Code.{code_of}
 use Rattle.hail_load.specs.LoadAnswers.{AreGlobals}
+use Rattle.hail_load.specs.Fitting.{Store}
 use Rattle.hail_load.specs.Loading.{load}
-use Rattle.mu_model.specs.Run.{Setting, global_objects}
+use Rattle.mu_model.specs.Run.{Setting, global_objects, cells_taken}
+use Rattle.model_numbers.specs.Laws.{OfAccepted}
 use Rattle.typed_programs.specs.Laws.{SettingFits}
 use Rattle.text_programs.specs.Laws.{OfAcceptedTexts}
 
@@ -16,11 +18,18 @@ abbrev pub BeginsWithGlobals : List Item → Type 0
 BeginsWithGlobals bundle = AreGlobals (code_of bundle) (global_objects (bundle_tables bundle))
 
 abbrev pub ScriptsBeginWithGlobals : Type 0
-ScriptsBeginWithGlobals = OfAcceptedTexts BeginsWithGlobals
+ScriptsBeginWithGlobals = OfAccepted BeginsWithGlobals
 
--- the objects behind some commands, up to the first that is refused, where so many cells may be made
+-- what some commands come to, up to the first that is refused, where so many cells may be made; and the objects then
+abbrev pub loaded_store : List Item → ℕ → List Command → Store
+loaded_store bundle cells commands = (load (code_of bundle) (record { objects = global_objects (bundle_tables bundle); left = cells; made = [] }) commands).store
+
 abbrev pub loaded_objects : List Item → ℕ → List Command → List HeapObject
-loaded_objects bundle cells commands = (load (code_of bundle) (record { objects = global_objects (bundle_tables bundle); left = cells; made = [] }) commands).store.objects
+loaded_objects bundle cells commands = (loaded_store bundle cells commands).objects
+
+-- as many cells are left then as those objects did not take
+abbrev pub CellsAreCounted : Type 0
+CellsAreCounted = (bundle : List Item) (commands : List Command) (cells : ℕ) → (loaded_store bundle cells commands).left ≡ cells - cells_taken (bundle_tables bundle) (loaded_objects bundle cells commands)
 
 -- a setting with these objects and a client without entries fits
 abbrev pub LoadedSettingFits : List Item → Type 0

@@ -1,5 +1,5 @@
 // What holds of scripts for the heap of every text that is read and accepted.
-ghost use Rattle.loaded_programs.specs.Laws.{ScriptsBeginWithGlobals, LoadedSettingsFit};
+ghost use Rattle.loaded_programs.specs.Laws.{ScriptsBeginWithGlobals, LoadedSettingsFit, CellsAreCounted};
 
 /// The objects of the globals that a run begins with are those that a script begins with.
 pub fn scripts_begin_with_globals()
@@ -9,4 +9,9 @@ pub fn scripts_begin_with_globals()
 /// A setting whose objects are those behind some commands, up to the first that is refused, and whose client has no entries fits.
 pub fn loaded_settings_fit()
     ensures { LoadedSettingsFit }
+{}
+
+/// As many cells are left behind some commands as the objects that they made did not take.
+pub fn cells_are_counted()
+    ensures { CellsAreCounted }
 {}

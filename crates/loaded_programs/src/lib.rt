@@ -1,7 +1,7 @@
-//! What a script for the heap makes of an accepted text is what a run may begin with. This crate has no code; each of its functions does
+//! What a script for the heap makes of an accepted bundle is what a run may begin with. This crate has no code; each of its functions does
 //! nothing, and its contract is a law.
 #![tactic(auto)]
 
 mod laws;
 
-pub use laws::{loaded_settings_fit, scripts_begin_with_globals};
+pub use laws::{cells_are_counted, loaded_settings_fit, scripts_begin_with_globals};

@@ -1,47 +1,68 @@
 -- Why a text was accepted.
-use Rattle.std.proofs.Common.{◌≡◌, ℕ, true, List, sym, subst, refl, Option, Some, None}
+use Rattle.std.proofs.Common.{◌≡◌, ℕ, true, false, List, sym, subst, refl, Option, Some, None}
 use Rattle.std.specs.Prelude.{Ok, Err}
 use Rattle.mu_base.specs.declared.status.Status.{Status}
-use Rattle.mu_base.specs.declared.status.Status.TheVariants.{Usage, ReadFault, TooLong, SinkFault, Memory}
+use Rattle.mu_base.specs.declared.status.Status.TheVariants.{Refused, Usage, SinkFault, Memory}
 use Rattle.mu_base.specs.Outcome.{Outcome, got, failed, too_long}
-use Rattle.mu_texts.specs.declared.what.What.TheVariants.{Bundle}
+use Rattle.ir_tree.specs.declared.items.Item.{Item}
+use Rattle.mu_step.specs.Plain.{plain_setting}
+use Rattle.mu_texts.specs.declared.what.What.{What}
+use Rattle.mu_texts.specs.declared.what.What.TheVariants.{Bundle, Hail, Schedule}
 use Rattle.mu_texts.specs.declared.ready.Ready.{Ready}
 use Rattle.mu_texts.specs.declared.ready.Ready.TheVariants as ready
-use Rattle.mu_texts.specs.Answer.{Part, ◌>>=◌, built, as_written, accepted, entered, is_end, ready_part}
-use Rattle.mu_texts.proofs.Accepting.{StopsShort, then, writing, accepting, building, entering_named}
+use Rattle.mu_texts.specs.Answer.{Part, ◌>>=◌, as_written, accepted, for_check, for_print, to_run, entered, loaded, scheduled, started, is_end, ready_part}
+use Rattle.mu_texts.proofs.Accepting.{StopsSo, then, writing, accepting, building, entering_named, loading, scheduling}
 use Rattle.mu_command.specs.declared.job.Job.{Job}
 use Rattle.mu_command.specs.declared.job.Job.TheVariants.{Check, Print, Run}
-use Rattle.mu_command.specs.Job.{job_of, bundle_word, word}
-use Rattle.mu_command.specs.Answer.{Outcomes, asked, found, answer_of}
-use Rattle.mu_command.specs.Allowed.{Seen, AllowsWord, AllowsJob}
+use Rattle.mu_command.specs.declared.job.RunJob.{RunJob}
+use Rattle.mu_command.specs.Job.{job_of, word}
+use Rattle.mu_command.specs.Answer.{Outcomes, fetched, judged, begun, found, answer_of}
+use Rattle.mu_command.specs.Allowed.{Seen, AllowsJob}
 use Rattle.mu_command.specs.Written.{IsWhole}
 use Rattle.mu_command.specs.Central.{Answered, OfJob, IsAccepted}
 
-asking : (words : List (List ℕ)) (job : Job) (bytes : List ℕ) → StopsShort (asked words job bytes)
-asking words (Check file) bytes = then (accepted bytes) (λ code. Ok ready.Accepted) (accepting bytes) (λ code. tt)
-asking words (Print file) bytes = then (as_written bytes) (λ bundle. Ok (ready.Canonical bundle)) (writing bytes) (λ bundle. tt)
-asking words (Run file name budget cells) bytes =
-    then (accepted bytes >>= built) (λ code. entered code (word words name) >>= λ n. Ok (ready.Entered code n budget cells)) (building bytes)
-    (λ code. then (entered code (word words name)) (λ n. Ok (ready.Entered code n budget cells)) (entering_named code (word words name)) (λ n. tt))
+-- what is found on the way ends so where what is fetched does
+module _ (P : Status → Type 0) (refused : P Refused) (memory : P Memory) (words : List (List ℕ)) (o : Outcomes) (fetching : (what : What) → StopsSo P (fetched what (o what))) where
+  judging : {A : Type 0} (what : What) (part : List ℕ → Part A) → ((bytes : List ℕ) → StopsSo P (part bytes)) → StopsSo P (judged what part (o what))
+  judging what part h = then P (fetched what (o what)) part (fetching what) h
+
+  beginning : (r : RunJob) (code : List Item) → StopsSo P (begun words r code o)
+  beginning r code =
+      then P (entered code (word words r.entry)) (λ n. judged Hail (loaded code r.cells) (o Hail) >>= λ objects. judged Schedule scheduled (o Schedule) >>= λ picks. Ok (started code n (plain_setting objects picks r.rule r.cells r.budget)))
+      (entering_named P refused memory code (word words r.entry))
+      (λ n. then P (judged Hail (loaded code r.cells) (o Hail)) (λ objects. judged Schedule scheduled (o Schedule) >>= λ picks. Ok (started code n (plain_setting objects picks r.rule r.cells r.budget)))
+      (judging Hail (loaded code r.cells) (loading P refused memory code r.cells))
+      (λ objects. then P (judged Schedule scheduled (o Schedule)) (λ picks. Ok (started code n (plain_setting objects picks r.rule r.cells r.budget))) (judging Schedule scheduled (scheduling P refused memory)) (λ picks. tt)))
+
+  pub finding_all : (job : Job) → StopsSo P (found words job o)
+  finding_all (Check file) = judging Bundle for_check (λ bytes. then P (accepted bytes) (λ code. Ok ready.Accepted) (accepting P refused memory bytes) (λ code. tt))
+  finding_all (Print file) = judging Bundle for_print (λ bytes. then P (as_written bytes) (λ bundle. Ok (ready.Canonical bundle)) (writing P refused memory bytes) (λ bundle. tt))
+  finding_all (Run r) =
+      then P (judged Bundle to_run (o Bundle)) (λ code. begun words r code o >>= λ start. Ok (ready.Entered code start)) (judging Bundle to_run (building P refused memory))
+      (λ code. then P (begun words r code o) (λ start. Ok (ready.Entered code start)) (beginning r code) (λ start. tt))
+
+-- ---- no early end has a status of what is accepted
+
+abbrev IsEarly : Status → Type 0
+IsEarly s = is_end s ≡ false
+
+no_end : (what : What) (o : Outcome) → StopsSo IsEarly (fetched what o)
+no_end what (got bytes) = tt
+no_end what failed = refl
+no_end what too_long = refl
 
 -- the same status is one of these too
 ends : (s t : Status) → s ≡ t → is_end t ≡ true → is_end s ≡ true
 ends s t e h = subst (λ x. is_end x ≡ true) (sym e) h
 
 module _ (seen : Seen) (words : List (List ℕ)) (status : Status) (end : is_end status ≡ true) where
-  accepted_text : (job : Job) (bytes : List ℕ) → AllowsWord seen words Bundle (bundle_word job) (got bytes) → (a : Part Ready) → asked words job bytes ≡ a → StopsShort a →
-      (ready_part a).status ≡ status → IsAccepted seen words status job
-  accepted_text job bytes held (Ok r) a short s = record { bytes = bytes; held = held; ready = r; is = a; ends = s }
-  accepted_text job bytes held (Err answer) a short s = absurd (let no = ends answer.status status s end in cc)
-
-  accepted_file : (job : Job) (o : Outcome) → AllowsWord seen words Bundle (bundle_word job) o → (ready_part (found words job o)).status ≡ status → IsAccepted seen words status job
-  accepted_file job (got bytes) held s = accepted_text job bytes held (asked words job bytes) refl (asking words job bytes) s
-  accepted_file job failed held s = absurd (let no = ends ReadFault status s end in cc)
-  accepted_file job too_long held s = absurd (let no = ends TooLong status s end in cc)
+  accepted_part : (job : Job) (o : Outcomes) → AllowsJob seen words (Some job) o → (a : Part Ready) → found words job o ≡ a → StopsSo IsEarly a → (ready_part a).status ≡ status → IsAccepted seen words status job
+  accepted_part job o allowed (Ok r) a short s = record { outcomes = o; allowed = allowed; ready = r; is = a; ends = s }
+  accepted_part job o allowed (Err answer) a short s = absurd (let no = ends answer.status status s end in cc)
 
   accepted_job : (job : Option Job) (o : Outcomes) → AllowsJob seen words job o → (answer_of words job o).status ≡ status → OfJob (IsAccepted seen words status) job
   accepted_job None o allowed s = absurd (let no = ends Usage status s end in cc)
-  accepted_job (Some job) o allowed s = accepted_file job (o Bundle) (allowed Bundle) s
+  accepted_job (Some job) o allowed s = accepted_part job o allowed (found words job o) refl (finding_all IsEarly refl refl words o (λ what. no_end what (o what)) job) s
 
 is_whole : (status : Status) → is_end status ≡ true → IsWhole status
 is_whole status end = ((λ e. let no = ends SinkFault status (sym e) end in cc), (λ e. let no = ends Memory status (sym e) end in cc))

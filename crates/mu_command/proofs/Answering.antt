@@ -3,7 +3,6 @@ use Rattle.std.proofs.Common.{ℕ, ◌≤◌, List, [], refl, subst, Option, Som
 use Rattle.mu_base.specs.declared.status.Status.{Status}
 use Rattle.mu_base.specs.declared.status.Status.TheVariants.{Memory}
 use Rattle.mu_base.specs.Outcome.{Outcome, got}
-use Rattle.mu_base.proofs.Outcomes.{some_outcome}
 use Rattle.mu_command.specs.declared.job.Job.{Job}
 use Rattle.mu_texts.specs.declared.what.What.{What}
 use Rattle.mu_texts.specs.What.{slot_of}
@@ -14,17 +13,13 @@ use Rattle.mu_command.specs.Allowed.{Seen, AllowsFile, AllowsJob}
 use Rattle.mu_command.specs.Parts.{IsAnswer}
 use Rattle.mu_command.specs.Written.{Writes}
 use Rattle.mu_command.specs.Central.{Answered}
+use Rattle.mu_command.proofs.Beginnings.{some_named}
 use Rattle.mu_command.proofs.Puts.{no_memory}
 
 pub answered : (seen : Seen) (words : List (List ℕ)) (answer : Answer) (w0 w1 e0 e1 : Option (List ℕ)) (status : Status) →
     IsAnswer seen words answer → Writes answer w0 w1 e0 e1 status → Answered seen words w0 w1 e0 e1 status
 answered seen words answer w0 w1 e0 e1 status a w =
     record { outcomes = a.outcomes; allowed = a.allowed; writes = subst (λ x. Writes x w0 w1 e0 e1 status) a.is w }
-
--- some outcome of a file that is named or not
-some_named : (seen : Seen) (words : List (List ℕ)) (what : What) (n : Option ℕ) → seen.before (slot_of what) ≤ seen.now (slot_of what) → (o : Outcome) × AllowsFile seen words what n o
-some_named seen words what None le = (got [], refl)
-some_named seen words what (Some n) le = some_outcome _ _ _ _ _ le
 
 -- outcomes of a job are always allowed
 some_outcomes : (seen : Seen) (words : List (List ℕ)) (job : Option Job) → ((s : ℕ) → seen.before s ≤ seen.now s) → (o : Outcomes) × AllowsJob seen words job o

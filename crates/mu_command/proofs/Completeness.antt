@@ -6,13 +6,14 @@ use Rattle.mu_base.specs.declared.status.Status.{Status}
 use Rattle.mu_base.specs.Files.{Files, file}
 use Rattle.mu_base.specs.Outcome.{Outcome, got, failed, too_long, Allows}
 use Rattle.mu_command.specs.declared.job.Job.{Job}
+use Rattle.mu_command.specs.declared.job.Job.TheVariants.{Check, Print, Run}
 use Rattle.mu_texts.specs.Answer.{ready_part}
 use Rattle.mu_command.specs.Answer.{Outcomes, found, answer_of}
 use Rattle.mu_texts.specs.declared.what.What.{What}
-use Rattle.mu_texts.specs.declared.what.What.TheVariants.{Bundle}
+use Rattle.mu_texts.specs.declared.what.What.TheVariants.{Bundle, Hail, Schedule}
 use Rattle.mu_command.specs.Allowed.{Seen, AllowsJob, AllowsFile}
 use Rattle.mu_texts.specs.What.{slot_of}
-use Rattle.mu_command.specs.Job.{job_of, bundle_word}
+use Rattle.mu_command.specs.Job.{job_of, file_of}
 use Rattle.mu_command.specs.Written.{Writes}
 use Rattle.mu_command.specs.Central.{Answered, IsQuiet, outcome_of, outcome_named, outcomes_of, OneAnswer}
 
@@ -38,11 +39,17 @@ named_is_told : (seen : Seen) (files : Files) (words : List (List ℕ)) (what : 
 named_is_told seen files words what None o told quiet h = h
 named_is_told seen files words what (Some n) o told quiet h = allowed_is_told files _ (seen.before (slot_of what)) (seen.now (slot_of what)) o (rw told at h) quiet.0 quiet.1
 
+-- what is found rests on the outcomes alone
+same_found : (words : List (List ℕ)) (job : Job) (o p : Outcomes) → ((what : What) → o what ≡ p what) → ready_part (found words job o) ≡ ready_part (found words job p)
+same_found words (Check file) o p same = rw (same Bundle) refl
+same_found words (Print file) o p same = rw (same Bundle) refl
+same_found words (Run r) o p same = rw (same Bundle, same Hail, same Schedule) refl
+
 outcomes_are_told : (seen : Seen) (files : Files) (words : List (List ℕ)) (job : Option Job) (o : Outcomes) → seen.told ≡ Some files → ((s : ℕ) → IsQuiet seen s) →
     AllowsJob seen words job o → answer_of words job o ≡ answer_of words job (outcomes_of files words job)
 outcomes_are_told seen files words None o told quiet h = refl
 outcomes_are_told seen files words (Some job) o told quiet h =
-    ap (λ (x : Outcome). ready_part (found words job x)) (named_is_told seen files words Bundle (Some (bundle_word job)) (o Bundle) told (quiet 0) (h Bundle))
+    same_found words job o (outcomes_of files words (Some job)) (λ what. named_is_told seen files words what (file_of job what) (o what) told (quiet (slot_of what)) (h what))
 
 pub complete : (seen : Seen) (files : Files) (words : List (List ℕ)) (w0 w1 e0 e1 : Option (List ℕ)) (status : Status) → Answered seen words w0 w1 e0 e1 status →
     seen.told ≡ Some files → ((s : ℕ) → IsQuiet seen s) → Writes (answer_of words (job_of words) (outcomes_of files words (job_of words))) w0 w1 e0 e1 status

@@ -8,3 +8,5 @@ pub mod InSteps
 pub mod Beginning
 pub mod Reading
 pub mod Moments
+pub mod Files
+pub mod Beginnings

@@ -1,56 +1,103 @@
 -- What the parts of the way come to, put together to an answer.
-use Rattle.std.proofs.Common.{◌≡◌, ℕ, List, [], refl, Some, None}
-use Rattle.std.specs.Prelude.{Vec, Ok, Err, codes}
-use Rattle.std.specs.declared.alloc.Global.{Global}
+use Rattle.std.proofs.Common.{◌≡◌, ℕ, ◌≤◌, List, [], refl, Some, None}
+use Rattle.std.specs.Prelude.{Result, Ok, Err, codes}
 use Rattle.mu_base.specs.declared.status.Status.TheVariants.{Usage}
 use Rattle.mu_base.specs.Outcome.{Outcome, got}
-use Rattle.mu_command.specs.declared.job.Job.{Job}
+use Rattle.ir_tree.specs.declared.items.Item.{Item}
 use Rattle.mu_texts.specs.declared.what.What.{What}
-use Rattle.mu_texts.specs.declared.what.What.TheVariants.{Bundle}
+use Rattle.mu_texts.specs.declared.what.What.TheVariants.{Bundle, Hail, Schedule}
 use Rattle.mu_texts.specs.declared.stop.Stop.{Stop}
 use Rattle.mu_texts.specs.declared.stop.Stop.TheVariants.{Line, Memory}
 use Rattle.mu_texts.specs.declared.ready.Ready.{Ready}
-use Rattle.mu_command.specs.Job.{job_of, file_of, bundle_word}
-use Rattle.mu_texts.specs.Answer.{Answer, line, ready_part, ready_answer}
-use Rattle.mu_command.specs.Answer.{Outcomes, asked, found}
-use Rattle.mu_command.specs.Allowed.{Seen, AllowsWord, AllowsFile}
-use Rattle.mu_texts.specs.Comes.{Comes}
-use Rattle.mu_command.specs.Parts.{IsLoaded, IsAnswer, IsFound}
+use Rattle.mu_texts.specs.declared.ready.Ready.TheVariants.{Entered}
+use Rattle.mu_texts.specs.Start.{Started}
+use Rattle.mu_texts.specs.Answer.{Answer, Part, ◌>>=◌, line, for_check, for_print, to_run, ready_part, ready_answer}
+use Rattle.mu_command.specs.declared.job.Job.{Job}
+use Rattle.mu_command.specs.declared.job.Job.TheVariants.{Check, Print, Run}
+use Rattle.mu_command.specs.declared.job.RunJob.{RunJob}
+use Rattle.mu_command.specs.Job.{job_of, file_of}
+use Rattle.mu_command.specs.Answer.{Outcomes, judged, begun, found}
+use Rattle.mu_command.specs.Allowed.{Seen, AllowsFile}
+use Rattle.mu_command.specs.Parts.{IsJudged, IsBegun, IsAnswer, IsFound, OfFile, OfRun, SameSlot}
+use Rattle.mu_command.proofs.Beginnings.{same_slot, some_named}
 
--- the outcome of the bundle's file alone decides
-abbrev one_outcome : Outcome → Outcomes
-one_outcome o Bundle = o
+-- allowed outcomes, and the answer to them
+together : (seen : Seen) (words : List (List ℕ)) (job : Job) (o : Outcomes) (answer : Answer) → job_of words ≡ Some job →
+    ((what : What) → AllowsFile seen words what (file_of job what) (o what)) → answer ≡ ready_part (found words job o) → IsAnswer seen words answer
+together seen words job o answer is allowed e = record { outcomes = o; allowed = rw is allowed; is = rw is e }
 
-one_allowed : (seen : Seen) (words : List (List ℕ)) (job : Job) (o : Outcome) → AllowsWord seen words Bundle (bundle_word job) o →
-    (what : What) → AllowsFile seen words what (file_of job what) (one_outcome o what)
-one_allowed seen words job o a Bundle = a
+-- a job of one file
+abbrev only : Outcome → Outcomes
+only o Bundle = o
+only o _ = got []
 
--- an allowed outcome, and the answer to it
-together : (seen : Seen) (words : List (List ℕ)) (job : Job) (o : Outcome) (answer : Answer) → job_of words ≡ Some job →
-    AllowsWord seen words Bundle (bundle_word job) o → answer ≡ ready_part (found words job o) → IsAnswer seen words answer
-together seen words job o answer is allowed e = record {
-  outcomes = one_outcome o;
-  allowed = rw is (one_allowed seen words job o allowed);
-  is = rw is e;
-}
+module _ (seen : Seen) (words : List (List ℕ)) (file : ℕ) where
+  check_allowed : (o : Outcome) → AllowsFile seen words Bundle (Some file) o → (what : What) → AllowsFile seen words what (file_of (Check file) what) (only o what)
+  check_allowed o h Bundle = h
+  check_allowed o h Hail = refl
+  check_allowed o h Schedule = refl
 
-module _ (seen : Seen) (words : List (List ℕ)) (job : Job) (is : job_of words ≡ Some job) where
-  -- no file was fetched
-  pub load_stops : (stop : Stop) → IsLoaded seen words Bundle (bundle_word job) (Err stop) → IsFound seen words (Err stop)
-  load_stops Memory loaded = tt
-  load_stops (Line text status) loaded = together seen words job loaded.0 _ is loaded.1 (rw loaded.2 refl)
+  print_allowed : (o : Outcome) → AllowsFile seen words Bundle (Some file) o → (what : What) → AllowsFile seen words what (file_of (Print file) what) (only o what)
+  print_allowed o h Bundle = h
+  print_allowed o h Hail = refl
+  print_allowed o h Schedule = refl
 
-  -- what the job asks was refused
-  pub asked_stops : (bytes : Vec ℕ Global) (stop : Stop) → IsLoaded seen words Bundle (bundle_word job) (Ok bytes) → Comes (asked words job bytes.items) (Err stop) → IsFound seen words (Err stop)
-  asked_stops bytes Memory loaded comes = tt
-  asked_stops bytes (Line text status) loaded comes = together seen words job (got bytes.items) _ is loaded (rw comes refl)
+  pub check_found : (r : Result Ready Stop) → job_of words ≡ Some (Check file) → IsJudged seen words Bundle (Some file) for_check r → IsFound seen words r
+  check_found (Ok ready) is h = together seen words (Check file) (only h.outcome) _ is (check_allowed h.outcome h.allowed) (rw h.comes refl)
+  check_found (Err (Line text status)) is h = together seen words (Check file) (only h.outcome) _ is (check_allowed h.outcome h.allowed) (rw h.comes refl)
+  check_found (Err Memory) is h = tt
 
-  -- it is there
-  pub asked_found : (bytes : Vec ℕ Global) (r : Ready) → IsLoaded seen words Bundle (bundle_word job) (Ok bytes) → asked words job bytes.items ≡ Ok r → IsAnswer seen words (ready_answer r)
-  asked_found bytes r loaded a = together seen words job (got bytes.items) _ is loaded (rw a refl)
+  pub print_found : (r : Result Ready Stop) → job_of words ≡ Some (Print file) → IsJudged seen words Bundle (Some file) for_print r → IsFound seen words r
+  print_found (Ok ready) is h = together seen words (Print file) (only h.outcome) _ is (print_allowed h.outcome h.allowed) (rw h.comes refl)
+  print_found (Err (Line text status)) is h = together seen words (Print file) (only h.outcome) _ is (print_allowed h.outcome h.allowed) (rw h.comes refl)
+  print_found (Err Memory) is h = tt
+
+-- the outcomes of a script and of a schedule
+abbrev two : Outcome → Outcome → Outcomes
+two a b Bundle = got []
+two a b Hail = a
+two a b Schedule = b
+
+-- a run: the outcome of the bundle, and those of the other files
+abbrev with_bundle : Outcome → Outcomes → Outcomes
+with_bundle o more Bundle = o
+with_bundle o more Hail = more Hail
+with_bundle o more Schedule = more Schedule
+
+run_allowed : (seen : Seen) (words : List (List ℕ)) (r : RunJob) (o : Outcome) (more : Outcomes) → AllowsFile seen words Bundle (Some r.file) o → AllowsFile seen words Hail r.hail (more Hail) →
+    AllowsFile seen words Schedule r.schedule (more Schedule) → (what : What) → AllowsFile seen words what (file_of (Run r) what) (with_bundle o more what)
+run_allowed seen words r o more a b c Bundle = a
+run_allowed seen words r o more a b c Hail = b
+run_allowed seen words r o more a b c Schedule = c
+
+module _ (last : Seen) (words : List (List ℕ)) (r : RunJob) (is : job_of words ≡ Some (Run r)) where
+  -- the bundle is refused
+  pub no_code : (stop : Stop) → ((s : ℕ) → last.before s ≤ last.now s) → IsJudged last words Bundle (Some r.file) to_run (Err stop) → IsFound last words (Err stop)
+  no_code Memory le h = tt
+  no_code (Line text status) le h =
+      let a = some_named last words Hail r.hail (le 1) in
+      let b = some_named last words Schedule r.schedule (le 3) in
+      together last words (Run r) (with_bundle h.outcome (two a.0 b.0)) _ is (run_allowed last words r h.outcome (two a.0 b.0) h.allowed a.1 b.1) (rw h.comes refl)
+
+  module _ (seen after : Seen) (code : List Item) (same : SameSlot seen last Bundle) (same_hail : SameSlot after last Hail) (same_schedule : SameSlot after last Schedule)
+      (bundle : OfFile seen words Bundle (Some r.file) to_run (Ok code)) where
+    -- it is there, and the run does not begin
+    pub not_begun : (stop : Stop) → IsBegun after words r code (Err stop) → IsFound last words (Err stop)
+    not_begun Memory h = tt
+    not_begun (Line text status) h =
+        together last words (Run r) (with_bundle bundle.outcome h.outcomes) _ is
+        (run_allowed last words r bundle.outcome h.outcomes (same_slot seen last words Bundle (Some r.file) bundle.outcome same bundle.allowed)
+        (same_slot after last words Hail r.hail (h.outcomes Hail) same_hail h.hail) (same_slot after last words Schedule r.schedule (h.outcomes Schedule) same_schedule h.schedule)) (rw (bundle.comes, h.comes) refl)
+
+    -- it begins
+    pub run_found : (start : Started) → OfRun after words r code (Ok start) → IsAnswer last words (ready_answer (Entered code start))
+    run_found start h =
+        together last words (Run r) (with_bundle bundle.outcome h.outcomes) _ is
+        (run_allowed last words r bundle.outcome h.outcomes (same_slot seen last words Bundle (Some r.file) bundle.outcome same bundle.allowed)
+        (same_slot after last words Hail r.hail (h.outcomes Hail) same_hail h.hail) (same_slot after last words Schedule r.schedule (h.outcomes Schedule) same_schedule h.schedule)) (rw (bundle.comes, h.comes) refl)
 
 -- the words ask for nothing
 pub no_job : (seen : Seen) (words : List (List ℕ)) (text : List ℕ) → text ≡ codes "usage" → job_of words ≡ None → IsAnswer seen words (line text Usage)
-no_job seen words text e is = record { outcomes = one_outcome (got []); allowed = rw is tt; is = rw (is, e) refl }
+no_job seen words text e is = record { outcomes = only (got []); allowed = rw is tt; is = rw (is, e) refl }
 
-pub ruleset together_rules = (load_stops, asked_stops, asked_found, no_job)
+pub ruleset together_rules = (check_found, print_found, no_code, not_begun, run_found, no_job)

@@ -1,6 +1,7 @@
 -- The one statement about the program, and the causes of its statuses.
 use Rattle.std.specs.Prelude.{◌≡◌, ◌⊎◌, ℕ, ◌-◌, ◌^◌, ◌<◌, List, [], length, Option, None, Some, Ok, Err, nat_le, if◌then◌else◌}
 use Rattle.mu_base.specs.declared.status.Status.{Status}
+use Rattle.mu_base.specs.declared.status.Status.TheVariants.{Refused}
 use Rattle.mu_base.specs.Faults.{Rose}
 use Rattle.mu_base.specs.Files.{Files, file, IsMissing}
 use Rattle.mu_base.specs.Outcome.{Outcome, got, failed, too_long, IsLonger}
@@ -11,11 +12,11 @@ use Rattle.text_programs.specs.Moments.{MomentsAreSound}
 use Rattle.mu_texts.specs.declared.ready.Ready.{Ready}
 use Rattle.mu_texts.specs.declared.ready.Ready.TheVariants as ready
 use Rattle.mu_texts.specs.declared.what.What.{What}
-use Rattle.mu_texts.specs.declared.what.What.TheVariants.{Bundle}
 use Rattle.mu_texts.specs.What.{slot_of}
-use Rattle.mu_command.specs.Job.{job_of, file_of, bundle_word, word}
-use Rattle.mu_texts.specs.Answer.{Answer, first_setting, ready_answer}
-use Rattle.mu_command.specs.Answer.{Outcomes, asked, answer_of}
+use Rattle.mu_command.specs.Job.{job_of, file_of, word}
+use Rattle.mu_texts.specs.Start.{Started}
+use Rattle.mu_texts.specs.Answer.{Answer, ready_answer}
+use Rattle.mu_command.specs.Answer.{Outcomes, found, answer_of}
 use Rattle.mu_command.specs.Allowed.{Seen, AllowsWord, AllowsJob, file_limit}
 use Rattle.mu_command.specs.Written.{Writes}
 
@@ -40,19 +41,21 @@ MayFail seen words what n = Rose (seen.before (slot_of what)) (seen.now (slot_of
 abbrev pub IsPast : Seen → List (List ℕ) → What → ℕ → Type 0
 IsPast seen words what n = IsLonger seen.told (word words n) file_limit × (seen.now (slot_of what) ≡ seen.before (slot_of what))
 
--- the bytes of a bundle's file, and what the job asks of them: it is there, and its answer has this status; or it is refused
+-- outcomes that the inputs allow for the files of the job, and what is found with them: it is there, and its answer has this status; or
+-- a file or the entry is refused
 pub record IsAccepted (seen : Seen) (words : List (List ℕ)) (status : Status) (job : Job) : Type 0 where
-  pub bytes : List ℕ
-  pub held : AllowsWord seen words Bundle (bundle_word job) (got bytes)
+  pub outcomes : Outcomes
+  pub allowed : AllowsJob seen words (Some job) outcomes
   pub ready : Ready
-  pub is : asked words job bytes ≡ Ok ready
+  pub is : found words job outcomes ≡ Ok ready
   pub ends : (ready_answer ready).status ≡ status
 
 pub record IsRefused (seen : Seen) (words : List (List ℕ)) (job : Job) : Type 0 where
-  pub bytes : List ℕ
-  pub held : AllowsWord seen words Bundle (bundle_word job) (got bytes)
+  pub outcomes : Outcomes
+  pub allowed : AllowsJob seen words (Some job) outcomes
   pub refusal : Answer
-  pub is : asked words job bytes ≡ Err refusal
+  pub is : found words job outcomes ≡ Err refusal
+  pub status : refusal.status ≡ Refused
 
 -- of the job, where there is one
 abbrev pub OfJob : (Job → Type 0) → Option Job → Type 0
@@ -61,12 +64,12 @@ OfJob P (Some job) = P job
 
 -- ---- the run that is told
 
--- Whatever bytes the bundle's file has, of which a run is asked: at each of its moments the log meets the axioms, no two of its events race,
+-- Whatever bytes the files have, by which a run begins: at each of its moments the log meets the axioms, no two of its events race,
 -- each of its reads was an option of its past, and the next step has a rule.
 abbrev pub RunsAreSound : List (List ℕ) → Type 0
 RunsAreSound words =
-    (job : Job) (bytes : List ℕ) (code : List Item) (n budget cells : ℕ) → job_of words ≡ Some job → asked words job bytes ≡ Ok (ready.Entered code n budget cells) →
-    MomentsAreSound (named code) (first_setting code budget cells) n
+    (job : Job) (outcomes : Outcomes) (code : List Item) (start : Started) → job_of words ≡ Some job → found words job outcomes ≡ Ok (ready.Entered code start) →
+    MomentsAreSound (named code) start.setting start.entry
 
 -- ---- completeness
 

@@ -2,19 +2,26 @@
 use Rattle.std.specs.Prelude.{◌≡◌, ℕ, List, [], ◌∷◌, Some, None, codes, refl}
 use Rattle.mu_base.specs.declared.status.Status.TheVariants.{Usage, ReadFault, TooLong}
 use Rattle.mu_base.specs.Outcome.{got, failed, too_long}
+use Rattle.mem_axioms.specs.declared.types.Rule.TheVariants.{C11, Rmw}
+use Rattle.mu_texts.specs.declared.what.What.TheVariants.{Bundle, Hail, Schedule}
 use Rattle.mu_command.specs.declared.job.Job.TheVariants.{Run}
-use Rattle.mu_command.specs.Job.{job_of}
+use Rattle.mu_command.specs.declared.job.RunJob.{RunJob}
+use Rattle.mu_command.specs.Job.{job_of, file_of}
 use Rattle.mu_command.specs.Answer.{answer_of}
 
 -- the words of a run, whose file is the second and whose entry is the fourth
 abbrev words : List (List ℕ)
 words = codes "run" ∷ codes "b" ∷ codes "--entry" ∷ codes "@main" ∷ []
 
-a_run : job_of words ≡ Some (Run 1 3 200000 100000)
+-- a run of the second word, without the other files
+abbrev plain : ℕ → ℕ → ℕ → RunJob
+plain entry budget cells = record { file = 1; entry = entry; hail = None; schedule = None; rule = C11; budget = budget; cells = cells }
+
+a_run : job_of words ≡ Some (Run (plain 3 200000 100000))
 unfolding job_of
 a_run = refl
 
-fewer_steps : job_of (codes "run" ∷ codes "b" ∷ codes "--steps" ∷ codes "007" ∷ codes "--entry" ∷ codes "@main" ∷ []) ≡ Some (Run 1 5 7 100000)
+fewer_steps : job_of (codes "run" ∷ codes "b" ∷ codes "--steps" ∷ codes "007" ∷ codes "--entry" ∷ codes "@main" ∷ []) ≡ Some (Run (plain 5 7 100000))
 unfolding job_of
 fewer_steps = refl
 
@@ -22,11 +29,11 @@ too_many_steps : job_of (codes "run" ∷ codes "b" ∷ codes "--entry" ∷ codes
 unfolding job_of
 too_many_steps = refl
 
-fewer_cells : job_of (codes "run" ∷ codes "b" ∷ codes "--cells" ∷ codes "0" ∷ codes "--entry" ∷ codes "@main" ∷ codes "--steps" ∷ codes "12" ∷ []) ≡ Some (Run 1 5 12 0)
+fewer_cells : job_of (codes "run" ∷ codes "b" ∷ codes "--cells" ∷ codes "0" ∷ codes "--entry" ∷ codes "@main" ∷ codes "--steps" ∷ codes "12" ∷ []) ≡ Some (Run (plain 5 12 0))
 unfolding job_of
 fewer_cells = refl
 
-more_cells : job_of (codes "run" ∷ codes "b" ∷ codes "--entry" ∷ codes "@main" ∷ codes "--cells" ∷ codes "1000000" ∷ []) ≡ Some (Run 1 3 200000 1000000)
+more_cells : job_of (codes "run" ∷ codes "b" ∷ codes "--entry" ∷ codes "@main" ∷ codes "--cells" ∷ codes "1000000" ∷ []) ≡ Some (Run (plain 3 200000 1000000))
 unfolding job_of
 more_cells = refl
 
@@ -35,7 +42,7 @@ unfolding job_of
 too_many_cells = refl
 
 -- the value of an option is the next word, whatever it is
-a_name_like_an_option : job_of (codes "run" ∷ codes "b" ∷ codes "--entry" ∷ codes "--cells" ∷ codes "--cells" ∷ codes "3" ∷ []) ≡ Some (Run 1 3 200000 3)
+a_name_like_an_option : job_of (codes "run" ∷ codes "b" ∷ codes "--entry" ∷ codes "--cells" ∷ codes "--cells" ∷ codes "3" ∷ []) ≡ Some (Run (plain 3 200000 3))
 unfolding job_of
 a_name_like_an_option = refl
 
@@ -58,8 +65,29 @@ another_command = refl
 usage : answer_of words None (λ _. got []) ≡ record { pieces = codes "usage\n" ∷ []; status = Usage }
 usage = refl
 
-no_such_file : answer_of words (Some (Run 1 3 200000 100000)) (λ _. failed) ≡ record { pieces = codes "read fault bundle\n" ∷ []; status = ReadFault }
+no_such_file : answer_of words (Some (Run (plain 3 200000 100000))) (λ _. failed) ≡ record { pieces = codes "read fault bundle\n" ∷ []; status = ReadFault }
 no_such_file = refl
 
-a_long_file : answer_of words (Some (Run 1 3 200000 100000)) (λ _. too_long) ≡ record { pieces = codes "too long bundle\n" ∷ []; status = TooLong }
+a_long_file : answer_of words (Some (Run (plain 3 200000 100000))) (λ _. too_long) ≡ record { pieces = codes "too long bundle\n" ∷ []; status = TooLong }
 a_long_file = refl
+
+-- the other files, and the rule of release sequences
+all_files : job_of (codes "run" ∷ codes "b" ∷ codes "--schedule" ∷ codes "s" ∷ codes "--release-sequences" ∷ codes "rmw" ∷ codes "--hail" ∷ codes "h" ∷ codes "--entry" ∷ codes "@main" ∷ [])
+    ≡ Some (Run (record { file = 1; entry = 9; hail = Some 7; schedule = Some 3; rule = Rmw; budget = 200000; cells = 100000 }))
+unfolding job_of
+all_files = refl
+
+another_rule : job_of (codes "run" ∷ codes "b" ∷ codes "--entry" ∷ codes "@main" ∷ codes "--release-sequences" ∷ codes "c20" ∷ []) ≡ None
+unfolding job_of
+another_rule = refl
+
+two_scripts : job_of (codes "run" ∷ codes "b" ∷ codes "--entry" ∷ codes "@main" ∷ codes "--hail" ∷ codes "h" ∷ codes "--hail" ∷ codes "h" ∷ []) ≡ None
+unfolding job_of
+two_scripts = refl
+
+no_client_yet : job_of (codes "run" ∷ codes "b" ∷ codes "--entry" ∷ codes "@main" ∷ codes "--client" ∷ codes "k" ∷ []) ≡ None
+unfolding job_of
+no_client_yet = refl
+
+no_script : file_of (Run (plain 3 200000 100000)) Hail ≡ None
+no_script = refl

@@ -1,11 +1,14 @@
 -- What the words of a command line ask for, and the files of that.
 use Rattle.std.specs.Prelude.{ℕ, ◌+◌, ◌-◌, ◌*◌, ◌<◌, ◌≤◌, IfSome, Bool, nat_eq, nat_le, List, [], ◌∷◌, length, Option, None, Some, codes, bytes_eq, if◌then◌else◌, ◌&&◌, drop, slice_index_or}
 use Rattle.std.specs.Option.{unwrap_or, option_map, option_and_then}
+use Rattle.mem_axioms.specs.declared.types.Rule.{Rule}
+use Rattle.mem_axioms.specs.declared.types.Rule.TheVariants.{C11, Rmw}
 use Rattle.mu_command.specs.declared.job.Job.{Job}
+use Rattle.mu_command.specs.declared.job.RunJob.{RunJob}
 use Rattle.mu_command.specs.declared.job.Job.TheVariants.{Check, Print, Run}
 use Rattle.mu_command.specs.declared.options.Options.{Options}
 use Rattle.mu_texts.specs.declared.what.What.{What}
-use Rattle.mu_texts.specs.declared.what.What.TheVariants.{Bundle}
+use Rattle.mu_texts.specs.declared.what.What.TheVariants.{Bundle, Hail, Schedule}
 
 -- the word with that number
 abbrev pub word : List (List ℕ) → ℕ → List ℕ
@@ -47,7 +50,7 @@ most_cells = 1000000
 -- ---- the options of a run
 
 abbrev pub no_options : Options
-no_options = record { entry = None; steps = None; cells = None }
+no_options = record { entry = None; hail = None; schedule = None; rule = None; steps = None; cells = None }
 
 -- the value of an option that was given before or not, and is given now
 abbrev pub given_once : {A : Type 0} → Option A → Option A → Option A
@@ -57,18 +60,34 @@ given_once (Some earlier) value = None
 abbrev pub with_entry : Options → Option ℕ → Option Options
 with_entry options value = option_map (λ n. record options { entry = Some n }) (given_once options.entry value)
 
+abbrev pub with_hail : Options → Option ℕ → Option Options
+with_hail options value = option_map (λ n. record options { hail = Some n }) (given_once options.hail value)
+
+abbrev pub with_schedule : Options → Option ℕ → Option Options
+with_schedule options value = option_map (λ n. record options { schedule = Some n }) (given_once options.schedule value)
+
+abbrev pub with_rule : Options → Option Rule → Option Options
+with_rule options value = option_map (λ rule. record options { rule = Some rule }) (given_once options.rule value)
+
 abbrev pub with_steps : Options → Option ℕ → Option Options
 with_steps options value = option_map (λ n. record options { steps = Some n }) (given_once options.steps value)
 
 abbrev pub with_cells : Options → Option ℕ → Option Options
 with_cells options value = option_map (λ n. record options { cells = Some n }) (given_once options.cells value)
 
+-- the rule of release sequences that a word names
+abbrev pub rule_named : List ℕ → Option Rule
+rule_named text = if bytes_eq text (codes "c11") then Some C11 else (if bytes_eq text (codes "rmw") then Some Rmw else None)
+
 -- the options with one more, of that name; its value is the word with number n
 abbrev pub with_option : Options → List ℕ → ℕ → List ℕ → Option Options
 with_option options name n value =
     if bytes_eq name (codes "--entry") then with_entry options (Some n)
     else (if bytes_eq name (codes "--steps") then with_steps options (number_up_to most_steps value)
-    else (if bytes_eq name (codes "--cells") then with_cells options (number_up_to most_cells value) else None))
+    else (if bytes_eq name (codes "--cells") then with_cells options (number_up_to most_cells value)
+    else (if bytes_eq name (codes "--hail") then with_hail options (Some n)
+    else (if bytes_eq name (codes "--schedule") then with_schedule options (Some n)
+    else (if bytes_eq name (codes "--release-sequences") then with_rule options (rule_named value) else None)))))
 
 -- the options with those of all these words, the first of which has number n: names, each with its value behind it
 abbrev pub with_all : Options → ℕ → List (List ℕ) → Option Options
@@ -80,32 +99,62 @@ with_all options n (name ∷ value ∷ words) = option_and_then (λ more. with_a
 
 -- the run of the file that word 1 names
 abbrev pub run_with : Options → Option Job
-run_with options = option_map (λ entry. Run 1 entry (unwrap_or options.steps usual_steps) (unwrap_or options.cells usual_cells)) options.entry
+run_with options =
+    option_map (λ entry. Run (record {
+      file = 1;
+      entry = entry;
+      hail = options.hail;
+      schedule = options.schedule;
+      rule = unwrap_or options.rule C11;
+      budget = unwrap_or options.steps usual_steps;
+      cells = unwrap_or options.cells usual_cells;
+    })) options.entry
 
 -- `check FILE`, `print FILE`, and `run FILE` with options in any order, each at most once: `--entry NAME`, which is required,
--- `--steps N` and `--cells N`; all other words ask for nothing
+-- `--hail F`, `--schedule F`, `--release-sequences c11` or `rmw`, `--steps N` and `--cells N`; all other words ask for nothing
 unfoldable pub job_of : List (List ℕ) → Option Job
 job_of words =
     if nat_eq (length words) 2 && is_word words 0 (codes "check") then Some (Check 1)
     else (if nat_eq (length words) 2 && is_word words 0 (codes "print") then Some (Print 1)
     else (if nat_le 2 (length words) && is_word words 0 (codes "run") then option_and_then run_with (with_all no_options 2 (drop 2 words)) else None))
 
--- the word that names the bundle
+-- the words that name the bundle, the script that fills the heap, and the schedule
 abbrev pub bundle_word : Job → ℕ
 bundle_word (Check file) = file
 bundle_word (Print file) = file
-bundle_word (Run file entry budget cells) = file
+bundle_word (Run r) = r.file
+
+abbrev pub hail_word : Job → Option ℕ
+hail_word (Run r) = r.hail
+hail_word _ = None
+
+abbrev pub schedule_word : Job → Option ℕ
+schedule_word (Run r) = r.schedule
+schedule_word _ = None
 
 -- the word that names a file of the job, where the job has that file
 abbrev pub file_of : Job → What → Option ℕ
 file_of job Bundle = Some (bundle_word job)
+file_of job Hail = hail_word job
+file_of job Schedule = schedule_word job
 
--- the words of a job are there, and no more steps are asked than may be
+-- the words of a run are there, of so many, and no more steps are asked than may be
+pub record IsThere (count : ℕ) (r : RunJob) : Type 0 where
+  pub file : r.file < count
+  pub entry : r.entry < count
+  pub hail : IfSome r.hail (λ n. n < count)
+  pub schedule : IfSome r.schedule (λ n. n < count)
+  pub budget : r.budget ≤ most_steps
+
+-- the same of a job
 abbrev pub AreThere : List (List ℕ) → Job → Type 0
 AreThere words (Check file) = file < length words
 AreThere words (Print file) = file < length words
-AreThere words (Run file entry budget cells) = (file < length words) × (entry < length words) × (budget ≤ most_steps)
+AreThere words (Run r) = IsThere (length words) r
 
 -- the same of options
-abbrev pub OptionsAreThere : ℕ → Options → Type 0
-OptionsAreThere count options = IfSome options.entry (λ e. e < count) × IfSome options.steps (λ n. n ≤ most_steps)
+pub record OptionsAreThere (count : ℕ) (options : Options) : Type 0 where
+  pub entry : IfSome options.entry (λ n. n < count)
+  pub hail : IfSome options.hail (λ n. n < count)
+  pub schedule : IfSome options.schedule (λ n. n < count)
+  pub steps : IfSome options.steps (λ n. n ≤ most_steps)

@@ -1,36 +1,176 @@
 // The first half of the program: finds what is to be written.
-ghost use Rattle.std.specs.Prelude.{◌≡◌, ◌≤◌, ℕ, Some, IfOk};
-ghost use Rattle.mu_texts.specs.Comes.{Comes, CanRun};
-ghost use Rattle.mu_command.specs.Answer.{asked};
-ghost use Rattle.mu_command.specs.Job.{job_of, AreThere};
-ghost use Rattle.mu_command.specs.Parts.{IsFound};
+ghost use Rattle.std.specs.Prelude.{◌≡◌, ◌≢◌, ◌<◌, ◌≤◌, ℕ, None, Some, IfOk, IfSome, length};
+ghost use Rattle.demands.specs.Demands.{first_unmet};
+ghost use Rattle.mu_step.specs.Built.{built_demands};
+ghost use Rattle.mu_texts.specs.What.{slot_of};
+ghost use Rattle.mu_texts.specs.Answer.{for_check, for_print, to_run, loaded, scheduled};
+ghost use Rattle.mu_texts.specs.Comes.{IsFilled, IsRunnable, LoadedRunsEnd, CanRun};
+ghost use Rattle.mu_command.specs.Job.{job_of, AreThere, IsThere};
+ghost use Rattle.mu_command.specs.Parts.{IsJudged, IsBegun, IsFound, objects_in};
 
-use crate::job::Job;
+use crate::job::{Job, RunJob};
 use crate::loading::load;
 use crate::words::read_words;
+use bundle_check::Checked;
 use mu_base::{Inputs, Status, Words};
-use mu_texts::{Ready, Stop, What, judge_for_check, judge_for_print, judge_for_run};
+use mu_texts::{
+    Ready, Start, Stop, What, enter, judge_for_check, judge_for_print, judge_for_run,
+    judge_schedule, judge_script,
+};
+use mu_threads::Schedule;
 use std::alloc::Global;
+use typed_heap::Heap;
 
-// Judges a bundle's text as the job asks.
-fn judge(alloc: Global, words: &Words, job: Job, bytes: &[u8]) -> Result<Ready, Stop>
-    requires { AreThere words.now job }
-    ensures asked { Comes (asked words.now job bytes.now) result }
+// Fetches a bundle and judges it, for `mu check`.
+#[tactic(auto, using(crate::proofs::Files::files))]
+fn find_checked<I: Inputs>(
+    alloc: Global,
+    words: &Words,
+    file: usize,
+    inputs: &mut I,
+) -> Result<Ready, Stop>
+    requires { file < length words.now }
+    ensures same { I.holds inputs.new ≡ I.holds inputs.old }
+    ensures other_slots { (s : ℕ) → s ≢ slot_of What.Bundle → I.faults inputs.new s ≡ I.faults inputs.old s }
+    ensures never_falls { (s : ℕ) → I.faults inputs.old s ≤ I.faults inputs.new s }
+    ensures judged { IsJudged (record { told = I.holds inputs.old; before = I.faults inputs.old; now = I.faults inputs.new }) words.now What.Bundle (Some file) for_check result }
     ensures there { IfOk result CanRun }
 {
-    match job {
-        Job::Check { .. } => judge_for_check(alloc, bytes),
-        Job::Print { .. } => judge_for_print(alloc, bytes),
-        Job::Run {
-            entry,
-            budget,
-            cells,
-            ..
-        } => judge_for_run(alloc, bytes, words.word(entry), budget, cells),
+    let bytes = load(alloc, words, What::Bundle, Some(file), inputs)?;
+    judge_for_check(alloc, &bytes)
+}
+
+// Fetches a bundle and reads it, for `mu print`.
+#[tactic(auto, using(crate::proofs::Files::files))]
+fn find_printed<I: Inputs>(
+    alloc: Global,
+    words: &Words,
+    file: usize,
+    inputs: &mut I,
+) -> Result<Ready, Stop>
+    requires { file < length words.now }
+    ensures same { I.holds inputs.new ≡ I.holds inputs.old }
+    ensures other_slots { (s : ℕ) → s ≢ slot_of What.Bundle → I.faults inputs.new s ≡ I.faults inputs.old s }
+    ensures never_falls { (s : ℕ) → I.faults inputs.old s ≤ I.faults inputs.new s }
+    ensures judged { IsJudged (record { told = I.holds inputs.old; before = I.faults inputs.old; now = I.faults inputs.new }) words.now What.Bundle (Some file) for_print result }
+    ensures there { IfOk result CanRun }
+{
+    let bytes = load(alloc, words, What::Bundle, Some(file), inputs)?;
+    judge_for_print(alloc, &bytes)
+}
+
+// Fetches a bundle and judges it, for a run.
+#[tactic(auto, using(crate::proofs::Files::files))]
+fn find_code<I: Inputs>(
+    alloc: Global,
+    words: &Words,
+    file: usize,
+    inputs: &mut I,
+) -> Result<Checked, Stop>
+    requires { file < length words.now }
+    ensures same { I.holds inputs.new ≡ I.holds inputs.old }
+    ensures other_slots { (s : ℕ) → s ≢ slot_of What.Bundle → I.faults inputs.new s ≡ I.faults inputs.old s }
+    ensures never_falls { (s : ℕ) → I.faults inputs.old s ≤ I.faults inputs.new s }
+    ensures judged { IsJudged (record { told = I.holds inputs.old; before = I.faults inputs.old; now = I.faults inputs.new }) words.now What.Bundle (Some file) to_run result }
+    ensures ends { IfOk result LoadedRunsEnd }
+    ensures built { IfOk result (λ code. first_unmet (built_demands code) ≡ None) }
+{
+    let bytes = load(alloc, words, What::Bundle, Some(file), inputs)?;
+    judge_for_run(alloc, &bytes)
+}
+
+// Fetches the script, and fills the heap by it.
+#[tactic(auto, using(crate::proofs::Files::files))]
+fn find_heap<I: Inputs>(
+    alloc: Global,
+    words: &Words,
+    run: RunJob,
+    code: &Checked,
+    inputs: &mut I,
+) -> Result<Heap, Stop>
+    requires { IfSome run.hail (λ n. n < length words.now) }
+    ensures same { I.holds inputs.new ≡ I.holds inputs.old }
+    ensures other_slots { (s : ℕ) → s ≢ slot_of What.Hail → I.faults inputs.new s ≡ I.faults inputs.old s }
+    ensures never_falls { (s : ℕ) → I.faults inputs.old s ≤ I.faults inputs.new s }
+    ensures judged { IsJudged (record { told = I.holds inputs.old; before = I.faults inputs.old; now = I.faults inputs.new }) words.now What.Hail run.hail (loaded code.now run.cells) (objects_in result) }
+    ensures filled { IfOk result (IsFilled code.now run.cells) }
+{
+    let bytes = load(alloc, words, What::Hail, run.hail, inputs)?;
+    judge_script(alloc, &bytes, code, run.cells)
+}
+
+// Fetches the schedule and reads it.
+#[tactic(auto, using(crate::proofs::Files::files))]
+fn find_picks<I: Inputs>(
+    alloc: Global,
+    words: &Words,
+    run: RunJob,
+    inputs: &mut I,
+) -> Result<Schedule, Stop>
+    requires { IfSome run.schedule (λ n. n < length words.now) }
+    ensures same { I.holds inputs.new ≡ I.holds inputs.old }
+    ensures other_slots { (s : ℕ) → s ≢ slot_of What.Schedule → I.faults inputs.new s ≡ I.faults inputs.old s }
+    ensures never_falls { (s : ℕ) → I.faults inputs.old s ≤ I.faults inputs.new s }
+    ensures judged { IsJudged (record { told = I.holds inputs.old; before = I.faults inputs.old; now = I.faults inputs.new }) words.now What.Schedule run.schedule scheduled result }
+{
+    let bytes = load(alloc, words, What::Schedule, run.schedule, inputs)?;
+    judge_schedule(alloc, &bytes)
+}
+
+// How the run of a bundle begins. A checked bundle is lent, so that one function alone drops it.
+#[tactic(auto, using(crate::proofs::Beginnings::beginnings))]
+fn find_start<I: Inputs>(
+    alloc: Global,
+    words: &Words,
+    run: RunJob,
+    code: &Checked,
+    inputs: &mut I,
+) -> Result<Start, Stop>
+    requires there { IsThere (length words.now) run }
+    requires ends { LoadedRunsEnd code.now }
+    requires built { first_unmet (built_demands code.now) ≡ None }
+    ensures same { I.holds inputs.new ≡ I.holds inputs.old }
+    ensures bundle_slot { I.faults inputs.new 0 ≡ I.faults inputs.old 0 }
+    ensures never_falls { (s : ℕ) → I.faults inputs.old s ≤ I.faults inputs.new s }
+    ensures begun { IsBegun (record { told = I.holds inputs.old; before = I.faults inputs.old; now = I.faults inputs.new }) words.now run code.now result }
+    ensures there { IfOk result (IsRunnable code.now) }
+{
+    let entry = enter(alloc, code, words.word(run.entry))?;
+    let heap = find_heap(alloc, words, run, code, inputs)?;
+    let picks = find_picks(alloc, words, run, inputs)?;
+    Ok(Start {
+        entry,
+        heap,
+        picks,
+        rule: run.rule,
+        cells: run.cells,
+        budget: run.budget,
+    })
+}
+
+// The run that is asked for.
+#[tactic(auto, using(crate::proofs::Together::together_rules))]
+fn find_run<I: Inputs>(
+    alloc: Global,
+    words: &Words,
+    run: RunJob,
+    inputs: &mut I,
+) -> Result<Ready, Stop>
+    requires there { IsThere (length words.now) run }
+    requires job { job_of words.now ≡ Some (Job.Run run) }
+    ensures same { I.holds inputs.new ≡ I.holds inputs.old }
+    ensures never_falls { (s : ℕ) → I.faults inputs.old s ≤ I.faults inputs.new s }
+    ensures found { IsFound (record { told = I.holds inputs.old; before = I.faults inputs.old; now = I.faults inputs.new }) words.now result }
+    ensures there { IfOk result CanRun }
+{
+    let code = find_code(alloc, words, run.file, inputs)?;
+    match find_start(alloc, words, run, &code, inputs) {
+        Ok(start) => Ok(Ready::Entered { code, start }),
+        Err(stop) => Err(stop),
     }
 }
 
-// Fetches the bundle and judges it.
+// Fetches the files of a job and judges them.
 #[tactic(auto, using(crate::proofs::Together::together_rules))]
 fn find_job<I: Inputs>(
     alloc: Global,
@@ -45,9 +185,11 @@ fn find_job<I: Inputs>(
     ensures found { IsFound (record { told = I.holds inputs.old; before = I.faults inputs.old; now = I.faults inputs.new }) words.now result }
     ensures there { IfOk result CanRun }
 {
-    let bytes = load(alloc, words, What::Bundle, job.bundle(), inputs)?;
-    let ready = judge(alloc, words, job, &bytes)?;
-    Ok(ready)
+    match job {
+        Job::Check { file } => find_checked(alloc, words, file, inputs),
+        Job::Print { file } => find_printed(alloc, words, file, inputs),
+        Job::Run(run) => find_run(alloc, words, run, inputs),
+    }
 }
 
 /// Reads the words, fetches the files and judges them.

@@ -11,6 +11,6 @@ mod sound;
 mod words;
 mod writing;
 
-pub use job::Job;
+pub use job::{Job, RunJob};
 pub use program::{answer_is_one, mu};
 pub use words::read_words;

@@ -1,5 +1,5 @@
 // Fetches a file of the job.
-ghost use Rattle.std.specs.Prelude.{◌≡◌, ◌≢◌, ◌<◌, ◌≤◌, ◌++◌, ℕ, length, IfOk};
+ghost use Rattle.std.specs.Prelude.{◌≡◌, ◌≢◌, ◌<◌, ◌≤◌, ◌++◌, ℕ, length, Some, IfOk, IfSome};
 ghost use Rattle.mu_texts.specs.What.{name_of, slot_of};
 ghost use Rattle.mu_command.specs.Parts.{IsLoaded};
 
@@ -19,8 +19,8 @@ fn naming(alloc: Global, text: &str, what: What) -> Result<Vec<u8>, AllocError>
     Ok(all)
 }
 
-/// Fetches the file that a word names.
-pub fn load<I: Inputs>(
+// Fetches the file that a word names.
+fn load_named<I: Inputs>(
     alloc: Global,
     words: &Words,
     what: What,
@@ -31,7 +31,7 @@ pub fn load<I: Inputs>(
     ensures same { I.holds inputs.new ≡ I.holds inputs.old }
     ensures other_slots { (s : ℕ) → s ≢ slot_of what → I.faults inputs.new s ≡ I.faults inputs.old s }
     ensures never_falls { (s : ℕ) → I.faults inputs.old s ≤ I.faults inputs.new s }
-    ensures loaded { IsLoaded (record { told = I.holds inputs.old; before = I.faults inputs.old; now = I.faults inputs.new }) words.now what n result }
+    ensures loaded { IsLoaded (record { told = I.holds inputs.old; before = I.faults inputs.old; now = I.faults inputs.new }) words.now what (Some n) result }
 {
     let mut bytes = Vec::new(alloc);
     match inputs.fetch(what.slot(), words.word(n), FILE_LIMIT, &mut bytes) {
@@ -45,5 +45,25 @@ pub fn load<I: Inputs>(
             Status::TooLong,
         )),
         Err(FetchFault::Memory) => Err(Stop::Memory),
+    }
+}
+
+/// Fetches a file of the job; where no word names it, it is empty and nothing is fetched.
+pub fn load<I: Inputs>(
+    alloc: Global,
+    words: &Words,
+    what: What,
+    n: Option<usize>,
+    inputs: &mut I,
+) -> Result<Vec<u8>, Stop>
+    requires { IfSome n (λ n. n < length words.now) }
+    ensures same { I.holds inputs.new ≡ I.holds inputs.old }
+    ensures other_slots { (s : ℕ) → s ≢ slot_of what → I.faults inputs.new s ≡ I.faults inputs.old s }
+    ensures never_falls { (s : ℕ) → I.faults inputs.old s ≤ I.faults inputs.new s }
+    ensures loaded { IsLoaded (record { told = I.holds inputs.old; before = I.faults inputs.old; now = I.faults inputs.new }) words.now what n result }
+{
+    match n {
+        Some(n) => load_named(alloc, words, what, n, inputs),
+        None => Ok(Vec::new(alloc)),
     }
 }

@@ -1,17 +1,21 @@
 // The options of a run.
 ghost use Rattle.std.specs.Prelude.{◌≡◌};
 
-/// What the options of a run say, as far as they are given.
+use mem_axioms::Rule;
+
+/// What the options of a run say, as far as they are given. A name or a file stands as the number of its word.
 #[derive(Clone, Copy, Debug, PartialEq, Eq)]
 pub struct Options {
-    // The number of the word that names the function.
     pub entry: Option<usize>,
+    pub hail: Option<usize>,
+    pub schedule: Option<usize>,
+    pub rule: Option<Rule>,
     pub steps: Option<u32>,
     pub cells: Option<u32>,
 }
 
 impl Options {
-    ghost use Rattle.mu_command.specs.Job.{no_options, with_entry, with_steps, with_cells};
+    ghost use Rattle.mu_command.specs.Job.{no_options, with_entry, with_hail, with_schedule, with_rule, with_steps, with_cells};
 
     /// None of them is given.
     pub fn none() -> Options
@@ -19,6 +23,9 @@ impl Options {
     {
         Options {
             entry: None,
+            hail: None,
+            schedule: None,
+            rule: None,
             steps: None,
             cells: None,
         }
@@ -29,10 +36,48 @@ impl Options {
         ensures { result ≡ with_entry self value }
     {
         match (self.entry, value) {
-            (None, Some(n)) => Some(Options {
-                entry: Some(n),
-                steps: self.steps,
-                cells: self.cells,
+            (None, Some(value)) => Some(Options {
+                entry: Some(value),
+                ..self
+            }),
+            _ => None,
+        }
+    }
+
+    /// These, with a script; None where there is one already.
+    pub fn with_hail(self, value: Option<usize>) -> Option<Options>
+        ensures { result ≡ with_hail self value }
+    {
+        match (self.hail, value) {
+            (None, Some(value)) => Some(Options {
+                hail: Some(value),
+                ..self
+            }),
+            _ => None,
+        }
+    }
+
+    /// These, with a schedule; None where there is one already.
+    pub fn with_schedule(self, value: Option<usize>) -> Option<Options>
+        ensures { result ≡ with_schedule self value }
+    {
+        match (self.schedule, value) {
+            (None, Some(value)) => Some(Options {
+                schedule: Some(value),
+                ..self
+            }),
+            _ => None,
+        }
+    }
+
+    /// These, with a rule of release sequences; None where there is one already.
+    pub fn with_rule(self, value: Option<Rule>) -> Option<Options>
+        ensures { result ≡ with_rule self value }
+    {
+        match (self.rule, value) {
+            (None, Some(value)) => Some(Options {
+                rule: Some(value),
+                ..self
             }),
             _ => None,
         }
@@ -43,10 +88,9 @@ impl Options {
         ensures { result ≡ with_steps self value }
     {
         match (self.steps, value) {
-            (None, Some(n)) => Some(Options {
-                entry: self.entry,
-                steps: Some(n),
-                cells: self.cells,
+            (None, Some(value)) => Some(Options {
+                steps: Some(value),
+                ..self
             }),
             _ => None,
         }
@@ -57,10 +101,9 @@ impl Options {
         ensures { result ≡ with_cells self value }
     {
         match (self.cells, value) {
-            (None, Some(n)) => Some(Options {
-                entry: self.entry,
-                steps: self.steps,
-                cells: Some(n),
+            (None, Some(value)) => Some(Options {
+                cells: Some(value),
+                ..self
             }),
             _ => None,
         }

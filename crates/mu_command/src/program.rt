@@ -27,7 +27,7 @@ fn answer<I: Inputs, S: Sink>(alloc: Global, words: &Words, inputs: &mut I, out:
     ensures sink_faults { S.faults out.old ≤ S.faults out.new }
 {
     match find(alloc, words, inputs) {
-        Ok(ready) => write(alloc, &ready, out),
+        Ok(ready) => write(alloc, ready, out),
         Err(Stop::Line(text, status)) => put_line(out, text, status),
         Err(Stop::Memory) => Status::Memory,
     }
@@ -39,9 +39,17 @@ fn answer<I: Inputs, S: Sink>(alloc: Global, words: &Words, inputs: &mut I, out:
 ///
 /// - `check FILE`: the bundle in the file is read and checked; `ok` is written.
 /// - `print FILE`: it is read, and written as its canonical text.
-/// - `run FILE --entry NAME [--steps N] [--cells N]`: it is read, checked, and run from the function with that name, for so many steps at
-///   most, and so many cells beside those of the globals; the text of the run is written. The options come in any order. Each N is at
-///   most 1,000,000; where they are not given there are 200,000 steps and 100,000 cells.
+/// - `run FILE --entry NAME` with options: it is read, checked, and run from the function with that name; the text of the run is written.
+///
+/// The options of a run come in any order, each at most once:
+///
+/// - `--hail F`: the script in this file makes objects and fills them before the run;
+/// - `--schedule F`: the numbers in this file decide the picks of the run, one after the other; where none are left each pick is 0;
+/// - `--release-sequences c11` or `--release-sequences rmw`: the rule of release sequences; `c11` where it is not given;
+/// - `--steps N` and `--cells N`: how many steps the run may make, and how many cells beside those of the globals, the script's among
+///   them. Each N is at most 1,000,000; where they are not given there are 200,000 steps and 100,000 cells.
+///
+/// The files are fetched and judged in the order bundle, entry, script, schedule, each before the next is fetched.
 ///
 /// Else one line is written that names the first fault of what was given. After every status a prefix of the text was written;
 /// after each but `SinkFault` and `Memory` it is the whole text.

@@ -8,7 +8,7 @@ ghost use Rattle.mu_model.specs.Step.{step};
 ghost use Rattle.mu_model.specs.Run.{first_configuration, run};
 ghost use Rattle.run_texts.specs.Texts.{ending_status};
 ghost use Rattle.mu_step.specs.Built.{IsBuilt};
-ghost use Rattle.mu_texts.specs.Answer.{Answer, first_setting, run_of, run_answer, ready_answer};
+ghost use Rattle.mu_texts.specs.Answer.{Answer, run_of, run_answer, ready_answer};
 ghost use Rattle.model_laws.specs.Bounds.{HasEnding};
 ghost use Rattle.mu_texts.specs.Comes.{IsRunnable, CanRun};
 ghost use Rattle.mu_texts.specs.declared.ready.Ready.TheVariants as ready;
@@ -19,13 +19,12 @@ use crate::writing::{put_line, put_whole_text};
 use bundle_check::Checked;
 use ir_print::print_bundle;
 use ir_tree::Bundle;
-use mem_axioms::{Memory, Rule};
+use mem_axioms::Memory;
 use mem_views::ViewMemory;
 use mu_base::{PutFault, Sink, Status};
 use mu_model::{Ending, Line, StepEnd};
-use mu_step::{Machine, first_heap};
-use mu_texts::Ready;
-use mu_threads::Schedule;
+use mu_step::Machine;
+use mu_texts::{Ready, Start};
 use run_print::{ending_status, ending_text, lines_text};
 use std::alloc::{AllocError, Global};
 
@@ -167,48 +166,36 @@ fn write_steps<S: Sink, M: Memory + Drop>(
     Status::Memory
 }
 
-// A machine at the beginning of a function's run: over the memory of clocks, with no schedule, under the rule of C11.
-fn begin(
-    alloc: Global,
-    code: &Checked,
-    entry: u32,
-    budget: u32,
-    cells: u32,
-) -> Result<Machine<ViewMemory>, AllocError>
-    requires { IsRunnable code.now entry budget cells }
+// A machine at the beginning of a run, over the memory of clocks.
+fn begin(alloc: Global, code: &Checked, start: Start) -> Result<Machine<ViewMemory>, AllocError>
+    requires { IsRunnable code.now start }
     ensures bundle { IfOk result (λ m. m.bundle ≡ code.now) }
-    ensures first { IfOk result (λ m. first_configuration (named code.now) (first_setting code.now budget cells) entry ≡ Some m.configuration) }
+    ensures first { IfOk result (λ m. first_configuration (named code.now) start.setting start.entry ≡ Some m.configuration) }
 {
-    let heap = first_heap(alloc, code, cells)?;
-    let memory = ViewMemory::new(alloc, Rule::C11);
-    Machine::new(
+    let memory = ViewMemory::new(alloc, start.rule);
+    let machine = Machine::new(
         alloc,
         code,
-        entry,
-        heap,
+        start.entry,
+        start.heap,
         memory,
-        Schedule::new(alloc),
-        budget,
-    )
+        start.picks,
+        start.budget,
+    )?;
+    Ok(machine)
 }
 
-// Runs a function, and writes the lines of the run and its ending.
+// Makes a run, and writes its lines and its ending.
 #[tactic(auto, using(crate::proofs::InSteps::running))]
-fn write_run<S: Sink>(
-    alloc: Global,
-    out: &mut S,
-    code: &Checked,
-    entry: u32,
-    budget: u32,
-    cells: u32,
-) -> Status
-    requires { IsRunnable code.now entry budget cells }
-    ensures writes { Writes (run_answer code.now (run_of code.now entry budget cells)) (S.written out.old) (S.written out.new) (S.ends out.old) (S.ends out.new) result }
+fn write_run<S: Sink>(alloc: Global, out: &mut S, code: &Checked, start: Start) -> Status
+    requires { IsRunnable code.now start }
+    ensures writes { Writes (run_answer code.now (run_of code.now start.entry start.setting)) (S.written out.old) (S.written out.new) (S.ends out.old) (S.ends out.new) result }
     ensures never_falls { S.faults out.old ≤ S.faults out.new }
     ensures fault { result ≡ Status.SinkFault → Rose (S.faults out.old) (S.faults out.new) }
 {
-    match begin(alloc, code, entry, budget, cells) {
-        Ok(mut machine) => write_steps(alloc, out, code, &mut machine, budget as u64 + 1),
+    let steps = start.budget as u64 + 1;
+    match begin(alloc, code, start) {
+        Ok(mut machine) => write_steps(alloc, out, code, &mut machine, steps),
         Err(_) => Status::Memory,
     }
 }
@@ -227,9 +214,9 @@ fn write_canonical<S: Sink>(alloc: Global, bundle: &Bundle, out: &mut S) -> Stat
 }
 
 /// Writes what was found.
-pub fn write<S: Sink>(alloc: Global, ready: &Ready, out: &mut S) -> Status
-    requires { CanRun ready.now }
-    ensures writes { Writes (ready_answer ready.now) (S.written out.old) (S.written out.new) (S.ends out.old) (S.ends out.new) result }
+pub fn write<S: Sink>(alloc: Global, ready: Ready, out: &mut S) -> Status
+    requires { CanRun ready }
+    ensures writes { Writes (ready_answer ready) (S.written out.old) (S.written out.new) (S.ends out.old) (S.ends out.new) result }
     ensures never_falls { S.faults out.old ≤ S.faults out.new }
     ensures fault { result ≡ Status.SinkFault → Rose (S.faults out.old) (S.faults out.new) }
 {
@@ -238,12 +225,7 @@ pub fn write<S: Sink>(alloc: Global, ready: &Ready, out: &mut S) -> Status
             Ok(text) => put_line(out, text, Status::Done),
             Err(_) => Status::Memory,
         },
-        Ready::Canonical(bundle) => write_canonical(alloc, bundle, out),
-        Ready::Entered {
-            code,
-            entry,
-            budget,
-            cells,
-        } => write_run(alloc, out, code, *entry, *budget, *cells),
+        Ready::Canonical(bundle) => write_canonical(alloc, &bundle, out),
+        Ready::Entered { code, start } => write_run(alloc, out, &code, start),
     }
 }

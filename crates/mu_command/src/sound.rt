@@ -3,13 +3,14 @@ ghost use Rattle.std.specs.Prelude.{List, ℕ};
 ghost use Rattle.mu_command.specs.Central.{RunsAreSound};
 
 use ir_text::answer_is_one;
-use text_programs::{moments_are_sound, plain_settings_fit};
+use loaded_programs::loaded_settings_fit;
+use text_programs::moments_are_sound;
 
 // Each moment of the run that words ask for is sound.
 pub fn runs_are_sound()
     ensures { (words : List (List ℕ)) → RunsAreSound words }
 {
     answer_is_one();
+    loaded_settings_fit();
     moments_are_sound();
-    plain_settings_fit();
 }

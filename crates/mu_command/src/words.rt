@@ -1,9 +1,10 @@
 // Reads the words of the command line.
 ghost use Rattle.std.specs.Prelude.{◌≡◌, ◌<◌, ◌≤◌, IfSome, length, drop};
-ghost use Rattle.mu_command.specs.Job.{word, is_digit, digits_up_to, number_up_to, no_options, with_option, with_all, run_with, job_of, AreThere, OptionsAreThere};
+ghost use Rattle.mu_command.specs.Job.{word, is_digit, digits_up_to, number_up_to, no_options, with_option, with_all, rule_named, run_with, job_of, AreThere, OptionsAreThere};
 
-use crate::job::Job;
+use crate::job::{Job, RunJob};
 use crate::options::Options;
+use mem_axioms::Rule;
 use mu_base::Words;
 
 // How many steps a run may make where no word says it.
@@ -57,6 +58,19 @@ fn number_up_to(limit: u32, text: &[u8]) -> Option<u32>
     }
 }
 
+// The rule of release sequences that a word names.
+fn rule_named(text: &str) -> Option<Rule>
+    ensures { result ≡ rule_named text.now }
+{
+    if text == "c11" {
+        Some(Rule::C11)
+    } else if text == "rmw" {
+        Some(Rule::Rmw)
+    } else {
+        None
+    }
+}
+
 // The options with one more, of that name; its value is the word with number n.
 fn with_option(words: &Words, options: Options, name: &str, n: usize) -> Option<Options>
     requires value { n < length words.now }
@@ -71,6 +85,12 @@ fn with_option(words: &Words, options: Options, name: &str, n: usize) -> Option<
         options.with_steps(number_up_to(MOST_STEPS, value.as_bytes()))
     } else if name == "--cells" {
         options.with_cells(number_up_to(MOST_CELLS, value.as_bytes()))
+    } else if name == "--hail" {
+        options.with_hail(Some(n))
+    } else if name == "--schedule" {
+        options.with_schedule(Some(n))
+    } else if name == "--release-sequences" {
+        options.with_rule(rule_named(value))
     } else {
         None
     }
@@ -104,16 +124,20 @@ fn run_with(options: Options) -> Option<Job>
     ensures { result ≡ run_with options }
 {
     let entry = options.entry?;
-    Some(Job::Run {
+    Some(Job::Run(RunJob {
         file: 1,
         entry,
+        hail: options.hail,
+        schedule: options.schedule,
+        rule: options.rule.unwrap_or(Rule::C11),
         budget: options.steps.unwrap_or(USUAL_STEPS),
         cells: options.cells.unwrap_or(USUAL_CELLS),
-    })
+    }))
 }
 
 /// What the words ask for: `check FILE`, `print FILE`, or `run FILE` with options in any order, each at most once: `--entry NAME`,
-/// which is required, `--steps N` and `--cells N`. None exactly where they are no such words. It takes no memory.
+/// which is required, `--hail F`, `--schedule F`, `--release-sequences c11` or `rmw`, `--steps N` and `--cells N`. The value of an option
+/// is the next word, whatever it is. None exactly where they are no such words. It takes no memory.
 #[tactic(auto, unfolding(crate::specs::Job::job_of))]
 pub fn read_words(words: &Words) -> Option<Job>
     ensures job { result ≡ job_of words.now }

@@ -1,6 +1,8 @@
--- A part of the way that ends with an answer does not end with a status of what was accepted.
-use Rattle.std.proofs.Common.{◌≡◌, refl, false, ℕ, List, Option, Some, None}
+-- With which statuses a part of the way ends.
+use Rattle.std.proofs.Common.{ℕ, List, Option, Some, None}
 use Rattle.std.specs.Prelude.{Result, Ok, Err}
+use Rattle.mu_base.specs.declared.status.Status.{Status}
+use Rattle.mu_base.specs.declared.status.Status.TheVariants.{Refused, Memory}
 use Rattle.demands.specs.declared.fault.Fault.{Fault}
 use Rattle.demands.specs.declared.fault.Fault.TheVariants as faults
 use Rattle.demands.specs.Demands.{first_unmet}
@@ -13,46 +15,63 @@ use Rattle.bundle_check.specs.declared.fault.EntryFault.{EntryFault}
 use Rattle.bundle_check.specs.Checking.{check_demands}
 use Rattle.bundle_check.specs.Answers.{entry}
 use Rattle.mu_step.specs.Built.{built_demands}
-use Rattle.mu_texts.specs.Refusals.{name_fault_name, check_fault_name, run_fault_name}
-use Rattle.mu_texts.specs.Answer.{is_end, Part, ◌>>=◌, read_part, met_part, named, checked, built, as_written, accepted, entry_part, entered}
+use Rattle.hail_load.specs.declared.tree.Command.{Command}
+use Rattle.hail_load.specs.Code.{code_of}
+use Rattle.hail_load.specs.Texts.{hail_demands, hail_commands}
+use Rattle.mu_threads.specs.ScheduleTexts.{schedule_demands, schedule_numbers}
+use Rattle.mu_texts.specs.declared.what.What.{What}
+use Rattle.mu_texts.specs.declared.what.What.TheVariants.{Bundle, Hail, Schedule}
+use Rattle.mu_texts.specs.Refusals.{name_fault_name, check_fault_name, run_fault_name, hail_fault_name, load_fault_name, schedule_fault_name}
+use Rattle.mu_texts.specs.Answer.{Part, ◌>>=◌, read_part, met_part, named, checked, built, as_written, accepted, to_run, entry_part, entered, filled, hail_part, filled_part, loaded, scheduled}
 
--- an answer that ends the way has none of those statuses
-abbrev pub StopsShort : {A : Type 0} → Part A → Type 0
-StopsShort (Ok x) = Unit {0}
-StopsShort (Err answer) = is_end answer.status ≡ false
+-- an answer that ends the way has a status that is so
+abbrev pub StopsSo : (Status → Type 0) → {A : Type 0} → Part A → Type 0
+StopsSo P (Ok x) = Unit {0}
+StopsSo P (Err answer) = P answer.status
 
-pub then : {A B : Type 0} (part : Part A) (more : A → Part B) → StopsShort part → ((x : A) → StopsShort (more x)) → StopsShort (part >>= more)
-then (Ok x) more s m = m x
-then (Err answer) more s m = s
+pub then : (P : Status → Type 0) → {A B : Type 0} (part : Part A) (more : A → Part B) → StopsSo P part → ((x : A) → StopsSo P (more x)) → StopsSo P (part >>= more)
+then P (Ok x) more s m = m x
+then P (Err answer) more s m = s
 
-pub reading : (r : Result (List Item) TextFault) → StopsShort (read_part r)
-reading (Ok bundle) = tt
-reading (Err (text_faults.At kind place)) = refl
-reading (Err text_faults.Memory) = refl
+-- what is asked of a text ends with a refusal alone
+module _ (P : Status → Type 0) (refused : P Refused) (memory : P Memory) where
+  reading : (r : Result (List Item) TextFault) → StopsSo P (read_part r)
+  reading (Ok bundle) = tt
+  reading (Err (text_faults.At kind place)) = refused
+  reading (Err text_faults.Memory) = memory
 
-pub meeting : {K : Type 0} (name : K → List ℕ) (bundle : List Item) (fault : Option (Fault K)) → StopsShort (met_part name bundle fault)
-meeting name bundle None = tt
-meeting name bundle (Some (faults.At kind place)) = refl
-meeting name bundle (Some faults.Memory) = refl
+  meeting : {K A : Type 0} (what : What) (name : K → List ℕ) (x : A) (fault : Option (Fault K)) → StopsSo P (met_part what name x fault)
+  meeting what name x None = tt
+  meeting what name x (Some (faults.At kind place)) = refused
+  meeting what name x (Some faults.Memory) = memory
 
-pub entering : (r : Result ℕ EntryFault) → StopsShort (entry_part r)
-entering (Ok n) = tt
-entering (Err fault) = refl
+  entering : (r : Result ℕ EntryFault) → StopsSo P (entry_part r)
+  entering (Ok n) = tt
+  entering (Err fault) = refused
 
-pub accepting : (bytes : List ℕ) → StopsShort (accepted bytes)
-accepting bytes =
-    then (as_written bytes >>= named) checked
-    (then (as_written bytes) named (reading (text_answer bytes)) (λ bundle. meeting name_fault_name bundle (first_unmet (name_demands bundle))))
-    (λ bundle. meeting check_fault_name bundle (first_unmet (check_demands bundle)))
+  pub accepting : (bytes : List ℕ) → StopsSo P (accepted bytes)
+  accepting bytes =
+      then P (as_written bytes >>= named) checked
+      (then P (as_written bytes) named (reading (text_answer bytes)) (λ bundle. meeting Bundle name_fault_name bundle (first_unmet (name_demands bundle))))
+      (λ bundle. meeting Bundle check_fault_name bundle (first_unmet (check_demands bundle)))
 
--- a bundle that is accepted and built
-pub building : (bytes : List ℕ) → StopsShort (accepted bytes >>= built)
-building bytes = then (accepted bytes) built (accepting bytes) (λ bundle. meeting run_fault_name bundle (first_unmet (built_demands bundle)))
+  -- a bundle that is accepted and built
+  pub building : (bytes : List ℕ) → StopsSo P (to_run bytes)
+  building bytes = then P (accepted bytes) built (accepting bytes) (λ bundle. meeting Bundle run_fault_name bundle (first_unmet (built_demands bundle)))
 
--- a text that is a bundle
-pub writing : (bytes : List ℕ) → StopsShort (as_written bytes)
-writing bytes = reading (text_answer bytes)
+  -- a text that is a bundle
+  pub writing : (bytes : List ℕ) → StopsSo P (as_written bytes)
+  writing bytes = reading (text_answer bytes)
 
--- a function that is entered
-pub entering_named : (bundle : List Item) (name : List ℕ) → StopsShort (entered bundle name)
-entering_named bundle name = entering (entry bundle name)
+  -- a function that is entered
+  pub entering_named : (bundle : List Item) (name : List ℕ) → StopsSo P (entered bundle name)
+  entering_named bundle name = entering (entry bundle name)
+
+  -- a script that is loaded, and a schedule
+  pub loading : (code : List Item) (cells : ℕ) (bytes : List ℕ) → StopsSo P (loaded code cells bytes)
+  loading code cells bytes =
+      then P (hail_part code bytes) (filled_part code cells) (meeting Hail hail_fault_name (hail_commands bytes) (first_unmet (hail_demands (code_of code).names bytes)))
+      (λ commands. meeting Hail load_fault_name (filled code cells commands).store.objects (filled code cells commands).fault)
+
+  pub scheduling : (bytes : List ℕ) → StopsSo P (scheduled bytes)
+  scheduling bytes = meeting Schedule schedule_fault_name (schedule_numbers bytes) (first_unmet (schedule_demands bytes))

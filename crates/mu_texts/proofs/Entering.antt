@@ -1,22 +1,20 @@
--- What a run begins with.
+-- A bundle that is to be run is accepted and built.
 use Rattle.std.proofs.Common.{◌≡◌, ℕ, List, refl}
-use Rattle.std.specs.Prelude.{Ok, Err}
+use Rattle.std.specs.Prelude.{Result, Ok, Err, ⊤}
 use Rattle.ir_tree.specs.declared.items.Item.{Item}
-use Rattle.mu_texts.specs.declared.ready.Ready.TheVariants as ready
-use Rattle.mu_texts.specs.Answer.{Answer, Part, ◌>>=◌, accepted, built, entered, for_run}
-use Rattle.mu_texts.specs.Comes.{begun}
+use Rattle.mu_texts.specs.declared.stop.Stop.{Stop}
+use Rattle.mu_texts.specs.declared.stop.Stop.TheVariants.{Line, Memory}
+use Rattle.mu_texts.specs.Answer.{Part, ◌>>=◌, accepted, built, to_run}
+use Rattle.mu_texts.specs.Comes.{Comes, Passes}
 
-stops : {A B C : Type 0} (part : Part A) (f : A → Part B) (g : A → B → Part C) (answer : Answer) → (part >>= f) ≡ Err answer → (part >>= λ x. f x >>= g x) ≡ Err answer
-stops (Ok x) f g answer e = rw e refl
-stops (Err a) f g answer e = cc
+module _ (bytes : List ℕ) (code : List Item) (is : accepted bytes ≡ Ok code) where
+  -- it is built
+  pub is_built : built code ≡ Ok code → to_run bytes ≡ Ok code
+  is_built b = rw is b
 
-module _ (bytes name : List ℕ) (budget cells : ℕ) (code : List Item) (is : accepted bytes ≡ Ok code) where
-  -- the bundle is not built, or no function may be entered
-  pub entry_stops : (answer : Answer) → begun code name ≡ Err answer → for_run bytes name budget cells ≡ Err answer
-  entry_stops answer e = rw is (stops (built code) (λ c. entered c name) (λ c n. Ok (ready.Entered c n budget cells)) answer e)
+  -- it is not
+  pub not_built : (stop : Stop) → Passes (built code) code (Err stop) → Comes {A = List Item} (to_run bytes) (Err stop)
+  not_built Memory h = tt
+  not_built (Line text status) h = rw is h
 
-  -- the function is there
-  pub entry_found : (n : ℕ) → built code ≡ Ok code → begun code name ≡ Ok n → for_run bytes name budget cells ≡ Ok (ready.Entered code n budget cells)
-  entry_found n b e = rw (is, b) (rw (rw b at e) refl)
-
-pub ruleset entering = (entry_stops, entry_found)
+pub ruleset entering = (is_built, not_built)

@@ -1,5 +1,6 @@
 pub mod Accepting
 pub mod Refusing
 pub mod Entering
+pub mod Scripts
 pub mod Runnable
 pub mod Moments

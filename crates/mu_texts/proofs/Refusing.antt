@@ -1,6 +1,6 @@
 -- What is ready to be written is no refusal.
-use Rattle.std.proofs.Common.{◌≡◌, List}
-use Rattle.mu_base.specs.declared.status.Status.TheVariants.{Refused}
+use Rattle.std.proofs.Common.{◌≡◌, ◌⊎◌, inl, inr, true, List, refl}
+use Rattle.mu_base.specs.declared.status.Status.TheVariants.{Refused, Memory}
 use Rattle.ir_tree.specs.declared.items.Item.{Item}
 use Rattle.mu_model.specs.declared.endings.Ending.{Ending}
 use Rattle.mu_model.specs.declared.endings.Ending.TheVariants as endings
@@ -8,7 +8,7 @@ use Rattle.mu_model.specs.Run.{Run, Ends, Breaks, Unfinished}
 use Rattle.run_texts.specs.Texts.{ending_status}
 use Rattle.mu_texts.specs.declared.ready.Ready.{Ready}
 use Rattle.mu_texts.specs.declared.ready.Ready.TheVariants as ready
-use Rattle.mu_texts.specs.Answer.{ready_answer, run_answer, run_of}
+use Rattle.mu_texts.specs.Answer.{is_end, ready_answer, run_answer, run_of}
 
 no_ending_is_refused : (ending : Ending) → ending_status ending ≡ Refused → ⊥
 no_ending_is_refused endings.Done e = cc
@@ -27,4 +27,25 @@ no_run_is_refused bundle Unfinished e = cc
 pub nothing_ready_is_refused : (r : Ready) → (ready_answer r).status ≡ Refused → ⊥
 nothing_ready_is_refused ready.Accepted e = cc
 nothing_ready_is_refused (ready.Canonical bundle) e = cc
-nothing_ready_is_refused (ready.Entered code n budget cells) e = no_run_is_refused code (run_of code n budget cells) e
+nothing_ready_is_refused (ready.Entered code start) e = no_run_is_refused code (run_of code start.entry start.setting) e
+
+-- ---- what is ready ends with a status of what was accepted, or would find no memory
+
+ending_ends : (e : Ending) → is_end (ending_status e) ≡ true
+ending_ends endings.Done = refl
+ending_ends endings.Stop = refl
+ending_ends (endings.Undefined k i block at r) = refl
+ending_ends (endings.HeapFull i asked left) = refl
+ending_ends (endings.ThreadsFull i) = refl
+ending_ends (endings.AllWaiting is) = refl
+ending_ends (endings.Budget n) = refl
+
+run_ends : (bundle : List Item) (r : Run) → (is_end (run_answer bundle r).status ≡ true) ⊎ ((run_answer bundle r).status ≡ Memory)
+run_ends bundle (Ends steps lines e) = inl (ending_ends e)
+run_ends bundle Breaks = inr refl
+run_ends bundle Unfinished = inr refl
+
+pub ready_ends : (r : Ready) → (is_end (ready_answer r).status ≡ true) ⊎ ((ready_answer r).status ≡ Memory)
+ready_ends ready.Accepted = inl refl
+ready_ends (ready.Canonical bundle) = inl refl
+ready_ends (ready.Entered code start) = run_ends code (run_of code start.entry start.setting)

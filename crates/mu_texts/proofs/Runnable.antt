@@ -1,5 +1,5 @@
 -- A function that may be entered, of a bundle that is built, can be run.
-use Rattle.std.proofs.Common.{◌≡◌, ℕ, ◌≤◌, List, Option, Some, None, IsSome, IsSomeAnd, refl, sym, ◌∙◌, ap, subst}
+use Rattle.std.proofs.Common.{◌≡◌, ℕ, ◌≤◌, List, [], Option, Some, None, IsSome, IsSomeAnd, refl, sym, ◌∙◌, ap, subst}
 use Rattle.std.specs.Prelude.{Result, Ok, Err}
 use Rattle.demands.specs.declared.fault.Fault.{Fault}
 use Rattle.demands.specs.declared.fault.Fault.TheVariants as faults
@@ -15,13 +15,19 @@ use Rattle.bundle_check.specs.Answers.{entry}
 use Rattle.typed_heap.specs.Places.{with_some}
 use Rattle.mu_model.specs.Configuration.{Configuration}
 use Rattle.mu_model.specs.Programs.{named as program}
-use Rattle.mu_model.specs.Run.{begins_in, first_configuration}
-use Rattle.text_programs.specs.Laws.{OfAcceptedTexts, PlainSettingFits, PlainSettingsFit, EnteredRunsEnd, EnteredRunsHaveAnEnding}
+use Rattle.mu_model.specs.Run.{Setting, begins_in, first_configuration}
+use Rattle.typed_programs.specs.Laws.{SettingFits}
+use Rattle.text_programs.specs.Laws.{OfAcceptedTexts, EnteredRunsEnd, EnteredRunsHaveAnEnding}
+use Rattle.loaded_programs.specs.Laws.{LoadedSettingsFit}
+use Rattle.mem_axioms.specs.declared.types.Rule.TheVariants.{C11}
+use Rattle.mu_step.specs.Plain.{plain_setting}
+use Rattle.mu_texts.specs.declared.what.What.{What}
+use Rattle.mu_texts.specs.declared.what.What.TheVariants.{Bundle}
 use Rattle.mu_step.specs.Built.{built_demands}
 use Rattle.mu_step.specs.BuiltLaws.{forms_built}
 use Rattle.mu_texts.specs.Refusals.{name_fault_name, check_fault_name, run_fault_name}
-use Rattle.mu_texts.specs.Answer.{Part, ◌>>=◌, read_part, met_part, named, checked, built, as_written, accepted, entry_part, first_setting, run_of}
-use Rattle.mu_texts.specs.Comes.{IsRunnable}
+use Rattle.mu_texts.specs.Answer.{Part, ◌>>=◌, read_part, met_part, named, checked, built, as_written, accepted, entry_part, filled, run_of}
+use Rattle.mu_texts.specs.Comes.{IsLoaded, SettingsFit, LoadedRunsEnd, CanBegin}
 
 -- ---- a text that is accepted was read, and met its demands
 
@@ -37,33 +43,36 @@ was_read (Ok code) bundle h = let same : code ≡ bundle = cc in ap read_as same
 was_read (Err (text_faults.At kind place)) bundle h = cc
 was_read (Err text_faults.Memory) bundle h = cc
 
-was_met : {K : Type 0} (name : K → List ℕ) (code bundle : List Item) (fault : Option (Fault K)) → met_part name code fault ≡ Ok bundle → (fault ≡ None) × (code ≡ bundle)
-was_met name code bundle None h = (refl, let same : code ≡ bundle = cc in same)
-was_met name code bundle (Some (faults.At kind place)) h = cc
-was_met name code bundle (Some faults.Memory) h = cc
+pub was_met : {K A : Type 0} (what : What) (name : K → List ℕ) (x y : A) (fault : Option (Fault K)) → met_part what name x fault ≡ Ok y → (fault ≡ None) × (x ≡ y)
+was_met what name x y None h = (refl, let same : x ≡ y = cc in same)
+was_met what name x y (Some (faults.At kind place)) h = cc
+was_met what name x y (Some faults.Memory) h = cc
 
 -- so what holds of each text that is accepted holds of it
 pub of_accepted : (holds : List Item → Type 0) (bytes : List ℕ) (code : List Item) → AnswerIsOne → OfAcceptedTexts holds → accepted bytes ≡ Ok code → holds code
 of_accepted holds bytes code one law h =
     let met = goes_on (as_written bytes >>= named) checked code h in
-    let fine = was_met check_fault_name met.0 code (first_unmet (check_demands met.0)) met.2 in
+    let fine = was_met Bundle check_fault_name met.0 code (first_unmet (check_demands met.0)) met.2 in
     let names = goes_on (as_written bytes) named met.0 met.1 in
-    let good = was_met name_fault_name names.0 met.0 (first_unmet (name_demands names.0)) names.2 in
+    let good = was_met Bundle name_fault_name names.0 met.0 (first_unmet (name_demands names.0)) names.2 in
     let read : text_answer bytes ≡ Ok names.0 = was_read (text_answer bytes) names.0 names.1 in
     let answered : IsAnswer bytes (Ok names.0) = (one bytes (Ok names.0)).1 read in
     let same : names.0 ≡ code = good.1 ∙ fine.1 in
     subst holds same (law bytes names.0 answered good.0 (subst (λ b. first_unmet (check_demands b) ≡ None) (sym good.1) fine.0))
 
-pub runs_end : (bytes : List ℕ) (code : List Item) → AnswerIsOne → EnteredRunsHaveAnEnding → accepted bytes ≡ Ok code → EnteredRunsEnd code
-runs_end bytes code one law h = of_accepted EnteredRunsEnd bytes code one law h
+-- a setting over objects that commands made fits
+fitting : (code : List Item) (s : Setting) → SettingsFit code → IsLoaded code s → SettingFits code s
+fitting code s law h = law s h.objects.commands h.objects.cells h.objects.is h.entries
 
-pub settings_fit : (bytes : List ℕ) (code : List Item) → AnswerIsOne → PlainSettingsFit → accepted bytes ≡ Ok code → PlainSettingFits code
-settings_fit bytes code one law h = of_accepted PlainSettingFits bytes code one law h
+pub loaded_runs_end : (bytes : List ℕ) (code : List Item) → AnswerIsOne → EnteredRunsHaveAnEnding → LoadedSettingsFit → accepted bytes ≡ Ok code → LoadedRunsEnd code
+unfolding run_of
+loaded_runs_end bytes code one ends fits h = λ s name n loaded there.
+    of_accepted EnteredRunsEnd bytes code one ends h s name n (fitting code s (of_accepted SettingsFit bytes code one fits h) loaded) there
 
 -- ---- a function that is entered, of a bundle that is accepted and built
 
 pub was_built : (code bundle : List Item) → built code ≡ Ok bundle → code ≡ bundle
-was_built code bundle h = (was_met run_fault_name code bundle (first_unmet (built_demands code)) h).1
+was_built code bundle h = (was_met Bundle run_fault_name code bundle (first_unmet (built_demands code)) h).1
 
 pub was_entered : (r : Result ℕ EntryFault) (n : ℕ) → entry_part r ≡ Ok n → r ≡ Ok n
 was_entered (Ok m) n h = let same : m ≡ n = cc in ap entered_as same
@@ -79,9 +88,11 @@ has_body None go h = cc
 has_body (Some None) go h = cc
 has_body (Some (Some block)) go h = refl
 
-pub runnable : (code : List Item) (name : List ℕ) (n budget cells : ℕ) → EnteredRunsEnd code → PlainSettingFits code → first_unmet (built_demands code) ≡ None → entry code name ≡ Ok n → budget ≤ 1000000 → IsRunnable code n budget cells
-unfolding run_of
-runnable code name n budget cells ends fits built entered short =
-    let s = first_setting code budget cells in
-    let r = ends s name n (fits s (record { objects = refl; entries = refl })) entered in
-    record { built = forms_built code built; begins = has_body ((program code).body n) (begins_in (program code) s n) r.0; ends = r.1; short = short }
+-- a setting over the objects of the globals alone
+abbrev plain : List Item → Setting
+plain code = plain_setting (filled code 0 []).store.objects [] C11 0 0
+
+pub can_begin : (code : List Item) (name : List ℕ) (n : ℕ) → LoadedRunsEnd code → first_unmet (built_demands code) ≡ None → entry code name ≡ Ok n → CanBegin code n
+can_begin code name n ends built entered =
+    let r = ends (plain code) name n (record { objects = record { commands = []; cells = 0; is = refl }; entries = refl }) entered in
+    record { built = forms_built code built; begins = has_body ((program code).body n) (begins_in (program code) (plain code) n) r.0; ends = λ s loaded. (ends s name n loaded entered).1 }

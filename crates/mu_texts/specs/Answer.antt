@@ -1,5 +1,5 @@
--- What the text of a bundle comes to, and what is written then.
-use Rattle.std.specs.Prelude.{ℕ, Bool, true, false, List, [], ◌∷◌, ◌++◌, Option, None, Some, Result, Ok, Err, codes, decimal}
+-- What the texts of files come to, and what is written then.
+use Rattle.std.specs.Prelude.{ℕ, ◌-◌, Bool, true, false, List, [], ◌∷◌, ◌++◌, Option, None, Some, Result, Ok, Err, codes, decimal}
 use Rattle.mu_base.specs.declared.status.Status.{Status}
 use Rattle.mu_base.specs.declared.status.Status.TheVariants as statuses
 use Rattle.mu_base.specs.declared.status.Status.TheVariants.{Done as Finished, Refused, Memory}
@@ -16,18 +16,23 @@ use Rattle.bundle_check.specs.declared.fault.EntryFault.{EntryFault}
 use Rattle.bundle_check.specs.Checking.{bundle_tables, check_demands}
 use Rattle.bundle_check.specs.Answers.{entry}
 use Rattle.mu_model.specs.Programs.{named as program}
-use Rattle.mem_axioms.specs.declared.types.Rule.TheVariants.{C11}
-use Rattle.mu_model.specs.Run.{Setting, global_objects, Run, Ends, Breaks, Unfinished, program_run}
+use Rattle.typed_heap.specs.Objects.{HeapObject}
+use Rattle.hail_load.specs.declared.tree.Command.{Command}
+use Rattle.hail_load.specs.Code.{code_of}
+use Rattle.hail_load.specs.Texts.{hail_demands, hail_commands}
+use Rattle.hail_load.specs.Loading.{Loaded, load}
+use Rattle.mu_threads.specs.ScheduleTexts.{schedule_demands, schedule_numbers}
+use Rattle.mu_model.specs.Run.{Setting, global_objects, cells_taken, Run, Ends, Breaks, Unfinished, program_run}
 use Rattle.run_texts.specs.Texts.{ending_status}
 use Rattle.run_texts.specs.Pieces.{pieces_of}
 use Rattle.mu_step.specs.Built.{built_demands}
-use Rattle.mu_step.specs.Plain.{plain_setting}
 use Rattle.mu_texts.specs.declared.what.What.{What}
-use Rattle.mu_texts.specs.declared.what.What.TheVariants.{Bundle}
+use Rattle.mu_texts.specs.declared.what.What.TheVariants.{Bundle, Hail, Schedule}
 use Rattle.mu_texts.specs.declared.ready.Ready.{Ready}
 use Rattle.mu_texts.specs.declared.ready.Ready.TheVariants as ready
+use Rattle.mu_texts.specs.Start.{Started}
 use Rattle.mu_texts.specs.What.{name_of}
-use Rattle.mu_texts.specs.Refusals.{text_fault_name, name_fault_name, check_fault_name, run_fault_name, entry_fault_name}
+use Rattle.mu_texts.specs.Refusals.{text_fault_name, name_fault_name, check_fault_name, run_fault_name, entry_fault_name, hail_fault_name, load_fault_name, schedule_fault_name}
 
 -- What is to be written, in the pieces that are put one by one, and the status that goes with it.
 pub record Answer : Type 0 where
@@ -61,21 +66,21 @@ read_part (Ok bundle) = Ok bundle
 read_part (Err (text_faults.At kind place)) = Err (refused Bundle place (text_fault_name kind))
 read_part (Err text_faults.Memory) = Err no_answer
 
--- a bundle meets demands, or there is a first one that it does not, of a kind that has a name
-abbrev pub met_part : {K : Type 0} → (K → List ℕ) → List Item → Option (Fault K) → Part (List Item)
-met_part name bundle None = Ok bundle
-met_part name bundle (Some (faults.At kind place)) = Err (refused Bundle place (name kind))
-met_part name bundle (Some faults.Memory) = Err no_answer
+-- what a file stands for, or the first fault that was found in it, of a kind that has a name
+abbrev pub met_part : {K A : Type 0} → What → (K → List ℕ) → A → Option (Fault K) → Part A
+met_part what name x None = Ok x
+met_part what name x (Some (faults.At kind place)) = Err (refused what place (name kind))
+met_part what name x (Some faults.Memory) = Err no_answer
 
 -- all its names are defined, each once; it meets all other demands; and all its functions are built
 abbrev pub named : List Item → Part (List Item)
-named bundle = met_part name_fault_name bundle (first_unmet (name_demands bundle))
+named bundle = met_part Bundle name_fault_name bundle (first_unmet (name_demands bundle))
 
 abbrev pub checked : List Item → Part (List Item)
-checked bundle = met_part check_fault_name bundle (first_unmet (check_demands bundle))
+checked bundle = met_part Bundle check_fault_name bundle (first_unmet (check_demands bundle))
 
 abbrev pub built : List Item → Part (List Item)
-built bundle = met_part run_fault_name bundle (first_unmet (built_demands bundle))
+built bundle = met_part Bundle run_fault_name bundle (first_unmet (built_demands bundle))
 
 -- the bundle that a text is
 abbrev pub as_written : List ℕ → Part (List Item)
@@ -93,24 +98,45 @@ entry_part (Err fault) = Err (line (codes "refused entry " ++ entry_fault_name f
 abbrev pub entered : List Item → List ℕ → Part ℕ
 entered bundle name = entry_part (entry bundle name)
 
--- what `mu check`, `mu print` and `mu run` ask of a text: that it is accepted; the bundle as it is written; or a bundle that is accepted
--- and built, a function of it, and how many steps its run may make, with how many cells beside those of the globals
+-- what `mu check` and `mu print` ask of a text: that it is accepted; or the bundle as it is written
 abbrev pub for_check : List ℕ → Part Ready
 for_check bytes = accepted bytes >>= λ code. Ok ready.Accepted
 
 abbrev pub for_print : List ℕ → Part Ready
 for_print bytes = as_written bytes >>= λ bundle. Ok (ready.Canonical bundle)
 
-abbrev pub for_run : List ℕ → List ℕ → ℕ → ℕ → Part Ready
-for_run bytes name budget cells = accepted bytes >>= built >>= λ code. entered code name >>= λ n. Ok (ready.Entered code n budget cells)
+-- ---- what a run is given
 
--- what a run is given: the objects of the globals, and no schedule; how many steps it may make, and how many cells beside those of the globals
-abbrev pub first_setting : List Item → ℕ → ℕ → Setting
-first_setting code budget cells = plain_setting (global_objects (bundle_tables code)) [] C11 cells budget
+-- a bundle that is accepted, and whose functions are built
+abbrev pub to_run : List ℕ → Part (List Item)
+to_run bytes = accepted bytes >>= built
 
--- the run of a function of a bundle, which may make so many steps, and so many cells beside those of the globals
-unfoldable pub run_of : List Item → ℕ → ℕ → ℕ → Run
-run_of code n budget cells = program_run (program code) (first_setting code budget cells) n
+-- what commands make of a heap with the objects of the globals, in which so many cells may be made besides
+abbrev pub filled : List Item → ℕ → List Command → Loaded
+filled code cells commands = load (code_of code) (record { objects = global_objects (bundle_tables code); left = cells; made = [] }) commands
+
+-- the commands that a text spells
+abbrev pub hail_part : List Item → List ℕ → Part (List Command)
+hail_part code bytes = met_part Hail hail_fault_name (hail_commands bytes) (first_unmet (hail_demands (code_of code).names bytes))
+
+abbrev pub filled_part : List Item → ℕ → List Command → Part (List HeapObject)
+filled_part code cells commands = met_part Hail load_fault_name (filled code cells commands).store.objects (filled code cells commands).fault
+
+-- the objects that are there when the run begins: those of the globals, and those that a script makes
+abbrev pub loaded : List Item → ℕ → List ℕ → Part (List HeapObject)
+loaded code cells bytes = hail_part code bytes >>= filled_part code cells
+
+-- the numbers of a schedule
+abbrev pub scheduled : List ℕ → Part (List ℕ)
+scheduled bytes = met_part Schedule schedule_fault_name (schedule_numbers bytes) (first_unmet (schedule_demands bytes))
+
+-- a run with that setting, from the function with that number; some of its cells are taken by what a script made
+abbrev pub started : List Item → ℕ → Setting → Started
+started code n s = record { entry = n; setting = s; left = s.cells - cells_taken (bundle_tables code) s.objects }
+
+-- the run of a function of a bundle
+unfoldable pub run_of : List Item → ℕ → Setting → Run
+run_of code n s = program_run (program code) s n
 
 -- the text of the run in its pieces; a run without an ending would have no answer
 abbrev pub run_answer : List Item → Run → Answer
@@ -138,7 +164,7 @@ is_end _ = false
 abbrev pub ready_answer : Ready → Answer
 ready_answer ready.Accepted = line (codes "ok") Finished
 ready_answer (ready.Canonical bundle) = record { pieces = in_one_piece (bundle_text bundle); status = Finished }
-ready_answer (ready.Entered code n budget cells) = run_answer code (run_of code n budget cells)
+ready_answer (ready.Entered code start) = run_answer code (run_of code start.entry start.setting)
 
 abbrev pub ready_part : Part Ready → Answer
 ready_part (Ok r) = ready_answer r

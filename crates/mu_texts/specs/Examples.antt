@@ -1,13 +1,13 @@
 -- Worked examples.
-use Rattle.std.specs.Prelude.{◌≡◌, [], ◌∷◌, codes, refl}
+use Rattle.std.specs.Prelude.{◌≡◌, [], ◌∷◌, Ok, Err, codes, refl}
 use Rattle.std.specs.Fmt.{digits}
 use Rattle.mu_base.specs.declared.status.Status.TheVariants.{Done, Budget as OutOfSteps, Refused}
 use Rattle.mu_model.specs.declared.lines.Line.TheVariants.{Note}
 use Rattle.mu_model.specs.declared.lines.Note.TheVariants.{Exited}
 use Rattle.mu_model.specs.declared.endings.Ending.TheVariants.{Done as Ended, Budget}
 use Rattle.mu_model.specs.Run.{Ends}
-use Rattle.mu_texts.specs.declared.what.What.TheVariants.{Bundle}
-use Rattle.mu_texts.specs.Answer.{run_answer, refused}
+use Rattle.mu_texts.specs.declared.what.What.TheVariants.{Bundle, Hail}
+use Rattle.mu_texts.specs.Answer.{run_answer, refused, scheduled}
 
 -- the run of a thread that exits in its second step
 exits : run_answer [] (Ends ([] ∷ (Note (Exited 0) ∷ []) ∷ []) [] Ended) ≡ record { pieces = codes "exited t0\n" ∷ codes "done\n" ∷ []; status = Done }
@@ -22,3 +22,15 @@ stops_short = refl
 ends_too_early : refused Bundle 39 (codes "Unexpected") ≡ record { pieces = codes "refused bundle 39 Unexpected\n" ∷ []; status = Refused }
 unfolding digits
 ends_too_early = refl
+
+wrong_source : refused Hail 27 (codes "WrongType") ≡ record { pieces = codes "refused hail 27 WrongType\n" ∷ []; status = Refused }
+unfolding digits
+wrong_source = refl
+
+-- a schedule, and what it is refused for
+two_picks : scheduled (codes "1 // picks\n0") ≡ Ok (1 ∷ 0 ∷ [])
+two_picks = refl
+
+no_number : scheduled (codes "1 x2") ≡ Err (record { pieces = codes "refused schedule 2 BadToken\n" ∷ []; status = Refused })
+unfolding digits
+no_number = refl

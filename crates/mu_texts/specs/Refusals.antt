@@ -16,6 +16,12 @@ use Rattle.bundle_check.specs.declared.fault.EntryFault.{EntryFault}
 use Rattle.bundle_check.specs.declared.fault.EntryFault.TheVariants as entry_faults
 use Rattle.mu_step.specs.declared.built.RunKind.{RunKind}
 use Rattle.mu_step.specs.declared.built.RunKind.TheVariants as run_kinds
+use Rattle.hail_load.specs.declared.fault.HailKind.{HailKind}
+use Rattle.hail_load.specs.declared.fault.HailKind.TheVariants as hail_kinds
+use Rattle.hail_load.specs.declared.fault.LoadKind.{LoadKind}
+use Rattle.hail_load.specs.declared.fault.LoadKind.TheVariants as load_kinds
+use Rattle.mu_threads.specs.declared.reading.ScheduleKind.{ScheduleKind}
+use Rattle.mu_threads.specs.declared.reading.ScheduleKind.TheVariants as schedule_kinds
 
 abbrev pub lex_fault_name : LexKind → List ℕ
 lex_fault_name BadByte = codes "BadByte"
@@ -69,3 +75,19 @@ abbrev pub entry_fault_name : EntryFault → List ℕ
 entry_fault_name entry_faults.Unknown = codes "Unknown"
 entry_fault_name entry_faults.BadSignature = codes "BadSignature"
 entry_fault_name entry_faults.NoBody = codes "NoBody"
+
+-- what is wrong with the text of a script, and with a command of it
+abbrev pub hail_fault_name : HailKind → List ℕ
+hail_fault_name (hail_kinds.Lex kind) = lex_fault_name kind
+hail_fault_name hail_kinds.Unexpected = codes "Unexpected"
+hail_fault_name hail_kinds.Unknown = codes "Unknown"
+hail_fault_name hail_kinds.Duplicate = codes "Duplicate"
+
+abbrev pub load_fault_name : LoadKind → List ℕ
+load_fault_name load_kinds.WrongType = codes "WrongType"
+load_fault_name load_kinds.OutOfRange = codes "OutOfRange"
+load_fault_name load_kinds.HeapFull = codes "HeapFull"
+
+abbrev pub schedule_fault_name : ScheduleKind → List ℕ
+schedule_fault_name schedule_kinds.BadToken = codes "BadToken"
+schedule_fault_name schedule_kinds.NumberTooLarge = codes "NumberTooLarge"

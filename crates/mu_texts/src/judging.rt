@@ -1,32 +1,35 @@
-// Reads the text of a bundle, and judges it.
+// Reads the texts of files, and judges them.
 ghost use Rattle.std.specs.Prelude.{◌≡◌, ◌≤◌, None, Ok, IfOk, OnOk};
 ghost use Rattle.demands.specs.Demands.{first_unmet};
-ghost use Rattle.text_programs.specs.Laws.{EnteredRunsEnd, PlainSettingFits};
 ghost use Rattle.mu_step.specs.Built.{built_demands};
-ghost use Rattle.mu_texts.specs.Answer.{as_written, named, checked, built, accepted, entered, for_check, for_print, for_run};
-ghost use Rattle.mu_texts.specs.Comes.{Comes, Passes, IsRefusal, IsRunnable, CanRun, begun};
+ghost use Rattle.mu_texts.specs.Answer.{as_written, named, checked, built, accepted, entered, to_run, for_check, for_print, hail_part, scheduled};
+ghost use Rattle.mu_texts.specs.Comes.{Comes, Passes, IsRefusal, LoadedRunsEnd, CanBegin, CanRun};
 
 use crate::ready::Ready;
 use crate::refusals::{
-    check_fault_name, entry_fault_name, name_fault_name, refusal, run_fault_name, text_fault_name,
+    check_fault_name, entry_fault_name, hail_fault_name, name_fault_name, refusal, run_fault_name,
+    schedule_fault_name, text_fault_name,
 };
 use crate::stop::Stop;
 use crate::what::What;
 use bundle_check::{Checked, check};
 use bundle_names::{Resolved, resolve};
 use demands::Fault;
+use hail_load::{Hail, read_hail};
 use ir_text::{TextFault, answer_is_one, read_bundle};
 use ir_tree::Bundle;
+use loaded_programs::loaded_settings_fit;
 use mu_base::Status;
 use mu_step::are_built;
+use mu_threads::{Schedule, read_schedule};
 use std::alloc::{AllocError, Global};
-use text_programs::{entered_runs_have_an_ending, plain_settings_fit};
+use text_programs::entered_runs_have_an_ending;
 
-// The line of a refusal of the bundle.
-fn refused(alloc: Global, place: usize, fault: &str) -> Result<Stop, AllocError>
-    ensures { IfOk result (λ stop. IsRefusal stop place fault.now) }
+/// The line of a refusal of a file.
+pub fn refused(alloc: Global, what: What, place: usize, fault: &str) -> Result<Stop, AllocError>
+    ensures { IfOk result (λ stop. IsRefusal stop what place fault.now) }
 {
-    let text = refusal(alloc, What::Bundle, place, fault)?;
+    let text = refusal(alloc, what, place, fault)?;
     Ok(Stop::Line(text, Status::Refused))
 }
 
@@ -37,7 +40,12 @@ fn read(alloc: Global, bytes: &[u8]) -> Result<Bundle, Stop>
     match read_bundle(alloc, bytes) {
         Ok(bundle) => Ok(bundle),
         Err(TextFault::Memory) => Err(Stop::Memory),
-        Err(TextFault::At { kind, place }) => Err(refused(alloc, place, text_fault_name(kind))?),
+        Err(TextFault::At { kind, place }) => Err(refused(
+            alloc,
+            What::Bundle,
+            place,
+            text_fault_name(kind),
+        )?),
     }
 }
 
@@ -48,7 +56,12 @@ fn name(alloc: Global, bundle: Bundle) -> Result<Resolved, Stop>
     match resolve(alloc, bundle) {
         Ok(names) => Ok(names),
         Err(Fault::Memory) => Err(Stop::Memory),
-        Err(Fault::At { kind, place }) => Err(refused(alloc, place, name_fault_name(kind))?),
+        Err(Fault::At { kind, place }) => Err(refused(
+            alloc,
+            What::Bundle,
+            place,
+            name_fault_name(kind),
+        )?),
     }
 }
 
@@ -59,7 +72,12 @@ fn judge_named(alloc: Global, names: Resolved) -> Result<Checked, Stop>
     match check(alloc, names) {
         Ok(code) => Ok(code),
         Err(Fault::Memory) => Err(Stop::Memory),
-        Err(Fault::At { kind, place }) => Err(refused(alloc, place, check_fault_name(kind))?),
+        Err(Fault::At { kind, place }) => Err(refused(
+            alloc,
+            What::Bundle,
+            place,
+            check_fault_name(kind),
+        )?),
     }
 }
 
@@ -80,20 +98,24 @@ fn judge_built(alloc: Global, code: &Checked) -> Result<(), Stop>
     match are_built(code) {
         Ok(()) => Ok(()),
         Err(Fault::Memory) => Err(Stop::Memory),
-        Err(Fault::At { kind, place }) => Err(refused(alloc, place, run_fault_name(kind))?),
+        Err(Fault::At { kind, place }) => Err(refused(
+            alloc,
+            What::Bundle,
+            place,
+            run_fault_name(kind),
+        )?),
     }
 }
 
-// The number of the function with that name, whose run may make so many steps and cells.
-fn enter(alloc: Global, code: &Checked, name: &str, budget: u32, cells: u32) -> Result<u32, Stop>
-    requires ends { EnteredRunsEnd code.now }
-    requires fits { PlainSettingFits code.now }
+/// The number of the function with that name, where a run may begin with it.
+///
+/// Else the line is `refused entry FAULT`.
+pub fn enter(alloc: Global, code: &Checked, name: &str) -> Result<u32, Stop>
+    requires ends { LoadedRunsEnd code.now }
     requires built { first_unmet (built_demands code.now) ≡ None }
-    requires short { budget ≤ 1000000 }
     ensures number { Comes (entered code.now name.now) result }
-    ensures there { IfOk result (λ n. IsRunnable code.now n budget cells) }
+    ensures begins { IfOk result (CanBegin code.now) }
 {
-    let _items = code.items();
     match code.entry(name) {
         Ok(number) => Ok(number),
         Err(fault) => {
@@ -104,32 +126,18 @@ fn enter(alloc: Global, code: &Checked, name: &str, budget: u32, cells: u32) -> 
     }
 }
 
-// The same of a bundle that is to be run: its runs have an ending.
+// A bundle that is to be run: its runs have an ending.
 fn accept_to_run(alloc: Global, bytes: &[u8]) -> Result<Checked, Stop>
     ensures code { Comes (accepted bytes.now) result }
-    ensures ends { IfOk result (λ code. EnteredRunsEnd code) }
-    ensures fits { IfOk result (λ code. PlainSettingFits code) }
+    ensures ends { IfOk result LoadedRunsEnd }
 {
     answer_is_one();
     entered_runs_have_an_ending();
-    plain_settings_fit();
+    loaded_settings_fit();
     match accept(alloc, bytes) {
         Ok(code) => Ok(code),
         Err(stop) => Err(stop),
     }
-}
-
-// The number of the function that a run begins with, in a bundle whose functions are built.
-fn entry_of(alloc: Global, code: &Checked, name: &str, budget: u32, cells: u32) -> Result<u32, Stop>
-    requires ends { EnteredRunsEnd code.now }
-    requires fits { PlainSettingFits code.now }
-    requires short { budget ≤ 1000000 }
-    ensures built { IfOk result (λ n. built code.now ≡ Ok code.now) }
-    ensures number { Comes (begun code.now name.now) result }
-    ensures there { IfOk result (λ n. IsRunnable code.now n budget cells) }
-{
-    judge_built(alloc, code)?;
-    enter(alloc, code, name, budget, cells)
 }
 
 // A checked bundle is lent on the way, so that each function drops it at one place at most: the proof of a drop goes through all
@@ -137,7 +145,8 @@ fn entry_of(alloc: Global, code: &Checked, name: &str, budget: u32, cells: u32) 
 
 /// What `mu check` asks of a text: a bundle that meets all demands on it.
 pub fn judge_for_check(alloc: Global, bytes: &[u8]) -> Result<Ready, Stop>
-    ensures { Comes (for_check bytes.now) result }
+    ensures asked { Comes (for_check bytes.now) result }
+    ensures there { IfOk result CanRun }
 {
     accept(alloc, bytes)?;
     Ok(Ready::Accepted)
@@ -145,33 +154,56 @@ pub fn judge_for_check(alloc: Global, bytes: &[u8]) -> Result<Ready, Stop>
 
 /// What `mu print` asks of a text: a bundle.
 pub fn judge_for_print(alloc: Global, bytes: &[u8]) -> Result<Ready, Stop>
-    ensures { Comes (for_print bytes.now) result }
+    ensures asked { Comes (for_print bytes.now) result }
+    ensures there { IfOk result CanRun }
 {
     Ok(Ready::Canonical(read(alloc, bytes)?))
 }
 
-/// What `mu run` asks of a text: a bundle that meets all demands on it, whose functions are built, with a function of that name
-/// which a run may begin with. The run may make so many steps, 1,000,000 at most, and so many cells beside those of the globals.
+/// What `mu run` asks of a bundle's text: a bundle that meets all demands on it, and whose functions are built.
 #[tactic(auto, using(crate::proofs::Entering::entering))]
-pub fn judge_for_run(
-    alloc: Global,
-    bytes: &[u8],
-    name: &str,
-    budget: u32,
-    cells: u32,
-) -> Result<Ready, Stop>
-    requires { budget ≤ 1000000 }
-    ensures asked { Comes (for_run bytes.now name.now budget cells) result }
-    ensures there { IfOk result CanRun }
+pub fn judge_for_run(alloc: Global, bytes: &[u8]) -> Result<Checked, Stop>
+    ensures asked { Comes (to_run bytes.now) result }
+    ensures ends { IfOk result LoadedRunsEnd }
+    ensures built { IfOk result (λ code. first_unmet (built_demands code) ≡ None) }
 {
     let code = accept_to_run(alloc, bytes)?;
-    match entry_of(alloc, &code, name, budget, cells) {
-        Ok(entry) => Ok(Ready::Entered {
-            code,
-            entry,
-            budget,
-            cells,
-        }),
+    match judge_built(alloc, &code) {
+        Ok(()) => Ok(code),
         Err(stop) => Err(stop),
+    }
+}
+
+// ---- the other files of a run
+
+/// The script that a text spells among the names of a bundle.
+pub fn read_script(alloc: Global, bytes: &[u8], code: &Checked) -> Result<Hail, Stop>
+    ensures { Comes (hail_part code.now bytes.now) result }
+{
+    match read_hail(alloc, bytes, code) {
+        Ok(hail) => Ok(hail),
+        Err(Fault::Memory) => Err(Stop::Memory),
+        Err(Fault::At { kind, place }) => Err(refused(
+            alloc,
+            What::Hail,
+            place,
+            hail_fault_name(kind),
+        )?),
+    }
+}
+
+/// The schedule that a text spells.
+pub fn judge_schedule(alloc: Global, bytes: &[u8]) -> Result<Schedule, Stop>
+    ensures { Comes (scheduled bytes.now) result }
+{
+    match read_schedule(alloc, bytes) {
+        Ok(picks) => Ok(picks),
+        Err(Fault::Memory) => Err(Stop::Memory),
+        Err(Fault::At { kind, place }) => Err(refused(
+            alloc,
+            What::Schedule,
+            place,
+            schedule_fault_name(kind),
+        )?),
     }
 }

@@ -1,4 +1,5 @@
 // What is to be written.
+use crate::start::Start;
 use bundle_check::Checked;
 use ir_tree::Bundle;
 
@@ -9,12 +10,6 @@ pub enum Ready {
     Accepted,
     /// The bundle in canonical text.
     Canonical(Bundle),
-    /// The run of a function of a checked bundle, by its number, which may make so many steps, and so many cells beside
-    /// those of the globals.
-    Entered {
-        code: Checked,
-        entry: u32,
-        budget: u32,
-        cells: u32,
-    },
+    /// A run of a checked bundle.
+    Entered { code: Checked, start: Start },
 }

@@ -1,16 +1,18 @@
 // The lines of refusals.
 ghost use Rattle.std.specs.Prelude.{◌≡◌, ◌++◌, IfOk, codes, decimal};
 ghost use Rattle.mu_texts.specs.What.{name_of};
-ghost use Rattle.mu_texts.specs.Refusals.{lex_fault_name, text_fault_name, name_fault_name, type_fault_name, const_fault_name, check_fault_name, run_fault_name, entry_fault_name};
+ghost use Rattle.mu_texts.specs.Refusals.{lex_fault_name, text_fault_name, name_fault_name, type_fault_name, const_fault_name, check_fault_name, run_fault_name, entry_fault_name, hail_fault_name, load_fault_name, schedule_fault_name};
 
 use crate::what::What;
 use bundle_check::EntryFault;
 use bundle_names::NameKind;
 use check_tables::CheckKind;
+use hail_load::{HailKind, LoadKind};
 use ir_lex::LexKind;
 use ir_text::TextKind;
 use itoa::Buffer;
 use mu_step::RunKind;
+use mu_threads::ScheduleKind;
 use mu_types::TypeKind;
 use mu_values::ConstKind;
 use std::alloc::{AllocError, Global};
@@ -110,6 +112,39 @@ pub fn entry_fault_name(fault: EntryFault) -> &'static str
         EntryFault::Unknown => "Unknown",
         EntryFault::BadSignature => "BadSignature",
         EntryFault::NoBody => "NoBody",
+    }
+}
+
+/// The name of a fault of a script's text in refusals.
+pub fn hail_fault_name(kind: HailKind) -> &'static str
+    ensures { result.now ≡ hail_fault_name kind }
+{
+    match kind {
+        HailKind::Lex(kind) => lex_fault_name(kind),
+        HailKind::Unexpected => "Unexpected",
+        HailKind::Unknown => "Unknown",
+        HailKind::Duplicate => "Duplicate",
+    }
+}
+
+/// The name of a fault of a script's command in refusals.
+pub fn load_fault_name(kind: LoadKind) -> &'static str
+    ensures { result.now ≡ load_fault_name kind }
+{
+    match kind {
+        LoadKind::WrongType => "WrongType",
+        LoadKind::OutOfRange => "OutOfRange",
+        LoadKind::HeapFull => "HeapFull",
+    }
+}
+
+/// The name of a schedule's fault in refusals.
+pub fn schedule_fault_name(kind: ScheduleKind) -> &'static str
+    ensures { result.now ≡ schedule_fault_name kind }
+{
+    match kind {
+        ScheduleKind::BadToken => "BadToken",
+        ScheduleKind::NumberTooLarge => "NumberTooLarge",
     }
 }
 

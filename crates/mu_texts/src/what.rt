@@ -6,6 +6,10 @@ ghost use Rattle.std.specs.Prelude.{◌≡◌};
 pub enum What {
     /// The bundle that is run.
     Bundle,
+    /// The script that fills the heap before the run.
+    Hail,
+    /// The numbers that decide the picks of the run.
+    Schedule,
 }
 
 impl What {
@@ -15,7 +19,11 @@ impl What {
     pub fn slot(self) -> u32
         ensures { result ≡ slot_of self }
     {
-        self as u32
+        match self {
+            What::Bundle => 0,
+            What::Hail => 1,
+            What::Schedule => 3,
+        }
     }
 
     /// Its name in texts.
@@ -24,6 +32,8 @@ impl What {
     {
         match self {
             What::Bundle => "bundle",
+            What::Hail => "hail",
+            What::Schedule => "schedule",
         }
     }
 }

@@ -1,7 +1,9 @@
-use Rattle.std.proofs.Common.{subst, sym}
+use Rattle.std.proofs.Common.{◌+◌, subst, sym}
 use Rattle.model_laws.specs.Bounds.{HasEnding}
-use Rattle.mu_model.specs.Run.{Run}
+use Rattle.mu_model.specs.Programs.{named}
+use Rattle.mu_model.specs.Run.{Run, run}
 use Rattle.mu_texts.specs.Answer.{run_answer}
+use Rattle.mu_texts.specs.Start.{Started}
 use Rattle.mu_command.specs.Written.{Writes}
 use Rattle.mu_command.proofs.Beginning.{run_is}
 use Rattle.mu_command.proofs.Puts.{no_memory}
@@ -11,9 +13,13 @@ pub returns-in-Err-clause-writes : goal.returns-in-Err-clause-writes
 returns-in-Err-clause-writes g c = no_memory _ _ _
 
 pub write_steps-requires-clause-ends : goal.write_steps-requires-clause-ends
-write_steps-requires-clause-ends g c = subst HasEnding (run_is c.args.code.now c.args.entry c.args.budget c.args.cells c.in-Ok.machine.configuration c.in-Ok.ensures.first) c.requires.ends
+write_steps-requires-clause-ends g c =
+    subst (λ (s : Started). HasEnding (run (named c.args.code.now) (s.setting.budget + 1) c.in-Ok.machine.configuration)) (sym c.start.view_is)
+    (subst HasEnding (run_is c.args.code.now c.args.start.entry c.args.start.setting c.in-Ok.machine.configuration c.in-Ok.ensures.first) c.requires.ends)
 
 pub returns-in-Ok-clause-writes : goal.returns-in-Ok-clause-writes
 returns-in-Ok-clause-writes g c =
     subst (λ (r : Run). Writes (run_answer c.args.code.now r) (g.S.Sink.written c.args.out.now) (g.S.Sink.written c.write_steps.new.out) (g.S.Sink.ends c.args.out.now) (g.S.Sink.ends c.write_steps.new.out) c.write_steps.result)
-    (sym (run_is c.args.code.now c.args.entry c.args.budget c.args.cells c.in-Ok.machine.configuration c.in-Ok.ensures.first)) c.write_steps.ensures.writes
+    (sym (run_is c.args.code.now c.args.start.entry c.args.start.setting c.in-Ok.machine.configuration c.in-Ok.ensures.first))
+    (subst (λ (s : Started). Writes (run_answer c.args.code.now (run (named c.args.code.now) (s.setting.budget + 1) c.in-Ok.machine.configuration)) (g.S.Sink.written c.args.out.now) (g.S.Sink.written c.write_steps.new.out) (g.S.Sink.ends c.args.out.now) (g.S.Sink.ends c.write_steps.new.out) c.write_steps.result)
+    c.start.view_is c.write_steps.ensures.writes)
