@@ -14,7 +14,7 @@ fn wakes_the_oldest(rt: HostRuntime) -> Result<(), Fail> {
     waiters.wait(3, CELL, false);
     waiters.reserve()?;
     waiters.wait(1, CELL, false);
-    assert_eq!(rt; waiters.waking(CELL, 9), 2);
+    assert_eq!(rt; waiters.waking(CELL, 9).len(), 2);
     assert_eq!(rt; waiters.wake(CELL, 1).at(0), 3);
     assert!(rt; waiters.waiting(3).is_none());
     assert!(rt; waiters.waiting(1).is_some());

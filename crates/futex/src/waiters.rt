@@ -2,7 +2,7 @@
 ghost use Rattle.std.specs.Prelude.{◌≡◌, ◌<◌, ◌≤◌, ◌==◌, [], ◌∷◌, ◌++◌, None, length, IsSome, IfSome, OnOk};
 ghost use Rattle.std.specs.List.{list_any, find};
 ghost use Rattle.futex.specs.Waiting.{is_at, is_of, cell_of, timed_cell_of, oldest_at, threads_of, without};
-ghost use Rattle.futex.specs.Kept.{other_than, with_next};
+ghost use Rattle.futex.specs.Kept.{AreApart, other_than, with_next};
 
 use crate::woken::Woken;
 use heap_cells::CellId;
@@ -87,12 +87,19 @@ impl Waiters {
         woken
     }
 
-    /// How many threads `wake` would wake. Nothing changes.
+    /// The threads that `wake` would wake. Nothing changes.
     #[tactic(auto, using(crate::proofs::Apart::few))]
-    pub fn waking(&self, cell: CellId, count: u32) -> u32
-        ensures { result ≡ length (oldest_at cell count self.now.waiters) }
+    pub fn waking(&self, cell: CellId, count: u32) -> Woken
+        ensures { result ≡ threads_of (oldest_at cell count self.now.waiters) }
     {
-        oldest_at(&self.list, cell, count).len() as u32
+        oldest_at(&self.list, cell, count)
+    }
+
+    /// Each thread waits once at most.
+    pub fn are_apart(&self)
+        ensures { AreApart self.now.waiters }
+    {
+        let _count = self.list.len();
     }
 
     /// The cell at which a thread waits; None exactly where it does not wait.

@@ -1,5 +1,5 @@
 // Threads that are woken.
-ghost use Rattle.std.specs.Prelude.{◌≡◌, ◌<◌, [], ◌∷◌, ◌++◌, Some, length, slice_get};
+ghost use Rattle.std.specs.Prelude.{◌≡◌, ◌<◌, ◌≤◌, [], ◌∷◌, ◌++◌, Some, length, slice_get};
 
 use std::marker::Model;
 
@@ -39,6 +39,14 @@ impl Woken {
         ensures { result ≡ length self.now }
     {
         self.count
+    }
+
+    /// The same, of which there are 64 at most.
+    pub fn count(&self) -> u32
+        ensures is { result ≡ length self.now }
+        ensures few { result ≤ 64 }
+    {
+        self.count as u32
     }
 
     /// The n-th of them, counted from 0.

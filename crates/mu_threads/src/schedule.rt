@@ -68,6 +68,18 @@ impl Schedule {
         }
     }
 
+    /// Takes so many numbers, or all where fewer are left. It takes constant time and no memory.
+    pub fn skip(&mut self, many: u32)
+        ensures { self.new ≡ drop many self.old }
+    {
+        let left = self.numbers.len() - self.taken;
+        if (many as usize) < left {
+            self.taken += many as usize;
+        } else {
+            self.taken = self.numbers.len();
+        }
+    }
+
     /// The numbers that are left.
     fn left(&self) -> &[u32]
         ensures { result.now ≡ self.now }

@@ -1,5 +1,5 @@
 // The threads that were made.
-ghost use Rattle.std.specs.Prelude.{◌≡◌, ◌≢◌, ◌<◌, ◌≤◌, [], ◌∷◌, ◌++◌, None, Some, IsSome, IsTrue, IfSome, IfNone, IfOk, OnOk, OnErr, IfErr, length, slice_get, if◌then◌else◌, vec_len, vec_capacity};
+ghost use Rattle.std.specs.Prelude.{◌≡◌, ◌≢◌, ◌<◌, ◌≤◌, [], ◌∷◌, ◌++◌, None, Some, IsSome, is_some, IsTrue, IfSome, IfNone, IfOk, OnOk, OnErr, IfErr, length, slice_get, if◌then◌else◌, vec_len, vec_capacity};
 ghost use Rattle.std.specs.Borrow.{sem};
 ghost use Rattle.mu_threads.specs.Threads.{runnable_from, runnable_of, stack_of, IsLeft, with_stack, with_state};
 ghost use Rattle.mu_threads.specs.Kept.{is_running};
@@ -91,6 +91,21 @@ impl Threads {
         self.stacks.push_reserved(Some(stack));
         list_runnable(&self.states, &mut self.runnable);
         Ok(number as u32)
+    }
+
+    /// How many threads were made.
+    pub fn made(&self) -> u32
+        ensures { result ≡ length self.now.states }
+    {
+        self.states.len() as u32
+    }
+
+    /// Whether a thread that was made holds its stack.
+    pub fn holds(&self, thread: u32) -> bool
+        requires { thread < length self.now.states }
+        ensures { result ≡ is_some (stack_of self.now thread) }
+    {
+        self.stacks[thread as usize].is_some()
     }
 
     /// The stack of a thread that holds it.

@@ -1,5 +1,5 @@
 // The stacks that were made.
-ghost use Rattle.std.specs.Prelude.{◌≡◌, ◌≢◌, ◌+◌, ◌<◌, ◌≤◌, [], ◌∷◌, ◌++◌, Some, length, slice_get, slice_set, option_map, vec_len, vec_capacity, OnOk, OnErr, IfOk, IfErr};
+ghost use Rattle.std.specs.Prelude.{◌≡◌, ◌≢◌, ◌+◌, ◌<◌, ◌≤◌, [], ◌∷◌, ◌++◌, Some, length, slice_get, slice_set, option_map, vec_len, vec_capacity, OnOk, OnErr, IfOk, IfErr, IfSome, IfNone, IsSomeAnd};
 ghost use Rattle.slab.specs.Slab.{HasRoomFor};
 ghost use Rattle.stacks.specs.Directories.{Ready, Active, Dead, state_of, ready_frames, IsTaken};
 ghost use Rattle.stacks.specs.Kept.{state_kept};
@@ -126,6 +126,13 @@ impl Directory {
         Ok(self.bodies.remove(key).into_frames())
     }
 
+    /// How many stacks were made.
+    pub fn count(&self) -> u32
+        ensures { result ≡ length self.now }
+    {
+        self.kept.len() as u32
+    }
+
     /// The state of a stack.
     pub fn state_of(&self, id: u32) -> StackState
         requires { id < length self.now }
@@ -134,6 +141,19 @@ impl Directory {
         match key_of(&self.kept, id) {
             Ok(_) => StackState::Ready,
             Err(other) => other.state,
+        }
+    }
+
+    /// A stack that is ready, where it stands. None comes exactly where it is not ready.
+    pub fn ready(&self, id: u32) -> Option<&ReadyStack>
+        requires { id < length self.now }
+        ensures some { IfSome result (λ s. slice_get self.now id ≡ Some (Ready s.now.frames s.now.waits)) }
+        ensures number { IfSome result (λ s. s.now.number ≡ id) }
+        ensures none { IfNone result (IsSomeAnd (option_map state_of (slice_get self.now id)) (λ state. state ≢ StackState.Ready)) }
+    {
+        match key_of(&self.kept, id) {
+            Ok(key) => self.bodies.get(key),
+            Err(_not_ready) => None,
         }
     }
 

@@ -1,0 +1,10 @@
+pub mod Lists
+pub mod Agreeing
+pub mod Moving
+pub mod Threads
+pub mod Listing
+pub mod Seen
+pub mod Changing
+pub mod Leaving
+pub mod Showing
+pub mod Waking

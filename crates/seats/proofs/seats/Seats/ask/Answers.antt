@@ -1,0 +1,35 @@
+use Rattle.stacks.specs.Stacks.{Unbound}
+use Rattle.seats.proofs.Seen.{on_stack, holds}
+use Rattle.seats.proofs.Waking.{seat_left}
+use Rattle.seats.proofs.Showing.{shown_sound, shown_same, shown_asked}
+use Rattle.seats.proofs.seats.Seats.ask.Goals as goal
+
+pub show-requires-clause-left : goal.show-requires-clause-left
+show-requires-clause-left g c =
+    let k = c.self.inside in
+    let on = on_stack k.threads.stacks k.owns.items k.stacks k.waiters.waiters c.args.self.now c.args.thread c.args.stack c.self.view_is c.requires in
+    seat_left k.threads k.stacks k.owns.items _ k.waiters.waiters c.args.self.now c.args.thread c.self.invariant on.0
+
+pub show-requires-clause-holds : goal.show-requires-clause-holds
+show-requires-clause-holds g c =
+    let k = c.self.inside in
+    let on = on_stack k.threads.stacks k.owns.items k.stacks k.waiters.waiters c.args.self.now c.args.thread c.args.stack c.self.view_is c.requires in
+    holds k.threads.stacks k.owns.items c.args.self.now c.args.thread on.0
+
+pub invariant_of-self : goal.invariant_of-self
+invariant_of-self g c =
+    let k = c.self.inside in
+    let on = on_stack k.threads.stacks k.owns.items k.stacks k.waiters.waiters c.args.self.now c.args.thread c.args.stack c.self.view_is c.requires in
+    shown_sound k.threads c.show.new.threads k.stacks k.owns.items _ k.waiters.waiters c.args.self.now c.args.thread c.self.invariant on.0 c.show.ensures.threads
+
+pub returns-clause-same : goal.returns-clause-same
+returns-clause-same g c =
+    let k = c.self.inside in
+    let on = on_stack k.threads.stacks k.owns.items k.stacks k.waiters.waiters c.args.self.now c.args.thread c.args.stack c.self.view_is c.requires in
+    shown_same k.threads c.show.new.threads k.stacks k.owns.items _ k.waiters.waiters c.args.self.now c.args.thread c.self.view_is c.self.invariant on.0 c.show.ensures.threads
+
+pub returns-clause-asked : goal.returns-clause-asked
+returns-clause-asked g c =
+    let k = c.self.inside in
+    let on = on_stack k.threads.stacks k.owns.items k.stacks k.waiters.waiters c.args.self.now c.args.thread c.args.stack c.self.view_is c.requires in
+    shown_asked k.threads k.stacks k.owns.items _ k.waiters.waiters c.args.self.now c.args.thread c.args.stack c.args.waits.members (λ (u : Unbound). g.A.Asks.asked c.args.asks.now u c.show.new.asks) c.self.view_is c.self.invariant on.0 on.1 c.show.ensures.asked

@@ -1,0 +1,8 @@
+use Rattle.std.proofs.Common.{◌∙◌}
+use Rattle.seats.proofs.Waking.{cell_told}
+use Rattle.seats.proofs.seats.Seats.waiting.Goals as goal
+
+pub returns : goal.returns
+returns c =
+    let k = c.self.inside in
+    c.waiting.ensures ∙ cell_told k.threads.stacks k.owns.items k.stacks k.waiters.waiters c.args.self.now c.args.thread c.self.view_is
