@@ -10,8 +10,8 @@ use Rattle.mu_texts.specs.declared.what.What.{What}
 use Rattle.mu_texts.specs.declared.what.What.TheVariants.{Bundle, Hail, Schedule}
 use Rattle.mu_texts.specs.declared.ready.Ready.{Ready}
 use Rattle.mu_texts.specs.declared.ready.Ready.TheVariants as ready
-use Rattle.mu_texts.specs.Answer.{Part, ◌>>=◌, as_written, accepted, for_check, for_print, to_run, entered, loaded, scheduled, started, is_end, ready_part}
-use Rattle.mu_texts.proofs.Accepting.{StopsSo, then, writing, accepting, building, entering_named, loading, scheduling}
+use Rattle.mu_texts.specs.Answer.{Part, ◌>>=◌, as_written, accepted, for_check, for_print, entered, loaded, scheduled, started, is_end, ready_part}
+use Rattle.mu_texts.proofs.Accepting.{StopsSo, then, writing, accepting, entering_named, loading, scheduling}
 use Rattle.mu_command.specs.declared.job.Job.{Job}
 use Rattle.mu_command.specs.declared.job.Job.TheVariants.{Check, Print, Run}
 use Rattle.mu_command.specs.declared.job.RunJob.{RunJob}
@@ -38,7 +38,7 @@ module _ (P : Status → Type 0) (refused : P Refused) (memory : P Memory) (word
   finding_all (Check file) = judging Bundle for_check (λ bytes. then P (accepted bytes) (λ code. Ok ready.Accepted) (accepting P refused memory bytes) (λ code. tt))
   finding_all (Print file) = judging Bundle for_print (λ bytes. then P (as_written bytes) (λ bundle. Ok (ready.Canonical bundle)) (writing P refused memory bytes) (λ bundle. tt))
   finding_all (Run r) =
-      then P (judged Bundle to_run (o Bundle)) (λ code. begun words r code o >>= λ start. Ok (ready.Entered code start)) (judging Bundle to_run (building P refused memory))
+      then P (judged Bundle accepted (o Bundle)) (λ code. begun words r code o >>= λ start. Ok (ready.Entered code start)) (judging Bundle accepted (accepting P refused memory))
       (λ code. then P (begun words r code o) (λ start. Ok (ready.Entered code start)) (beginning r code) (λ start. tt))
 
 -- ---- no early end has a status of what is accepted

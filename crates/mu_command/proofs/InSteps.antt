@@ -23,7 +23,7 @@ use Rattle.mu_step.specs.Outcome.{outcome_of}
 use Rattle.mu_texts.specs.Answer.{Answer, run_answer}
 use Rattle.model_laws.specs.Bounds.{HasEnding}
 use Rattle.mu_command.specs.Written.{joined, cuts_from, AppendsEnds, Wrote, WrotePart, IsWhole, Writes}
-use Rattle.mu_command.specs.Steps.{step_pieces, last_piece, behind_pieces, Goes, IsOver}
+use Rattle.mu_command.specs.Steps.{answered_step, step_pieces, last_piece, behind_pieces, Goes, IsOver}
 use Rattle.mu_command.proofs.Puts.{joined-append, appends_twice, nothing_put, put_whole, put_stops, only_put, no_memory}
 
 -- ---- pieces behind pieces
@@ -112,14 +112,14 @@ lines_aside p (suc n) c ls = refl
 twice : (ls : List Line) → reverse (reverse ls) ≡ ls
 twice ls = reverse-reverse ls
 
-run_goes : (p : Program) (n : ℕ) (c d : Configuration) (ls : List Line) → step p c ≡ Next (record d { lines = reverse ls }) → run p (suc n) c ≡ behind ls (run p n d)
+run_goes : (p : Program) (n : ℕ) (c d : Configuration) (ls : List Line) → answered_step p c ≡ Next (record d { lines = reverse ls }) → run p (suc n) c ≡ behind ls (run p n d)
 run_goes p n c d ls e =
-    ap (λ (o : Outcome). goes_on (run p n) (client_answers p c.client o)) e
+    ap (goes_on (run p n)) e
     ∙ ap (λ (r : Run). behind (reverse (reverse ls)) r) (lines_aside p n d (reverse ls))
     ∙ ap (λ (l : List Line). behind l (run p n d)) (twice ls)
 
-run_ends : (p : Program) (n : ℕ) (c : Configuration) (ls : List Line) (e : Ending) → step p c ≡ End ls e → run p (suc n) c ≡ Ends [] ls e
-run_ends p n c ls e h = ap (λ (o : Outcome). goes_on (run p n) (client_answers p c.client o)) h
+run_ends : (p : Program) (n : ℕ) (c : Configuration) (ls : List Line) (e : Ending) → answered_step p c ≡ End ls e → run p (suc n) c ≡ Ends [] ls e
+run_ends p n c ls e h = ap (goes_on (run p n)) h
 
 behind_ends : (ls : List Line) (r : Run) → HasEnding (behind ls r) → HasEnding r
 behind_ends ls (Ends steps lines e) h = tt
@@ -134,24 +134,24 @@ answer_behind bundle ls Unfinished h = absurd h
 
 module _ (bundle : List Item) (c d : Configuration) (w0 w1 e0 e1 : Option (List ℕ)) where
   -- the step went on, and its lines were put
-  pub went : (ls : List Line) → Next (record d { lines = reverse ls }) ≡ step (named bundle) c → Wrote (step_pieces bundle ls) w0 w1 e0 e1 → Goes bundle c d w0 w1 e0 e1
+  pub went : (ls : List Line) → Next (record d { lines = reverse ls }) ≡ answered_step (named bundle) c → Wrote (step_pieces bundle ls) w0 w1 e0 e1 → Goes bundle c d w0 w1 e0 e1
   went ls e wrote = record { lines = ls; is = sym e; wrote = wrote }
 
   -- it went on, and its lines could not be put
-  pub went_over : (ls : List Line) (status : Status) → Next (record d { lines = reverse ls }) ≡ step (named bundle) c →
+  pub went_over : (ls : List Line) (status : Status) → Next (record d { lines = reverse ls }) ≡ answered_step (named bundle) c →
       ((answer : Answer) → Writes (behind_pieces (step_pieces bundle ls) answer) w0 w1 e0 e1 status) → IsOver bundle c w0 w1 e0 e1 status
   went_over ls status e over n ends =
       let goes : run (named bundle) (suc n) c ≡ behind ls (run (named bundle) n d) = run_goes (named bundle) n c d ls (sym e) in
       let later : HasEnding (run (named bundle) n d) = behind_ends ls (run (named bundle) n d) (subst HasEnding goes ends) in
       subst (λ (a : Answer). Writes a w0 w1 e0 e1 status) (sym (ap (run_answer bundle) goes ∙ answer_behind bundle ls (run (named bundle) n d) later)) (over (run_answer bundle (run (named bundle) n d)))
 
-  pub went_or_over : (ls : List Line) (o : Option Status) → Next (record d { lines = reverse ls }) ≡ step (named bundle) c →
+  pub went_or_over : (ls : List Line) (o : Option Status) → Next (record d { lines = reverse ls }) ≡ answered_step (named bundle) c →
       IfSome o (λ status. (answer : Answer) → Writes (behind_pieces (step_pieces bundle ls) answer) w0 w1 e0 e1 status) → IfSome o (λ status. IsOver bundle c w0 w1 e0 e1 status)
   went_or_over ls None e over = tt
   went_or_over ls (Some status) e over = went_over ls status e over
 
   -- it gave the ending, and the last piece was put or not
-  pub ended : (ls : List Line) (e : Ending) (status : Status) → End ls e ≡ step (named bundle) c →
+  pub ended : (ls : List Line) (e : Ending) (status : Status) → End ls e ≡ answered_step (named bundle) c →
       Writes (record { pieces = last_piece bundle ls e ∷ []; status = ending_status e }) w0 w1 e0 e1 status → IsOver bundle c w0 w1 e0 e1 status
   ended ls e status h written n ends = subst (λ (a : Answer). Writes a w0 w1 e0 e1 status) (sym (ap (run_answer bundle) (run_ends (named bundle) n c ls e (sym h)))) written
 
@@ -160,9 +160,9 @@ pub not_made : (bundle : List Item) (c : Configuration) (w e : Option (List ℕ)
 not_made bundle c w e n ends = no_memory (run_answer bundle (run (named bundle) (suc n) c)) w e
 
 -- the step that was made, by what the machine answered
-pub went_is : (bundle code : List Item) (c d : Configuration) (end : StepEnd) (ls ms : List Line) → end ≡ Went ms → ls ≡ ms → bundle ≡ code → outcome_of end d ≡ step (named bundle) c → Next (record d { lines = reverse ls }) ≡ step (named code) c
+pub went_is : (bundle code : List Item) (c d : Configuration) (end : StepEnd) (ls ms : List Line) → end ≡ Went ms → ls ≡ ms → bundle ≡ code → outcome_of end d ≡ answered_step (named bundle) c → Next (record d { lines = reverse ls }) ≡ answered_step (named code) c
 went_is bundle code c d end ls ms is same one h =
-    ap (λ ls. Next (record d { lines = reverse ls })) same ∙ ap (λ end. outcome_of end d) (sym is) ∙ h ∙ ap (λ b. step (named b) c) one
+    ap (λ ls. Next (record d { lines = reverse ls })) same ∙ ap (λ end. outcome_of end d) (sym is) ∙ h ∙ ap (λ b. answered_step (named b) c) one
 
 -- ---- what was put so far, and what is left of the run, make the whole
 

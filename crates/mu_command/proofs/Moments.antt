@@ -16,7 +16,7 @@ use Rattle.mu_texts.specs.declared.what.What.TheVariants.{Bundle, Hail, Schedule
 use Rattle.mu_texts.specs.declared.ready.Ready.TheVariants as ready
 use Rattle.mu_texts.specs.Start.{Started}
 use Rattle.mu_texts.specs.Refusals.{load_fault_name}
-use Rattle.mu_texts.specs.Answer.{Part, ◌>>=◌, accepted, as_written, for_check, for_print, to_run, entered, filled, hail_part, filled_part, loaded, scheduled, started}
+use Rattle.mu_texts.specs.Answer.{Part, ◌>>=◌, accepted, as_written, for_check, for_print, entered, filled, hail_part, filled_part, loaded, scheduled, started}
 use Rattle.mu_texts.specs.Comes.{AreFilled, IsLoaded}
 use Rattle.mu_texts.proofs.Runnable.{goes_on, was_met}
 use Rattle.mu_texts.proofs.Moments.{moments_of_run}
@@ -57,9 +57,9 @@ begins words r code o start h =
 of_run : (words : List (List ℕ)) (r : RunJob) (o : Outcomes) (code : List Item) (start : Started) → AnswerIsOne → MomentsOfTextsAreSound → LoadedSettingsFit → found words (Run r) o ≡ Ok (ready.Entered code start)
     → MomentsAreSound (named code) start.setting start.entry
 of_run words r o code start one law fits h =
-    let c = goes_on (judged Bundle to_run (o Bundle)) (λ code. begun words r code o >>= λ start. Ok (ready.Entered code start)) (ready.Entered code start) h in
+    let c = goes_on (judged Bundle accepted (o Bundle)) (λ code. begun words r code o >>= λ start. Ok (ready.Entered code start)) (ready.Entered code start) h in
     let s = goes_on (begun words r c.0 o) (λ start. Ok (ready.Entered c.0 start)) (ready.Entered code start) c.2 in
-    let bytes = from_bytes Bundle to_run (o Bundle) c.0 c.1 in
+    let bytes = from_bytes Bundle accepted (o Bundle) c.0 c.1 in
     let b = begins words r c.0 o s.0 s.1 in
     let same_code : c.0 ≡ code = let e = s.2 in cc in
     let same_start : s.0 ≡ start = let e = s.2 in cc in

@@ -11,7 +11,7 @@ use Rattle.mu_texts.specs.declared.stop.Stop.TheVariants.{Line, Memory}
 use Rattle.mu_texts.specs.declared.ready.Ready.{Ready}
 use Rattle.mu_texts.specs.declared.ready.Ready.TheVariants.{Entered}
 use Rattle.mu_texts.specs.Start.{Started}
-use Rattle.mu_texts.specs.Answer.{Answer, Part, ◌>>=◌, line, for_check, for_print, to_run, ready_part, ready_answer}
+use Rattle.mu_texts.specs.Answer.{Answer, Part, ◌>>=◌, line, for_check, for_print, accepted, ready_part, ready_answer}
 use Rattle.mu_command.specs.declared.job.Job.{Job}
 use Rattle.mu_command.specs.declared.job.Job.TheVariants.{Check, Print, Run}
 use Rattle.mu_command.specs.declared.job.RunJob.{RunJob}
@@ -72,7 +72,7 @@ run_allowed seen words r o more a b c Schedule = c
 
 module _ (last : Seen) (words : List (List ℕ)) (r : RunJob) (is : job_of words ≡ Some (Run r)) where
   -- the bundle is refused
-  pub no_code : (stop : Stop) → ((s : ℕ) → last.before s ≤ last.now s) → IsJudged last words Bundle (Some r.file) to_run (Err stop) → IsFound last words (Err stop)
+  pub no_code : (stop : Stop) → ((s : ℕ) → last.before s ≤ last.now s) → IsJudged last words Bundle (Some r.file) accepted (Err stop) → IsFound last words (Err stop)
   no_code Memory le h = tt
   no_code (Line text status) le h =
       let a = some_named last words Hail r.hail (le 1) in
@@ -80,7 +80,7 @@ module _ (last : Seen) (words : List (List ℕ)) (r : RunJob) (is : job_of words
       together last words (Run r) (with_bundle h.outcome (two a.0 b.0)) _ is (run_allowed last words r h.outcome (two a.0 b.0) h.allowed a.1 b.1) (rw h.comes refl)
 
   module _ (seen after : Seen) (code : List Item) (same : SameSlot seen last Bundle) (same_hail : SameSlot after last Hail) (same_schedule : SameSlot after last Schedule)
-      (bundle : OfFile seen words Bundle (Some r.file) to_run (Ok code)) where
+      (bundle : OfFile seen words Bundle (Some r.file) accepted (Ok code)) where
     -- it is there, and the run does not begin
     pub not_begun : (stop : Stop) → IsBegun after words r code (Err stop) → IsFound last words (Err stop)
     not_begun Memory h = tt

@@ -10,7 +10,7 @@ use Rattle.mu_texts.specs.declared.ready.Ready.{Ready}
 use Rattle.mu_texts.specs.declared.ready.Ready.TheVariants.{Entered}
 use Rattle.mu_texts.specs.Start.{Started}
 use Rattle.mu_texts.specs.What.{name_of}
-use Rattle.mu_texts.specs.Answer.{Answer, Part, ◌>>=◌, line, for_check, for_print, to_run, entered, loaded, scheduled, started, ready_part}
+use Rattle.mu_texts.specs.Answer.{Answer, Part, ◌>>=◌, line, for_check, for_print, accepted, entered, loaded, scheduled, started, ready_part}
 use Rattle.mu_command.specs.declared.job.Job.{Job}
 use Rattle.mu_command.specs.declared.job.Job.TheVariants.{Check, Print, Run}
 use Rattle.mu_command.specs.declared.job.RunJob.{RunJob}
@@ -42,7 +42,7 @@ begun words r code o =
 abbrev pub found : List (List ℕ) → Job → Outcomes → Part Ready
 found words (Check file) o = judged Bundle for_check (o Bundle)
 found words (Print file) o = judged Bundle for_print (o Bundle)
-found words (Run r) o = judged Bundle to_run (o Bundle) >>= λ code. begun words r code o >>= λ start. Ok (Entered code start)
+found words (Run r) o = judged Bundle accepted (o Bundle) >>= λ code. begun words r code o >>= λ start. Ok (Entered code start)
 
 -- The answer to the words and the outcomes: no job; the first fetch that gives no file; the first refusal; else the run.
 abbrev pub answer_of : List (List ℕ) → Option Job → Outcomes → Answer

@@ -5,10 +5,11 @@ use Rattle.ir_tree.specs.declared.items.Item.{Item}
 use Rattle.mu_model.specs.declared.lines.Line.{Line}
 use Rattle.mu_model.specs.declared.endings.Ending.{Ending}
 use Rattle.mu_model.specs.Configuration.{Configuration}
-use Rattle.mu_model.specs.Outcomes.{Next}
+use Rattle.mu_model.specs.Acts.{Program}
+use Rattle.mu_model.specs.Outcomes.{Outcome, Next}
 use Rattle.mu_model.specs.Programs.{named}
 use Rattle.mu_model.specs.Step.{step}
-use Rattle.mu_model.specs.Run.{run}
+use Rattle.mu_model.specs.Run.{client_answers, run}
 use Rattle.run_texts.specs.Texts.{Text, ending_text}
 use Rattle.run_texts.specs.Pieces.{lines_text}
 use Rattle.mu_texts.specs.Answer.{Answer, run_answer}
@@ -28,10 +29,14 @@ last_piece bundle lines e = lines_text bundle lines ++ ending_text bundle e ++ c
 abbrev pub behind_pieces : List Text → Answer → Answer
 behind_pieces pieces answer = record { pieces = pieces ++ answer.pieces; status = answer.status }
 
+-- a step by the client's own answer
+abbrev pub answered_step : Program → Configuration → Outcome
+answered_step p c = client_answers p c.client (step p c)
+
 -- the step went from one configuration to another, and its pieces were put
 pub record Goes (bundle : List Item) (c d : Configuration) (written new_written marks new_marks : Option (List ℕ)) : Type 0 where
   pub lines : List Line
-  pub is : step (named bundle) c ≡ Next (record d { lines = reverse lines })
+  pub is : answered_step (named bundle) c ≡ Next (record d { lines = reverse lines })
   pub wrote : Wrote (step_pieces bundle lines) written new_written marks new_marks
 
 -- however many steps may come, what is left of the run was written with this status

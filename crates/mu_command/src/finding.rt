@@ -1,9 +1,8 @@
 // The first half of the program: finds what is to be written.
 ghost use Rattle.std.specs.Prelude.{◌≡◌, ◌≢◌, ◌<◌, ◌≤◌, ℕ, None, Some, IfOk, IfSome, length};
 ghost use Rattle.demands.specs.Demands.{first_unmet};
-ghost use Rattle.mu_step.specs.Built.{built_demands};
 ghost use Rattle.mu_texts.specs.What.{slot_of};
-ghost use Rattle.mu_texts.specs.Answer.{for_check, for_print, to_run, loaded, scheduled};
+ghost use Rattle.mu_texts.specs.Answer.{for_check, for_print, accepted, loaded, scheduled};
 ghost use Rattle.mu_texts.specs.Comes.{IsFilled, IsRunnable, LoadedRunsEnd, CanRun};
 ghost use Rattle.mu_command.specs.Job.{job_of, AreThere, IsThere};
 ghost use Rattle.mu_command.specs.Parts.{IsJudged, IsBegun, IsFound, objects_in};
@@ -71,9 +70,8 @@ fn find_code<I: Inputs>(
     ensures same { I.holds inputs.new ≡ I.holds inputs.old }
     ensures other_slots { (s : ℕ) → s ≢ slot_of What.Bundle → I.faults inputs.new s ≡ I.faults inputs.old s }
     ensures never_falls { (s : ℕ) → I.faults inputs.old s ≤ I.faults inputs.new s }
-    ensures judged { IsJudged (record { told = I.holds inputs.old; before = I.faults inputs.old; now = I.faults inputs.new }) words.now What.Bundle (Some file) to_run result }
+    ensures judged { IsJudged (record { told = I.holds inputs.old; before = I.faults inputs.old; now = I.faults inputs.new }) words.now What.Bundle (Some file) accepted result }
     ensures ends { IfOk result LoadedRunsEnd }
-    ensures built { IfOk result (λ code. first_unmet (built_demands code) ≡ None) }
 {
     let bytes = load(alloc, words, What::Bundle, Some(file), inputs)?;
     judge_for_run(alloc, &bytes)
@@ -128,7 +126,6 @@ fn find_start<I: Inputs>(
 ) -> Result<Start, Stop>
     requires there { IsThere (length words.now) run }
     requires ends { LoadedRunsEnd code.now }
-    requires built { first_unmet (built_demands code.now) ≡ None }
     ensures same { I.holds inputs.new ≡ I.holds inputs.old }
     ensures bundle_slot { I.faults inputs.new 0 ≡ I.faults inputs.old 0 }
     ensures never_falls { (s : ℕ) → I.faults inputs.old s ≤ I.faults inputs.new s }

@@ -7,7 +7,6 @@ ghost use Rattle.mu_model.specs.Programs.{named};
 ghost use Rattle.mu_model.specs.Step.{step};
 ghost use Rattle.mu_model.specs.Run.{first_configuration, run};
 ghost use Rattle.run_texts.specs.Texts.{ending_status};
-ghost use Rattle.mu_step.specs.Built.{IsBuilt};
 ghost use Rattle.mu_texts.specs.Answer.{Answer, run_of, run_answer, ready_answer};
 ghost use Rattle.model_laws.specs.Bounds.{HasEnding};
 ghost use Rattle.mu_texts.specs.Comes.{IsRunnable, CanRun};
@@ -116,7 +115,6 @@ fn make_step<S: Sink, M: Memory + Drop>(
     machine: &mut Machine<M>,
     text: &mut Vec<u8>,
 ) -> Option<Status>
-    requires built { IsBuilt code.now }
     requires same { machine.old.bundle ≡ code.now }
     requires there { step (named code.now) machine.old.configuration ≢ Stuck }
     ensures same { machine.new.bundle ≡ code.now }
@@ -146,7 +144,6 @@ fn write_steps<S: Sink, M: Memory + Drop>(
     machine: &mut Machine<M>,
     steps: u64,
 ) -> Status
-    requires built { IsBuilt code.now }
     requires same { machine.old.bundle ≡ code.now }
     requires ends { HasEnding (run (named code.now) steps machine.old.configuration) }
     ensures writes { Writes (run_answer code.now (run (named code.now) steps machine.old.configuration))

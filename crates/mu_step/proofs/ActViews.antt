@@ -1,5 +1,5 @@
 -- Lemmas of acts, over the view of a state and its parts.
-use Rattle.std.proofs.Common.{◌≡◌, ◌≢◌, ℕ, zero, suc, ◌<◌, true, List, [], ◌∷◌, None, Some, IsSome, Result, Ok, Err, IfOk, IfSome, IsSomeAnd, length, slice_get, slice_index_or, take, drop, sym, ◌∙◌, ap, subst, arith}
+use Rattle.std.proofs.Common.{◌≡◌, ◌≢◌, ℕ, zero, suc, ◌+◌, ◌<◌, true, List, [], ◌∷◌, None, Some, IsSome, Result, Ok, Err, IfOk, IfSome, IsSomeAnd, length, slice_get, slice_index_or, take, drop, sym, ◌∙◌, ap, subst, arith}
 use Rattle.std.specs.List.{flat_map}
 use Rattle.ir_tree.specs.declared.items.Item.{Item}
 use Rattle.mu_values.specs.declared.scalars.Scalar.{Scalar}
@@ -27,23 +27,24 @@ use Rattle.mu_model.specs.Outcomes.{Outcome, Stuck}
 use Rattle.model_numbers.specs.Sources.{goal_at}
 use Rattle.model_numbers.specs.Forms.{act_at}
 use Rattle.model_numbers.specs.Numbered.{optional_goal_at, kept_at}
-use Rattle.step_forms.specs.Built.{form_is_built, act_is_built}
 use Rattle.step_forms.specs.declared.act.Act as made
 use Rattle.step_forms.specs.Classes.{FormIsThere, FormsAreThere}
-use Rattle.mu_step.specs.OneThread.{OneThread}
-use Rattle.mu_step.specs.Acting.{answers, went_on, acting, stepping, faulting, goes_on, gets, entered, awaited, entered_above, objects_end}
-use Rattle.mu_step.specs.StepLaws.{step_stands, step_acts}
-use Rattle.mu_step.specs.ActLaws.{given_there, given_is, fault_gets, fault_goes, gets_there, call_so, awaited_there, return_there, return_is, throw_is, drop_at}
-use Rattle.mu_step.specs.Built.{IsBuilt}
-use Rattle.mu_step.specs.BuiltLaws.{built_at}
+use Rattle.mu_model.specs.declared.lines.Line.{Line}
+use Rattle.mu_model.specs.declared.lines.Line.TheVariants as lines
+use Rattle.mu_model.specs.declared.lines.Note.TheVariants.{Returned}
+use Rattle.mu_model.specs.declared.endings.StepEnd.TheVariants.{Went}
+use Rattle.mu_step.specs.Held.{Held}
+use Rattle.mu_step.specs.Acting.{answers, went_on, acting, stepping, faulting, goes_on, gets, entered, awaits, awaited, entered_above, objects_end, thread_ended}
+use Rattle.mu_step.specs.StepLaws.{GoesOn, step_stands, step_acts}
+use Rattle.mu_step.specs.ActLaws.{given_there, given_is, fault_gets, fault_goes, gets_there, call_so, awaited_there, return_there, return_is, throw_is, drop_at, return_finishes}
 use Rattle.mu_step.proofs.Passing.{handled}
 
 -- ---- results
 
-pub gives_there : (bundle : List Item) (s v : OneThread) (vs : List Value) (f : Activation) → v ≡ s → acting bundle s (Gives vs) ≢ Stuck → f ≡ v.frames.top → IsSome (goes_on bundle f vs)
-gives_there bundle s v vs f view h e = subst (λ f. IsSome (goes_on bundle f vs)) (sym (e ∙ ap (λ (x : OneThread). x.frames.top) view)) (given_there bundle s vs h)
+pub gives_there : (bundle : List Item) (s v : Held) (vs : List Value) (f : Activation) → v ≡ s → acting bundle s (Gives vs) ≢ Stuck → f ≡ v.frames.top → IsSome (goes_on bundle f vs)
+gives_there bundle s v vs f view h e = subst (λ f. IsSome (goes_on bundle f vs)) (sym (e ∙ ap (λ (x : Held). x.frames.top) view)) (given_there bundle s vs h)
 
-pub gave : (bundle : List Item) (s v : OneThread) (vs out : List Value) (f : Activation) (block at : ℕ) (fr : Chain) (o : Outcome) → v ≡ s → acting bundle s (Gives vs) ≢ Stuck → f ≡ v.frames.top
+pub gave : (bundle : List Item) (s v : Held) (vs out : List Value) (f : Activation) (block at : ℕ) (fr : Chain) (o : Outcome) → v ≡ s → acting bundle s (Gives vs) ≢ Stuck → f ≡ v.frames.top
     → goes_on bundle f vs ≡ Some (stands f block at out) → fr ≡ record v.frames { top = stands v.frames.top block at out } → o ≡ went_on (record v { frames = fr }) → o ≡ acting bundle s (Gives vs)
 gave bundle s v vs out f block at fr o view h e way same is =
     let top : goes_on bundle v.frames.top vs ≡ Some (stands v.frames.top block at out) = subst (λ f. goes_on bundle f vs ≡ Some (stands f block at out)) e way in
@@ -53,7 +54,7 @@ gave bundle s v vs out f block at fr o view h e way same is =
 
 -- ---- calls
 
-pub called_so : {E : Type 0} (bundle : List Item) (s t : OneThread) (f block : ℕ) (vs : List Value) (function : Function) (r : Result StepEnd E) → acting bundle s (Calls f vs) ≢ Stuck
+pub called_so : {E : Type 0} (bundle : List Item) (s t : Held) (f block : ℕ) (vs : List Value) (function : Function) (r : Result StepEnd E) → acting bundle s (Calls f vs) ≢ Stuck
     → slice_get (bundle_functions bundle) f ≡ Some function → function.first ≡ Some block
     → IfOk r (λ end. IfSome (awaited bundle s.frames.top f) (λ w. answers end t ≡ went_on (record s { frames = entered_above s.frames (entered block vs) w })))
     → IfOk r (λ end. answers end t ≡ acting bundle s (Calls f vs))
@@ -74,10 +75,10 @@ pub record WaitsAt (bundle : List Item) (f : Activation) (b : BlockCode) (i : Co
   pub exceptional : IsSome (optional_goal_at bundle f.vars i.exceptional)
   pub kept : IsSome (kept_at b.classes f.vars i.keepalive)
 
-pub waits_at : (bundle : List Item) (f : Activation) (function : ℕ) (b : BlockCode) (xs : List Code) (i : Code) → IsSome (awaited bundle f function) → slice_get (bundle_blocks bundle) f.block ≡ Some b
+pub waits_at : (bundle : List Item) (f : Activation) (cs : List ℕ) (b : BlockCode) (xs : List Code) (i : Code) → IsSome (awaits bundle f cs) → slice_get (bundle_blocks bundle) f.block ≡ Some b
     → xs ≡ b.code → i ≡ slice_index_or xs f.at i → WaitsAt bundle f b i
-waits_at bundle f function b xs i h there listed is =
-    let q = awaited_there bundle f function h in
+waits_at bundle f cs b xs i h there listed is =
+    let q = awaited_there bundle f cs h in
     let same : q.0 ≡ b = let found = q.1 in cc in
     let within : f.at < length b.code = subst (λ (b : BlockCode). f.at < length b.code) same q.7 in
     let here : slice_get b.code f.at ≡ Some i = there_by b.code f.at i within (subst (λ xs. i ≡ slice_index_or xs f.at i) listed is) in
@@ -96,15 +97,15 @@ kept_is types cs vs ns ms k a b h = ap (λ cs. kept_at cs vs ns) (sym a) ∙ ap 
 
 -- ---- what an instruction asks
 
-pub record AsksAt (bundle : List Item) (s : OneThread) (f : Activation) (b : BlockCode) (i : Code) : Type 0 where
+pub record AsksAt (bundle : List Item) (s : Held) (f : Activation) (b : BlockCode) (i : Code) : Type 0 where
   pub there : slice_get b.code f.at ≡ Some i
   pub asks : IsSome (act_at bundle b.classes f.vars i.form)
   pub acts : (a : Act) → act_at bundle b.classes f.vars i.form ≡ Some a → stepping bundle s ≡ acting bundle s a
 
-asks_there : (bundle : List Item) (s : OneThread) (b : BlockCode) (xs : List Code) (i : Code) → s.left ≡ true → s.steps < s.budget → stepping bundle s ≢ Stuck
+asks_there : (bundle : List Item) (s : Held) (b : BlockCode) (xs : List Code) (i : Code) → GoesOn s → stepping bundle s ≢ Stuck
     → slice_get (bundle_blocks bundle) s.frames.top.block ≡ Some b → xs ≡ b.code → i ≡ slice_index_or xs s.frames.top.at i → AsksAt bundle s s.frames.top b i
-asks_there bundle s b xs i left room h there listed is =
-    let q = step_stands bundle s left room h in
+asks_there bundle s b xs i waits h there listed is =
+    let q = step_stands bundle s waits h in
     let f = s.frames.top in
     let same : q.0 ≡ b = let found = q.1 in cc in
     let within : f.at < length b.code = subst (λ (b : BlockCode). f.at < length b.code) same q.6 in
@@ -113,64 +114,56 @@ asks_there bundle s b xs i left room h there listed is =
     record {
       there = here;
       asks = subst (λ (i : Code). IsSome (act_at bundle b.classes f.vars i.form)) code (subst (λ (b : BlockCode). IsSome (act_at bundle b.classes f.vars q.2.form)) same q.4);
-      acts = λ a asked. step_acts bundle s b i a left room there here asked;
+      acts = λ a asked. step_acts bundle s b i a waits there here asked;
     }
 
-pub asks_at : (bundle : List Item) (s v : OneThread) (f : Activation) (b : BlockCode) (xs : List Code) (i : Code) → v ≡ s → f ≡ v.frames.top → s.left ≡ true → s.steps < s.budget → stepping bundle s ≢ Stuck
+pub asks_at : (bundle : List Item) (s v : Held) (f : Activation) (b : BlockCode) (xs : List Code) (i : Code) → v ≡ s → f ≡ v.frames.top → GoesOn s → stepping bundle s ≢ Stuck
     → slice_get (bundle_blocks bundle) f.block ≡ Some b → xs ≡ b.code → i ≡ slice_index_or xs f.at i → AsksAt bundle s f b i
-asks_at bundle s v f b xs i view e left room h there listed is =
-    let at : s.frames.top ≡ f = sym (e ∙ ap (λ (x : OneThread). x.frames.top) view) in
-    subst (λ f. slice_get (bundle_blocks bundle) f.block ≡ Some b → i ≡ slice_index_or xs f.at i → AsksAt bundle s f b i) at (λ there is. asks_there bundle s b xs i left room h there listed is) there is
+asks_at bundle s v f b xs i view e waits h there listed is =
+    let at : s.frames.top ≡ f = sym (e ∙ ap (λ (x : Held). x.frames.top) view) in
+    subst (λ f. slice_get (bundle_blocks bundle) f.block ≡ Some b → i ≡ slice_index_or xs f.at i → AsksAt bundle s f b i) at (λ there is. asks_there bundle s b xs i waits h there listed is) there is
 
-pub asks_built : (bundle : List Item) (s : OneThread) (f : Activation) (b : BlockCode) (i j : Code) → IsBuilt bundle → slice_get (bundle_blocks bundle) f.block ≡ Some b → AsksAt bundle s f b i → i ≡ j → form_is_built j.form ≡ true
-asks_built bundle s f b i j built there at same = subst (λ (i : Code). form_is_built i.form ≡ true) same (built_at bundle f.block f.at b i built there at.there)
-
-pub asks_classes : (bundle : List Item) (s : OneThread) (f : Activation) (b : BlockCode) (i j : Code) → FormsAreThere → first_unmet (name_demands bundle) ≡ None → first_unmet (check_demands bundle) ≡ None
+pub asks_classes : (bundle : List Item) (s : Held) (f : Activation) (b : BlockCode) (i j : Code) → FormsAreThere → first_unmet (name_demands bundle) ≡ None → first_unmet (check_demands bundle) ≡ None
     → slice_get (bundle_blocks bundle) f.block ≡ Some b → AsksAt bundle s f b i → i ≡ j → FormIsThere (bundle_tables bundle).types.definitions j.form
 asks_classes bundle s f b i j forms are met there at same = subst (λ (i : Code). FormIsThere (bundle_tables bundle).types.definitions i.form) same (forms bundle are met f.block f.at b i there at.there)
 
-pub asks_same : (bundle : List Item) (s : OneThread) (f : Activation) (b : BlockCode) (i j : Code) (cs : List ℕ) (vs : List Value) → AsksAt bundle s f b i → i ≡ j → cs ≡ b.classes → vs ≡ f.vars → IsSome (act_at bundle cs vs j.form)
+pub asks_same : (bundle : List Item) (s : Held) (f : Activation) (b : BlockCode) (i j : Code) (cs : List ℕ) (vs : List Value) → AsksAt bundle s f b i → i ≡ j → cs ≡ b.classes → vs ≡ f.vars → IsSome (act_at bundle cs vs j.form)
 asks_same bundle s f b i j cs vs at same classes vars = subst (λ (j : Code). IsSome (act_at bundle cs vs j.form)) same (subst (λ cs. IsSome (act_at bundle cs vs i.form)) (sym classes) (subst (λ vs. IsSome (act_at bundle b.classes vs i.form)) (sym vars) at.asks))
 
-pub asked_so : {A E : Type 0} (bundle : List Item) (s : OneThread) (f : Activation) (b : BlockCode) (i j : Code) (cs : List ℕ) (vs : List Value) (r : Result A E) (act : A → Act) → AsksAt bundle s f b i → i ≡ j → cs ≡ b.classes → vs ≡ f.vars
+pub asked_so : {A E : Type 0} (bundle : List Item) (s : Held) (f : Activation) (b : BlockCode) (i j : Code) (cs : List ℕ) (vs : List Value) (r : Result A E) (act : A → Act) → AsksAt bundle s f b i → i ≡ j → cs ≡ b.classes → vs ≡ f.vars
     → IfOk r (λ a. act_at bundle cs vs j.form ≡ Some (act a)) → IfOk r (λ a. stepping bundle s ≡ acting bundle s (act a))
 asked_so bundle s f b i j cs vs (Ok a) act at same classes vars h =
     at.acts (act a) (ap (λ cs. act_at bundle cs f.vars i.form) (sym classes) ∙ ap (λ vs. act_at bundle cs vs i.form) (sym vars) ∙ ap (λ (i : Code). act_at bundle cs vs i.form) same ∙ h)
 asked_so bundle s f b i j cs vs (Err e) act at same classes vars h = tt
 
--- what a form that is built asks is built too
-pub built_so : {E : Type 0} (r : Result made.Act E) (form : Form) → IfOk r (λ act. form_is_built form ≡ true → act_is_built act ≡ true) → form_is_built form ≡ true → IfOk r (λ act. act_is_built act ≡ true)
-built_so (Ok act) form h built = h built
-built_so (Err e) form h built = tt
-
 -- ---- faults
 
-pub fault_within : (bundle : List Item) (s v : OneThread) (k : Ending) (f : Activation) (i : Code) (t : Target) (vs out : List Value) → v ≡ s → f ≡ v.frames.top → faulting bundle s k ≢ Stuck → code_at bundle f.block f.at ≡ Some i
+pub fault_within : (bundle : List Item) (s v : Held) (k : Ending) (f : Activation) (i : Code) (t : Target) (vs out : List Value) → v ≡ s → f ≡ v.frames.top → faulting bundle s k ≢ Stuck → code_at bundle f.block f.at ≡ Some i
     → i.exceptional ≡ Some t → vs ≡ f.vars → goal_at bundle vs t ≡ Some (record { block = t.block; values = out }) → t.block < length (bundle_blocks bundle)
 fault_within bundle s v k f i t vs out view e h code way vars goal =
     let g : Goal = record { block = t.block; values = out } in
-    let at : s.frames.top ≡ f = sym (e ∙ ap (λ (x : OneThread). x.frames.top) view) in
+    let at : s.frames.top ≡ f = sym (e ∙ ap (λ (x : Held). x.frames.top) view) in
     let aim : goal_at bundle f.vars t ≡ Some g = ap (λ vs. goal_at bundle vs t) (sym vars) ∙ goal in
     subst (λ f. code_at bundle f.block f.at ≡ Some i → goal_at bundle f.vars t ≡ Some g → t.block < length (bundle_blocks bundle)) at
     (λ code aim. gets_there bundle s.frames.top g Null (fault_gets bundle s k i t g h code way aim)) code aim
 
-pub fault_so : (bundle : List Item) (s v : OneThread) (k : Ending) (f : Activation) (i : Code) (t : Target) (vs out left : List Value) (o : Outcome) → v ≡ s → f ≡ v.frames.top → faulting bundle s k ≢ Stuck → code_at bundle f.block f.at ≡ Some i
+pub fault_so : (bundle : List Item) (s v : Held) (k : Ending) (f : Activation) (i : Code) (t : Target) (vs out left : List Value) (o : Outcome) → v ≡ s → f ≡ v.frames.top → faulting bundle s k ≢ Stuck → code_at bundle f.block f.at ≡ Some i
     → i.exceptional ≡ Some t → vs ≡ f.vars → goal_at bundle vs t ≡ Some (record { block = t.block; values = out })
     → ((x : Activation) → gets bundle x (record { block = t.block; values = out }) Null ≡ Some (stands x t.block 0 left))
     → o ≡ went_on (record s { frames = record s.frames { top = stands s.frames.top t.block 0 left } }) → o ≡ faulting bundle s k
 fault_so bundle s v k f i t vs out left o view e h code way vars goal got is =
     let g : Goal = record { block = t.block; values = out } in
-    let at : s.frames.top ≡ f = sym (e ∙ ap (λ (x : OneThread). x.frames.top) view) in
+    let at : s.frames.top ≡ f = sym (e ∙ ap (λ (x : Held). x.frames.top) view) in
     let aim : goal_at bundle f.vars t ≡ Some g = ap (λ vs. goal_at bundle vs t) (sym vars) ∙ goal in
     subst (λ f. code_at bundle f.block f.at ≡ Some i → goal_at bundle f.vars t ≡ Some g → o ≡ faulting bundle s k) at
     (λ code aim. is ∙ sym (fault_goes bundle s k i t g (stands s.frames.top t.block 0 left) h code way aim (got s.frames.top))) code aim
 
 -- ---- returns
 
-pub returns_there : (bundle : List Item) (s v : OneThread) (vs : TypedValues) (f : Activation) → v ≡ s → acting bundle s (Returns vs) ≢ Stuck → slice_get (frames_of v.frames) 1 ≡ Some f → IsSome (goes_on bundle f vs.values)
-returns_there bundle s v vs f view h e = return_there bundle s vs f h (ap (λ (x : OneThread). slice_get (frames_of x.frames) 1) (sym view) ∙ e)
+pub returns_there : (bundle : List Item) (s v : Held) (vs : TypedValues) (f : Activation) → v ≡ s → acting bundle s (Returns vs) ≢ Stuck → slice_get (frames_of v.frames) 1 ≡ Some f → IsSome (goes_on bundle f vs.values)
+returns_there bundle s v vs f view h e = return_there bundle s vs f h (ap (λ (x : Held). slice_get (frames_of x.frames) 1) (sym view) ∙ e)
 
-pub returned_so : (bundle : List Item) (s v : OneThread) (vs : TypedValues) (out : List Value) (f : Activation) (block at : ℕ) (left fr : Chain) (os : List HeapObject) (cs : ℕ) (ns : List ℕ) (o : Outcome)
+pub returned_so : (bundle : List Item) (s v : Held) (vs : TypedValues) (out : List Value) (f : Activation) (block at : ℕ) (left fr : Chain) (os : List HeapObject) (cs : ℕ) (ns : List ℕ) (o : Outcome)
     → v ≡ s → acting bundle s (Returns vs) ≢ Stuck → slice_get (frames_of v.frames) 1 ≡ Some f → goes_on bundle f vs.values ≡ Some (stands f block at out) → frames_of left ≡ v.frames.below
     → os ≡ objects_end v.objects ns → ns ≡ v.frames.top.objects → cs ≡ v.cells → fr ≡ record left { top = stands left.top block at out } → o ≡ went_on (record v { frames = fr; objects = os; cells = cs }) → o ≡ acting bundle s (Returns vs)
 returned_so bundle s v vs out f block at left fr os cs ns o view h second way rest ended names cells same is =
@@ -183,9 +176,16 @@ returned_so bundle s v vs out f block at left fr os cs ns o view h second way re
     ∙ sym (return_is bundle v vs left (stands left.top block at out) k rest on) in
     subst (λ s. acting bundle s (Returns vs) ≢ Stuck → o ≡ acting bundle s (Returns vs)) view main h
 
+-- the bottom frame returns
+pub returned_last : (bundle : List Item) (s v w u : Held) (vs ws : TypedValues) (ls : List Line) → v ≡ s → w ≡ u → u ≡ thread_ended s u.frames → ls ≡ lines.Note (Returned v.thread ws) ∷ [] → ws ≡ vs
+    → acting bundle s (Returns vs) ≢ Stuck → s.frames.below ≡ [] → answers (Went ls) (record w { steps = w.steps + 1 }) ≡ acting bundle s (Returns vs)
+returned_last bundle s v w u vs ws ls view after is told values h bottom =
+    return_finishes bundle s (record w { steps = w.steps + 1 }) vs u.frames ls h bottom (ap (λ (w : Held). record w { steps = w.steps + 1 }) (after ∙ is))
+    (told ∙ ap (λ (s : Held). lines.Note (Returned s.thread ws) ∷ []) view ∙ ap (λ vs. lines.Note (Returned s.thread vs) ∷ []) values)
+
 -- ---- exceptions
 
-pub caught_so : (bundle : List Item) (s v : OneThread) (e : Scalar) (n : ℕ) (f : Frame) (block : ℕ) (out taken : List Value) (left : Chain) (os : List HeapObject) (cs : ℕ) (o : Outcome)
+pub caught_so : (bundle : List Item) (s v : Held) (e : Scalar) (n : ℕ) (f : Frame) (block : ℕ) (out taken : List Value) (left : Chain) (os : List HeapObject) (cs : ℕ) (o : Outcome)
     → v ≡ s → acting bundle s (Throws e) ≢ Stuck → first_handler (frames_of s.frames) ≡ Some n → slice_get (frames_of v.frames) n ≡ Some (frame_of f)
     → IsSomeAnd f.handler (λ h. goal_of h ≡ record { block = block; values = out }) → ((x : Activation) → gets bundle x (record { block = block; values = out }) e ≡ Some (stands x block 0 taken))
     → frames_of left ≡ drop n (frames_of v.frames) → os ≡ objects_end v.objects (flat_map (λ (f : Activation). f.objects) (take n (frames_of v.frames))) → cs ≡ v.cells

@@ -18,32 +18,32 @@ use Rattle.mu_model.specs.Acts.{Access, Faults}
 use Rattle.mu_model.specs.Accesses.{wanted, race_of, picking_option}
 use Rattle.mu_model.specs.Outcomes.{Outcome, End, on, case_of_fault}
 use Rattle.model_numbers.specs.Numbered.{numbered}
-use Rattle.mu_step.specs.OneThread.{OneThread}
+use Rattle.mu_step.specs.Held.{Held}
 use Rattle.mu_step.specs.Acting.{begun, turn, doing_of, went_with, acting}
 use Rattle.mu_step.specs.Remembering.{initials}
 
 -- the options of an access of a cell
-abbrev pub options_of : OneThread → Access → CellId → List Chosen
-options_of s a cell = choices s.rule (initial_of (initials s.objects)) s.log 0 cell (wanted a)
+abbrev pub options_of : Held → Access → CellId → List Chosen
+options_of s a cell = choices s.rule (initial_of (initials s.objects)) s.log s.thread cell (wanted a)
 
 -- one of them is picked
-unfoldable pub picking : List Item → OneThread → Access → CellId → Outcome
+unfoldable pub picking : List Item → Held → Access → CellId → Outcome
 picking bundle s a cell = on (doing_of (numbered bundle) s) (λ d. picking_option (numbered bundle) (begun s) (turn s d) a cell (options_of s a cell))
 
 -- a cell that is there is accessed; another one is an undefined case
-abbrev pub accesses_found : List Item → OneThread → Access → Result CellId PlaceFault → Outcome
+abbrev pub accesses_found : List Item → Held → Access → Result CellId PlaceFault → Outcome
 accesses_found bundle s a (Ok cell) = picking bundle s a cell
 accesses_found bundle s a (Err f) = acting bundle s (Faults (case_of_fault f))
 
 -- ---- an event
 
-abbrev pub race_at : OneThread → Event → ℕ → Ending
-race_at s e n = Undefined DataRace 0 s.frames.top.block s.frames.top.at (Some (race_of e n))
+abbrev pub race_at : Held → Event → ℕ → Ending
+race_at s e n = Undefined DataRace s.thread s.frames.top.block s.frames.top.at (Some (race_of e n))
 
 -- it is the ending where it races; else it is logged, and the thread goes on with these picks and frames
-abbrev pub logs_unless : OneThread → Event → List ℕ → Chain → Option ℕ → Outcome
+abbrev pub logs_unless : Held → Event → List ℕ → Chain → Option ℕ → Outcome
 logs_unless s e picks frames (Some n) = End [] (race_at s e n)
-logs_unless s e picks frames None = went_with (record s { frames = frames; log = e ∷ s.log; picks = picks }) (lines.Event (length s.log) e ∷ [])
+logs_unless s e picks frames None = went_with (record s { frames = frames; log = e ∷ s.log; picks = picks; skip = 0 }) (lines.Event (length s.log) e ∷ [])
 
-unfoldable pub logs : OneThread → Event → List ℕ → Chain → Outcome
+unfoldable pub logs : Held → Event → List ℕ → Chain → Outcome
 logs s e picks frames = logs_unless s e picks frames (race s.rule s.log e)

@@ -19,60 +19,63 @@ use Rattle.frames.specs.Chains.{Chain, frames_of, stands}
 use Rattle.frames.specs.Handlers.{first_handler}
 use Rattle.mu_model.specs.declared.lines.Line.{Line}
 use Rattle.mu_model.specs.declared.lines.Line.TheVariants as lines
-use Rattle.mu_model.specs.declared.lines.Note.TheVariants.{Returned}
+use Rattle.mu_model.specs.declared.lines.Note.{Note}
+use Rattle.mu_model.specs.declared.lines.Note.TheVariants.{Returned, Exited}
 use Rattle.mu_model.specs.declared.endings.StepEnd.TheVariants.{Went}
 use Rattle.mu_model.specs.declared.endings.Case.{Case}
 use Rattle.mu_model.specs.declared.endings.Ending.{Ending}
 use Rattle.mu_model.specs.declared.endings.Case.TheVariants as cases
 use Rattle.mu_model.specs.Types.{classes_given}
-use Rattle.mu_model.specs.Configuration.{Configuration}
-use Rattle.mu_model.specs.Acts.{Gives, Faults, Goes, Calls, Replaces, Returns, Throws, Doing, Program}
+use Rattle.mu_model.specs.Configuration.{Active, Configuration}
+use Rattle.mu_model.specs.Acts.{Gives, Faults, Goes, Calls, Replaces, Returns, Throws, Exits, Doing, Program}
 use Rattle.mu_model.specs.Turns.{Turn, waiting}
 use Rattle.mu_model.specs.Frames.{called, passed, onward, arrived, caught, with_exception}
 use Rattle.mu_model.specs.Changes.{changed, frames_end}
-use Rattle.mu_model.specs.Outcomes.{Outcome, End, Stuck, on, next, onto, excepted, faulted, refused, unless_refused, tried}
-use Rattle.mu_model.specs.Exceptions.{EnteredFrames, body_or_case, returns, unwinding}
+use Rattle.mu_model.specs.Outcomes.{Outcome, Next, End, Stuck, on, next, onto, excepted, faulted, refused, unless_refused, tried}
+use Rattle.mu_model.specs.Exceptions.{EnteredFrames, body_or_case, finishes, returns, unwinding}
 use Rattle.mu_model.specs.Step.{performed}
 use Rattle.mu_model.specs.Programs.{some_goal}
 use Rattle.model_numbers.specs.Sources.{goal_at}
 use Rattle.model_numbers.specs.Numbered.{does_at, kept_at, optional_goal_at, numbered}
 use Rattle.mu_step.specs.Outcome.{outcome_of}
-use Rattle.mu_step.specs.OneThread.{OneThread, configuration}
-use Rattle.mu_step.specs.Acting.{begun, turn, doing_of, answers, went_on, acting, faulting, is_fault, undefined_at, goes_on, gets, entered, Awaited, with_awaited, awaited_by, awaited, entered_above, objects_end}
-use Rattle.mu_step.specs.StepLaws.{on_there, on_is, some_there, some_of, with_there, with_is, get_below, doing_at, doing_is, code_is, code_there, acting_there, acting_is}
+use Rattle.mu_step.specs.Held.{Held, configuration}
+use Rattle.mu_step.specs.Acting.{begun, turn, doing_of, answers, went_on, acting, faulting, is_fault, undefined_at, goes_on, gets, entered, Awaited, with_awaited, awaited_by, awaits, awaited, entered_above, objects_end, thread_ended}
+use Rattle.mu_step.specs.StepLaws.{set_again, on_there, on_is, some_there, some_of, with_there, with_is, get_below, doing_at, doing_is, code_is, code_there, acting_there, acting_is}
 use Rattle.mu_step.specs.Unwinding.{Catches, catches_first, uncaught}
 
 -- ---- the frames that the thread goes on with
 
-next_there : (c : Configuration) (u : Turn) (o : Option (List Activation)) → next c u o ≢ Stuck → (fs : List Activation) × (o ≡ Some fs)
+pub next_there : (c : Configuration) (u : Turn) (o : Option (List Activation)) → next c u o ≢ Stuck → (fs : List Activation) × (o ≡ Some fs)
 next_there c u o h = let r = on_there o _ h in (r.0, r.1)
 
 -- its objects are these
-abbrev with_objects : OneThread → List HeapObject → OneThread
+abbrev with_objects : Held → List HeapObject → Held
 with_objects s os = record s { objects = os }
 
-next_is : (s : OneThread) (d : Doing) (t : Activation) (bs : List Activation) (os : List HeapObject) (o : Option (List Activation)) → o ≡ Some (t ∷ bs)
+pub next_is : (s : Held) (d : Doing) (t : Activation) (bs : List Activation) (os : List HeapObject) (o : Option (List Activation)) → o ≡ Some (t ∷ bs)
     → next (begun (with_objects s os)) (turn s d) o ≡ went_on (record s { frames = record { top = t; below = bs }; objects = os })
 unfolding on went_on
-next_is s d t bs os o e = ap (λ o. next (begun (with_objects s os)) (turn s d) o) e
+next_is s d t bs os o e =
+    ap (λ o. next (begun (with_objects s os)) (turn s d) o) e
+    ∙ ap (λ stacks. Next (record (begun (with_objects s os)) { stacks = stacks })) (set_again s.seats.stacks s.stack (Active s.thread (frames_of s.frames)) (Active s.thread (t ∷ bs)))
 
-onto_is : (u : Turn) (o : Option Activation) (t : Activation) → o ≡ Some t → with_some o (onto u) ≡ Some (t ∷ u.below)
+pub onto_is : (u : Turn) (o : Option Activation) (t : Activation) → o ≡ Some t → with_some o (onto u) ≡ Some (t ∷ u.below)
 onto_is u o t e = ap (λ x. with_some x (onto u)) e
 
-onto_there : (u : Turn) (o : Option Activation) (fs : List Activation) → with_some o (onto u) ≡ Some fs → IsSome o
+pub onto_there : (u : Turn) (o : Option Activation) (fs : List Activation) → with_some o (onto u) ≡ Some fs → IsSome o
 onto_there u None fs h = cc
 onto_there u (Some t) fs h = refl
 
 -- ---- results
 
-pub given_there : (bundle : List Item) (s : OneThread) (vs : List Value) → acting bundle s (Gives vs) ≢ Stuck → IsSome (goes_on bundle s.frames.top vs)
+pub given_there : (bundle : List Item) (s : Held) (vs : List Value) → acting bundle s (Gives vs) ≢ Stuck → IsSome (goes_on bundle s.frames.top vs)
 unfolding goes_on
 given_there bundle s vs h =
     let r = acting_there bundle s (Gives vs) h in
     let n = next_there (begun s) (turn s r.0) (with_some (passed (numbered bundle) s.frames.top vs) (onto (turn s r.0))) r.2 in
     onto_there (turn s r.0) (passed (numbered bundle) s.frames.top vs) n.0 n.1
 
-pub given_is : (bundle : List Item) (s : OneThread) (vs : List Value) (f : Activation) → acting bundle s (Gives vs) ≢ Stuck → goes_on bundle s.frames.top vs ≡ Some f
+pub given_is : (bundle : List Item) (s : Held) (vs : List Value) (f : Activation) → acting bundle s (Gives vs) ≢ Stuck → goes_on bundle s.frames.top vs ≡ Some f
     → acting bundle s (Gives vs) ≡ went_on (record s { frames = record s.frames { top = f } })
 unfolding goes_on
 given_is bundle s vs f h e =
@@ -138,10 +141,10 @@ goes_on_arrives bundle f vs i t g e code way h =
     let go : Option Goal → Option Activation = λ g. Some (onward f (f.vars ++ vs) g) in
     goes_on_behind bundle f vs e ∙ ap (λ o. with_some o go) (going_by bundle f (f.vars ++ vs) i code ∙ optional_is bundle (f.vars ++ vs) i.normal t g way h)
 
-pub given_code : (bundle : List Item) (s : OneThread) (vs : List Value) → acting bundle s (Gives vs) ≢ Stuck → s.frames.top.fresh ≡ false → IsSome (code_at bundle s.frames.top.block s.frames.top.at)
+pub given_code : (bundle : List Item) (s : Held) (vs : List Value) → acting bundle s (Gives vs) ≢ Stuck → s.frames.top.fresh ≡ false → IsSome (code_at bundle s.frames.top.block s.frames.top.at)
 given_code bundle s vs h e = goes_on_there bundle s.frames.top vs e (given_there bundle s vs h)
 
-pub given_next : (bundle : List Item) (s : OneThread) (vs : List Value) (i : Code) → acting bundle s (Gives vs) ≢ Stuck → s.frames.top.fresh ≡ false → code_at bundle s.frames.top.block s.frames.top.at ≡ Some i → i.normal ≡ None
+pub given_next : (bundle : List Item) (s : Held) (vs : List Value) (i : Code) → acting bundle s (Gives vs) ≢ Stuck → s.frames.top.fresh ≡ false → code_at bundle s.frames.top.block s.frames.top.at ≡ Some i → i.normal ≡ None
     → acting bundle s (Gives vs) ≡ went_on (record s { frames = record s.frames { top = stands s.frames.top s.frames.top.block (s.frames.top.at + 1) (s.frames.top.vars ++ vs) } })
 given_next bundle s vs i h e code plain = given_is bundle s vs (stands s.frames.top s.frames.top.block (s.frames.top.at + 1) (s.frames.top.vars ++ vs)) h (goes_on_next bundle s.frames.top vs i (s.frames.top.at + 1) e code plain refl)
 
@@ -153,7 +156,7 @@ pub ruleset going = (goes_on_fresh, goes_on_there, goes_on_next, goes_on_goal, g
 
 -- ---- another block
 
-pub goes_is : (bundle : List Item) (s : OneThread) (block : ℕ) (vs : List Value) → acting bundle s (Goes (record { block = block; values = vs })) ≢ Stuck
+pub goes_is : (bundle : List Item) (s : Held) (block : ℕ) (vs : List Value) → acting bundle s (Goes (record { block = block; values = vs })) ≢ Stuck
     → acting bundle s (Goes (record { block = block; values = vs })) ≡ went_on (record s { frames = record s.frames { top = stands s.frames.top block 0 vs } })
 goes_is bundle s block vs h =
     let g : Goal = record { block = block; values = vs } in
@@ -162,7 +165,7 @@ goes_is bundle s block vs h =
 
 -- ---- undefined cases and faults
 
-pub fault_is : (bundle : List Item) (s : OneThread) (k : Case) → is_fault k ≡ true → acting bundle s (Faults k) ≡ faulting bundle s (undefined_at s k)
+pub fault_is : (bundle : List Item) (s : Held) (k : Case) → is_fault k ≡ true → acting bundle s (Faults k) ≡ faulting bundle s (undefined_at s k)
 unfolding acting faulting
 fault_is bundle s cases.DivideByZero h = refl
 fault_is bundle s cases.NullAccess h = refl
@@ -177,7 +180,7 @@ fault_is bundle s cases.NullCall h = cc
 fault_is bundle s cases.NoBody h = cc
 fault_is bundle s cases.ClientMisuse h = cc
 
-refused_plainly : (p : Program) (s : OneThread) (d : Doing) (k : Case) → is_fault k ≡ false → refused p (begun s) (turn s d) k ≡ End [] (undefined_at s k)
+pub refused_plainly : (p : Program) (s : Held) (d : Doing) (k : Case) → is_fault k ≡ false → refused p (begun s) (turn s d) k ≡ End [] (undefined_at s k)
 refused_plainly p s d cases.DivideByZero h = cc
 refused_plainly p s d cases.NullAccess h = cc
 refused_plainly p s d cases.OutOfRange h = refl
@@ -191,26 +194,26 @@ refused_plainly p s d cases.NullCall h = refl
 refused_plainly p s d cases.NoBody h = refl
 refused_plainly p s d cases.ClientMisuse h = refl
 
-pub refused_is : (bundle : List Item) (s : OneThread) (k : Case) → is_fault k ≡ false → acting bundle s (Faults k) ≢ Stuck → acting bundle s (Faults k) ≡ End [] (undefined_at s k)
+pub refused_is : (bundle : List Item) (s : Held) (k : Case) → is_fault k ≡ false → acting bundle s (Faults k) ≢ Stuck → acting bundle s (Faults k) ≡ End [] (undefined_at s k)
 refused_is bundle s k plain h =
     let r = acting_there bundle s (Faults k) h in
     acting_is bundle s (Faults k) r.0 r.1 ∙ refused_plainly (numbered bundle) s r.0 k plain
 
 -- its exceptional destination
-abbrev fault_with : List Item → OneThread → Ending → Option Goal → Outcome
+abbrev fault_with : List Item → Held → Ending → Option Goal → Outcome
 fault_with bundle s k o = excepted (numbered bundle) (begun s) (turn s (record { act = None; exceptional = None; kept = None })) k o
 
-with_any : (bundle : List Item) (s : OneThread) (k : Ending) (d : Doing) (o : Option Goal) → excepted (numbered bundle) (begun s) (turn s d) k o ≡ fault_with bundle s k o
+with_any : (bundle : List Item) (s : Held) (k : Ending) (d : Doing) (o : Option Goal) → excepted (numbered bundle) (begun s) (turn s d) k o ≡ fault_with bundle s k o
 with_any bundle s k d None = refl
 with_any bundle s k d (Some g) = refl
 
-record FaultAt (bundle : List Item) (s : OneThread) (k : Ending) (i : Code) : Type 0 where
+record FaultAt (bundle : List Item) (s : Held) (k : Ending) (i : Code) : Type 0 where
   pub goal : Option Goal
   pub exceptional : optional_goal_at bundle s.frames.top.vars i.exceptional ≡ Some goal
   pub going : fault_with bundle s k goal ≢ Stuck
   pub is : faulting bundle s k ≡ fault_with bundle s k goal
 
-fault_by : (bundle : List Item) (s : OneThread) (k : Ending) → faulting bundle s k ≢ Stuck
+fault_by : (bundle : List Item) (s : Held) (k : Ending) → faulting bundle s k ≢ Stuck
     → (b : BlockCode) × (slice_get (bundle_blocks bundle) s.frames.top.block ≡ Some b) × (i : Code) × (slice_get b.code s.frames.top.at ≡ Some i) × FaultAt bundle s k i
 unfolding faulting
 fault_by bundle s k h =
@@ -231,38 +234,38 @@ fault_by bundle s k h =
       },
     )
 
-pub fault_there : (bundle : List Item) (s : OneThread) (k : Ending) → faulting bundle s k ≢ Stuck → IsSome (code_at bundle s.frames.top.block s.frames.top.at)
+pub fault_there : (bundle : List Item) (s : Held) (k : Ending) → faulting bundle s k ≢ Stuck → IsSome (code_at bundle s.frames.top.block s.frames.top.at)
 fault_there bundle s k h =
     let r = fault_by bundle s k h in
     some_there (code_at bundle s.frames.top.block s.frames.top.at) r.2 (code_is bundle s.frames.top.block s.frames.top.at r.0 r.2 r.1 r.3)
 
-fault_at : (bundle : List Item) (s : OneThread) (k : Ending) (i : Code) → faulting bundle s k ≢ Stuck → code_at bundle s.frames.top.block s.frames.top.at ≡ Some i → FaultAt bundle s k i
+fault_at : (bundle : List Item) (s : Held) (k : Ending) (i : Code) → faulting bundle s k ≢ Stuck → code_at bundle s.frames.top.block s.frames.top.at ≡ Some i → FaultAt bundle s k i
 fault_at bundle s k i h e =
     let r = fault_by bundle s k h in
     let there = code_is bundle s.frames.top.block s.frames.top.at r.0 r.2 r.1 r.3 in
     let same : r.2 ≡ i = cc in
     subst (FaultAt bundle s k) same r.4
 
-pub fault_ends : (bundle : List Item) (s : OneThread) (k : Ending) (i : Code) → faulting bundle s k ≢ Stuck → code_at bundle s.frames.top.block s.frames.top.at ≡ Some i → i.exceptional ≡ None
+pub fault_ends : (bundle : List Item) (s : Held) (k : Ending) (i : Code) → faulting bundle s k ≢ Stuck → code_at bundle s.frames.top.block s.frames.top.at ≡ Some i → i.exceptional ≡ None
     → faulting bundle s k ≡ End [] k
 fault_ends bundle s k i h e none =
     let r = fault_at bundle s k i h e in
     let same : r.goal ≡ None = let there = ap (optional_goal_at bundle s.frames.top.vars) none in let found = r.exceptional in cc in
     r.is ∙ ap (fault_with bundle s k) same
 
-pub fault_goal : (bundle : List Item) (s : OneThread) (k : Ending) (i : Code) (t : Target) → faulting bundle s k ≢ Stuck → code_at bundle s.frames.top.block s.frames.top.at ≡ Some i → i.exceptional ≡ Some t
+pub fault_goal : (bundle : List Item) (s : Held) (k : Ending) (i : Code) (t : Target) → faulting bundle s k ≢ Stuck → code_at bundle s.frames.top.block s.frames.top.at ≡ Some i → i.exceptional ≡ Some t
     → IsSome (goal_at bundle s.frames.top.vars t)
 fault_goal bundle s k i t h e way =
     let r = fault_at bundle s k i h e in
     goal_of_some bundle s.frames.top.vars i.exceptional t r.goal way r.exceptional
 
-fault_goal_is : (bundle : List Item) (s : OneThread) (k : Ending) (i : Code) (t : Target) (g : Goal) → (r : FaultAt bundle s k i) → i.exceptional ≡ Some t → goal_at bundle s.frames.top.vars t ≡ Some g → r.goal ≡ Some g
+fault_goal_is : (bundle : List Item) (s : Held) (k : Ending) (i : Code) (t : Target) (g : Goal) → (r : FaultAt bundle s k i) → i.exceptional ≡ Some t → goal_at bundle s.frames.top.vars t ≡ Some g → r.goal ≡ Some g
 fault_goal_is bundle s k i t g r way e =
     let is = optional_is bundle s.frames.top.vars i.exceptional t g way e in
     let found = r.exceptional in
     cc
 
-pub fault_gets : (bundle : List Item) (s : OneThread) (k : Ending) (i : Code) (t : Target) (g : Goal) → faulting bundle s k ≢ Stuck → code_at bundle s.frames.top.block s.frames.top.at ≡ Some i → i.exceptional ≡ Some t
+pub fault_gets : (bundle : List Item) (s : Held) (k : Ending) (i : Code) (t : Target) (g : Goal) → faulting bundle s k ≢ Stuck → code_at bundle s.frames.top.block s.frames.top.at ≡ Some i → i.exceptional ≡ Some t
     → goal_at bundle s.frames.top.vars t ≡ Some g → IsSome (gets bundle s.frames.top g Null)
 unfolding gets
 fault_gets bundle s k i t g h e way there =
@@ -273,7 +276,7 @@ fault_gets bundle s k i t g h e way there =
     let n = next_there (begun s) u (with_some (caught (numbered bundle) s.frames.top g Null) (onto u)) going in
     onto_there u (caught (numbered bundle) s.frames.top g Null) n.0 n.1
 
-pub fault_goes : (bundle : List Item) (s : OneThread) (k : Ending) (i : Code) (t : Target) (g : Goal) (f : Activation) → faulting bundle s k ≢ Stuck → code_at bundle s.frames.top.block s.frames.top.at ≡ Some i → i.exceptional ≡ Some t
+pub fault_goes : (bundle : List Item) (s : Held) (k : Ending) (i : Code) (t : Target) (g : Goal) (f : Activation) → faulting bundle s k ≢ Stuck → code_at bundle s.frames.top.block s.frames.top.at ≡ Some i → i.exceptional ≡ Some t
     → goal_at bundle s.frames.top.vars t ≡ Some g → gets bundle s.frames.top g Null ≡ Some f → faulting bundle s k ≡ went_on (record s { frames = record s.frames { top = f } })
 unfolding gets
 fault_goes bundle s k i t g f h e way there caught_so =
@@ -315,18 +318,18 @@ pub ruleset faults = (fault_there, fault_ends, fault_goal, fault_gets, fault_goe
 
 -- ---- what is tried
 
-tried_there : (p : Program) (s : OneThread) (d : Doing) (A : Type 0) (o : Option (Result A Case)) (go : A → Outcome) → tried p (begun s) (turn s d) o go ≢ Stuck → (r : Result A Case) × (o ≡ Some r)
+pub tried_there : (p : Program) (s : Held) (d : Doing) (A : Type 0) (o : Option (Result A Case)) (go : A → Outcome) → tried p (begun s) (turn s d) o go ≢ Stuck → (r : Result A Case) × (o ≡ Some r)
 unfolding tried
 tried_there p s d A o go h = let r = on_there o (unless_refused p (begun s) (turn s d) go) h in (r.0, r.1)
 
-tried_is : (p : Program) (s : OneThread) (d : Doing) (A : Type 0) (o : Option (Result A Case)) (r : Result A Case) (go : A → Outcome) → o ≡ Some r
+pub tried_is : (p : Program) (s : Held) (d : Doing) (A : Type 0) (o : Option (Result A Case)) (r : Result A Case) (go : A → Outcome) → o ≡ Some r
     → tried p (begun s) (turn s d) o go ≡ unless_refused p (begun s) (turn s d) go r
 unfolding tried
 tried_is p s d A o r go e = on_is o r (unless_refused p (begun s) (turn s d) go) e
 
 -- ---- functions
 
-abbrev body : List Item → ℕ → Option (Result ℕ Case)
+abbrev pub body : List Item → ℕ → Option (Result ℕ Case)
 body bundle f = body_or_case ((numbered bundle).body f)
 
 body_by : (o : Option Function) (r : Result ℕ Case) → body_or_case (with_some o (λ f. Some f.first)) ≡ Some r → (f : Function) × (o ≡ Some f)
@@ -336,28 +339,28 @@ body_by (Some f) r h = (f, refl)
 body_is : (bundle : List Item) (f : ℕ) (function : Function) → slice_get (bundle_functions bundle) f ≡ Some function → body bundle f ≡ Some (ok_or function.first cases.NoBody)
 body_is bundle f function e = ap body_or_case (with_is (slice_get (bundle_functions bundle) f) function (λ (f : Function). Some f.first) e)
 
-body_there : (bundle : List Item) (f : ℕ) (r : Result ℕ Case) → body bundle f ≡ Some r → f < length (bundle_functions bundle)
+pub body_there : (bundle : List Item) (f : ℕ) (r : Result ℕ Case) → body bundle f ≡ Some r → f < length (bundle_functions bundle)
 body_there bundle f r h = let q = body_by (slice_get (bundle_functions bundle) f) r h in get_below (bundle_functions bundle) f q.0 q.1
 
-no_body_is : (bundle : List Item) (f : ℕ) (function : Function) → slice_get (bundle_functions bundle) f ≡ Some function → function.first ≡ None → body bundle f ≡ Some (Err cases.NoBody)
+pub no_body_is : (bundle : List Item) (f : ℕ) (function : Function) → slice_get (bundle_functions bundle) f ≡ Some function → function.first ≡ None → body bundle f ≡ Some (Err cases.NoBody)
 no_body_is bundle f function e none = body_is bundle f function e ∙ ap (λ o. Some (ok_or o cases.NoBody)) none
 
-first_is : (bundle : List Item) (f block : ℕ) (function : Function) → slice_get (bundle_functions bundle) f ≡ Some function → function.first ≡ Some block → body bundle f ≡ Some (Ok block)
+pub first_is : (bundle : List Item) (f block : ℕ) (function : Function) → slice_get (bundle_functions bundle) f ≡ Some function → function.first ≡ Some block → body bundle f ≡ Some (Ok block)
 first_is bundle f block function e first = body_is bundle f function e ∙ ap (λ o. Some (ok_or o cases.NoBody)) first
 
 -- ---- calls
 
-call_go : List Item → OneThread → Doing → ℕ → List Value → ℕ → Outcome
+call_go : List Item → Held → Doing → ℕ → List Value → ℕ → Outcome
 call_go bundle s d f vs b = next (begun s) (turn s d) (with_some (waiting (turn s d) (classes_given (bundle_tables bundle) f)) (λ w. Some (called (numbered bundle) f vs b ∷ w ∷ s.frames.below)))
 
-pub call_there : (bundle : List Item) (s : OneThread) (f : ℕ) (vs : List Value) → acting bundle s (Calls f vs) ≢ Stuck → f < length (bundle_functions bundle)
+pub call_there : (bundle : List Item) (s : Held) (f : ℕ) (vs : List Value) → acting bundle s (Calls f vs) ≢ Stuck → f < length (bundle_functions bundle)
 unfolding call_go
 call_there bundle s f vs h =
     let r = acting_there bundle s (Calls f vs) h in
     let q = tried_there (numbered bundle) s r.0 ℕ (body bundle f) (call_go bundle s r.0 f vs) r.2 in
     body_there bundle f q.0 q.1
 
-pub call_without_body : (bundle : List Item) (s : OneThread) (f : ℕ) (vs : List Value) (function : Function) → acting bundle s (Calls f vs) ≢ Stuck → slice_get (bundle_functions bundle) f ≡ Some function → function.first ≡ None
+pub call_without_body : (bundle : List Item) (s : Held) (f : ℕ) (vs : List Value) (function : Function) → acting bundle s (Calls f vs) ≢ Stuck → slice_get (bundle_functions bundle) f ≡ Some function → function.first ≡ None
     → acting bundle s (Calls f vs) ≡ End [] (undefined_at s cases.NoBody)
 unfolding call_go
 call_without_body bundle s f vs function h e none =
@@ -365,7 +368,7 @@ call_without_body bundle s f vs function h e none =
     acting_is bundle s (Calls f vs) r.0 r.1 ∙ tried_is (numbered bundle) s r.0 ℕ (body bundle f) (Err cases.NoBody) (call_go bundle s r.0 f vs) (no_body_is bundle f function e none)
 
 -- what a frame waits for, and the frame that waits
-waits_by : (o : Option (Option Goal)) (ks : Option TypedValues) (f : Activation) (cs : List ℕ) (w : Awaited)
+pub waits_by : (o : Option (Option Goal)) (ks : Option TypedValues) (f : Activation) (cs : List ℕ) (w : Awaited)
     → with_some o (λ h. with_some ks (λ k. Some (record { waits = cs; handler = h; kept = k }))) ≡ Some w
     → with_some o (λ h. with_some ks (λ k. Some (record f { waits = cs; handler = h; kept = k }))) ≡ Some (with_awaited f w)
 waits_by None ks f cs w h = cc
@@ -375,16 +378,16 @@ waits_by (Some o) (Some k) f cs w h =
     let same : is ≡ w = cc in
     ap (λ w. Some (with_awaited f w)) same
 
-waits_there : (o : Option (Option Goal)) (ks : Option TypedValues) (f g : Activation) (cs : List ℕ)
+pub waits_there : (o : Option (Option Goal)) (ks : Option TypedValues) (f g : Activation) (cs : List ℕ)
     → with_some o (λ h. with_some ks (λ k. Some (record f { waits = cs; handler = h; kept = k }))) ≡ Some g
     → (w : Awaited) × (with_some o (λ h. with_some ks (λ k. Some (record { waits = cs; handler = h; kept = k }))) ≡ Some w)
 waits_there None ks f g cs h = cc
 waits_there (Some o) None f g cs h = cc
 waits_there (Some o) (Some k) f g cs h = (record { waits = cs; handler = o; kept = k }, refl)
 
-pub call_awaits : (bundle : List Item) (s : OneThread) (f block : ℕ) (vs : List Value) (function : Function) → acting bundle s (Calls f vs) ≢ Stuck → slice_get (bundle_functions bundle) f ≡ Some function → function.first ≡ Some block
+pub call_awaits : (bundle : List Item) (s : Held) (f block : ℕ) (vs : List Value) (function : Function) → acting bundle s (Calls f vs) ≢ Stuck → slice_get (bundle_functions bundle) f ≡ Some function → function.first ≡ Some block
     → IsSome (awaited bundle s.frames.top f)
-unfolding call_go awaited
+unfolding call_go awaits
 call_awaits bundle s f block vs function h e first =
     let r = acting_there bundle s (Calls f vs) h in
     let is = tried_is (numbered bundle) s r.0 ℕ (body bundle f) (Ok block) (call_go bundle s r.0 f vs) (first_is bundle f block function e first) in
@@ -393,22 +396,22 @@ call_awaits bundle s f block vs function h e first =
     let n = next_there (begun s) (turn s r.0) (with_some (waiting (turn s r.0) cs) go) (λ k. r.2 (is ∙ k)) in
     let w = with_there (waiting (turn s r.0) cs) go n.0 n.1 in
     let a = waits_there r.0.exceptional r.0.kept s.frames.top w.0 cs w.1 in
-    some_there (awaited bundle s.frames.top f) a.0 (with_is (doing_of (numbered bundle) s) r.0 (awaited_by bundle f) r.1 ∙ a.1)
+    some_there (awaited bundle s.frames.top f) a.0 (with_is (doing_of (numbered bundle) s) r.0 (awaited_by (classes_given (bundle_tables bundle) f)) r.1 ∙ a.1)
 
-pub call_is : (bundle : List Item) (s : OneThread) (f block : ℕ) (vs : List Value) (function : Function) (w : Awaited) → acting bundle s (Calls f vs) ≢ Stuck → slice_get (bundle_functions bundle) f ≡ Some function → function.first ≡ Some block
+pub call_is : (bundle : List Item) (s : Held) (f block : ℕ) (vs : List Value) (function : Function) (w : Awaited) → acting bundle s (Calls f vs) ≢ Stuck → slice_get (bundle_functions bundle) f ≡ Some function → function.first ≡ Some block
     → awaited bundle s.frames.top f ≡ Some w → acting bundle s (Calls f vs) ≡ went_on (record s { frames = entered_above s.frames (entered block vs) w })
-unfolding call_go awaited
+unfolding call_go awaits
 call_is bundle s f block vs function w h e first await =
     let r = acting_there bundle s (Calls f vs) h in
     let cs = classes_given (bundle_tables bundle) f in
     let go : Activation → Option (List Activation) = λ w. Some (called (numbered bundle) f vs block ∷ w ∷ s.frames.below) in
-    let by : awaited_by bundle f r.0 ≡ Some w = sym (with_is (doing_of (numbered bundle) s) r.0 (awaited_by bundle f) r.1) ∙ await in
+    let by : awaited_by (classes_given (bundle_tables bundle) f) r.0 ≡ Some w = sym (with_is (doing_of (numbered bundle) s) r.0 (awaited_by (classes_given (bundle_tables bundle) f)) r.1) ∙ await in
     let waits : waiting (turn s r.0) cs ≡ Some (with_awaited s.frames.top w) = waits_by r.0.exceptional r.0.kept s.frames.top cs w by in
     acting_is bundle s (Calls f vs) r.0 r.1 ∙ tried_is (numbered bundle) s r.0 ℕ (body bundle f) (Ok block) (call_go bundle s r.0 f vs) (first_is bundle f block function e first)
     ∙ next_is s r.0 (entered block vs) (with_awaited s.frames.top w ∷ s.frames.below) s.objects (with_some (waiting (turn s r.0) cs) go) (ap (λ o. with_some o go) waits)
 
 -- what the answer of a call says
-pub call_so : (bundle : List Item) (s : OneThread) (f block : ℕ) (vs : List Value) (function : Function) (o : Outcome) → acting bundle s (Calls f vs) ≢ Stuck → slice_get (bundle_functions bundle) f ≡ Some function → function.first ≡ Some block
+pub call_so : (bundle : List Item) (s : Held) (f block : ℕ) (vs : List Value) (function : Function) (o : Outcome) → acting bundle s (Calls f vs) ≢ Stuck → slice_get (bundle_functions bundle) f ≡ Some function → function.first ≡ Some block
     → IfSome (awaited bundle s.frames.top f) (λ w. o ≡ went_on (record s { frames = entered_above s.frames (entered block vs) w })) → o ≡ acting bundle s (Calls f vs)
 call_so bundle s f block vs function o h e first so =
     let w = some_of (awaited bundle s.frames.top f) (call_awaits bundle s f block vs function h e first) in
@@ -419,34 +422,43 @@ pub ruleset calling = (call_there, call_without_body, call_awaits, call_so)
 
 -- ---- what a frame waits for
 
-awaits_by : (bundle : List Item) (function : ℕ) (d : Doing) (w : Awaited) → awaited_by bundle function d ≡ Some w → IsSome d.exceptional × IsSome d.kept
-awaits_by bundle function d w h =
-    let o = with_there d.exceptional (λ h. with_some d.kept (λ ks. Some (record { waits = classes_given (bundle_tables bundle) function; handler = h; kept = ks }))) w h in
-    let k = with_there d.kept (λ ks. Some (record { waits = classes_given (bundle_tables bundle) function; handler = o.0; kept = ks })) w o.2 in
+awaits_by : (cs : List ℕ) (d : Doing) (w : Awaited) → awaited_by cs d ≡ Some w → IsSome d.exceptional × IsSome d.kept
+awaits_by cs d w h =
+    let o = with_there d.exceptional (λ h. with_some d.kept (λ ks. Some (record { waits = cs; handler = h; kept = ks }))) w h in
+    let k = with_there d.kept (λ ks. Some (record { waits = cs; handler = o.0; kept = ks })) w o.2 in
     (some_there d.exceptional o.0 o.1, some_there d.kept k.0 k.1)
 
-pub awaited_there : (bundle : List Item) (f : Activation) (function : ℕ) → IsSome (awaited bundle f function)
+pub awaited_there : (bundle : List Item) (f : Activation) (cs : List ℕ) → IsSome (awaits bundle f cs)
     → (b : BlockCode) × (slice_get (bundle_blocks bundle) f.block ≡ Some b) × (i : Code) × (slice_get b.code f.at ≡ Some i)
     × IsSome (optional_goal_at bundle f.vars i.exceptional) × IsSome (kept_at b.classes f.vars i.keepalive) × (f.block < length (bundle_blocks bundle)) × (f.at < length b.code)
-unfolding awaited
-awaited_there bundle f function h =
-    let r = some_of (awaited bundle f function) h in
-    let d = with_there ((numbered bundle).doing f.block f.at f.vars) (awaited_by bundle function) r.0 r.1 in
+unfolding awaits
+awaited_there bundle f cs h =
+    let r = some_of (awaits bundle f cs) h in
+    let d = with_there ((numbered bundle).doing f.block f.at f.vars) (awaited_by cs) r.0 r.1 in
     let q = doing_at bundle f d.0 d.1 in
-    let both = awaits_by bundle function d.0 r.0 d.2 in
+    let both = awaits_by cs d.0 r.0 d.2 in
     let exceptional : IsSome (optional_goal_at bundle f.vars q.2.exceptional) = subst (λ (d : Doing). IsSome d.exceptional) q.4 both.0 in
     let kept : IsSome (kept_at q.0.classes f.vars q.2.keepalive) = subst (λ (d : Doing). IsSome d.kept) q.4 both.1 in
     (q.0, q.1, q.2, q.3, exceptional, kept, get_below (bundle_blocks bundle) f.block q.0 q.1, get_below q.0.code f.at q.2 q.3)
 
-pub awaited_is : (bundle : List Item) (f : Activation) (function : ℕ) (b : BlockCode) (i : Code) (w : Awaited) → slice_get (bundle_blocks bundle) f.block ≡ Some b → slice_get b.code f.at ≡ Some i
-    → w.waits ≡ classes_given (bundle_tables bundle) function → optional_goal_at bundle f.vars i.exceptional ≡ Some w.handler → kept_at b.classes f.vars i.keepalive ≡ Some w.kept → awaited bundle f function ≡ Some w
-unfolding awaited
-awaited_is bundle f function b i w there at waits handler kept =
-    let cs = classes_given (bundle_tables bundle) function in
-    with_is ((numbered bundle).doing f.block f.at f.vars) (does_at bundle b.classes f.vars i) (awaited_by bundle function) (doing_is bundle f b i there at)
+pub awaited_is : (bundle : List Item) (f : Activation) (cs : List ℕ) (b : BlockCode) (i : Code) (w : Awaited) → slice_get (bundle_blocks bundle) f.block ≡ Some b → slice_get b.code f.at ≡ Some i
+    → w.waits ≡ cs → optional_goal_at bundle f.vars i.exceptional ≡ Some w.handler → kept_at b.classes f.vars i.keepalive ≡ Some w.kept → awaits bundle f cs ≡ Some w
+unfolding awaits
+awaited_is bundle f cs b i w there at waits handler kept =
+    with_is ((numbered bundle).doing f.block f.at f.vars) (does_at bundle b.classes f.vars i) (awaited_by cs) (doing_is bundle f b i there at)
     ∙ with_is (optional_goal_at bundle f.vars i.exceptional) w.handler (λ h. with_some (kept_at b.classes f.vars i.keepalive) (λ ks. Some (record { waits = cs; handler = h; kept = ks }))) handler
     ∙ with_is (kept_at b.classes f.vars i.keepalive) w.kept (λ ks. Some (record { waits = cs; handler = w.handler; kept = ks })) kept
     ∙ ap (λ cs. Some (record { waits = cs; handler = w.handler; kept = w.kept })) (sym waits)
+
+pub awaited_waits : (bundle : List Item) (f : Activation) (cs : List ℕ) (w : Awaited) → awaits bundle f cs ≡ Some w → w.waits ≡ cs
+unfolding awaits
+awaited_waits bundle f cs w h =
+    let d = with_there ((numbered bundle).doing f.block f.at f.vars) (awaited_by cs) w h in
+    let o = with_there d.0.exceptional (λ h. with_some d.0.kept (λ ks. Some (record { waits = cs; handler = h; kept = ks }))) w d.2 in
+    let k = with_there d.0.kept (λ ks. Some (record { waits = cs; handler = o.0; kept = ks })) w o.2 in
+    let is : Awaited = record { waits = cs; handler = o.0; kept = k.0 } in
+    let same : is ≡ w = cc in
+    ap (λ (w : Awaited). w.waits) (sym same)
 
 pub ruleset awaiting = (awaited_there, awaited_is)
 
@@ -456,29 +468,26 @@ top_ends : (f : Activation) (os : List HeapObject) → fold (λ os n. changed ki
 unfolding objects_end
 top_ends f os = ap (fold (λ os n. changed killed n os) os) (append-nil f.objects)
 
-ended_by : OneThread → List HeapObject
-ended_by s = fold (λ os n. changed killed n os) s.objects (flat_map (λ (f : Activation). f.objects) (s.frames.top ∷ []))
-
 -- ---- calls in place
 
-replace_go : List Item → OneThread → Doing → ℕ → List Value → ℕ → Outcome
+replace_go : List Item → Held → Doing → ℕ → List Value → ℕ → Outcome
 replace_go bundle s d f vs b = next (frames_end (s.frames.top ∷ []) (begun s)) (turn s d) (onto (turn s d) (called (numbered bundle) f vs b))
 
-pub replace_there : (bundle : List Item) (s : OneThread) (f : ℕ) (vs : List Value) → acting bundle s (Replaces f vs) ≢ Stuck → f < length (bundle_functions bundle)
+pub replace_there : (bundle : List Item) (s : Held) (f : ℕ) (vs : List Value) → acting bundle s (Replaces f vs) ≢ Stuck → f < length (bundle_functions bundle)
 unfolding replace_go
 replace_there bundle s f vs h =
     let r = acting_there bundle s (Replaces f vs) h in
     let q = tried_there (numbered bundle) s r.0 ℕ (body bundle f) (replace_go bundle s r.0 f vs) r.2 in
     body_there bundle f q.0 q.1
 
-pub replace_without_body : (bundle : List Item) (s : OneThread) (f : ℕ) (vs : List Value) (function : Function) → acting bundle s (Replaces f vs) ≢ Stuck → slice_get (bundle_functions bundle) f ≡ Some function → function.first ≡ None
+pub replace_without_body : (bundle : List Item) (s : Held) (f : ℕ) (vs : List Value) (function : Function) → acting bundle s (Replaces f vs) ≢ Stuck → slice_get (bundle_functions bundle) f ≡ Some function → function.first ≡ None
     → acting bundle s (Replaces f vs) ≡ End [] (undefined_at s cases.NoBody)
 unfolding replace_go
 replace_without_body bundle s f vs function h e none =
     let r = acting_there bundle s (Replaces f vs) h in
     acting_is bundle s (Replaces f vs) r.0 r.1 ∙ tried_is (numbered bundle) s r.0 ℕ (body bundle f) (Err cases.NoBody) (replace_go bundle s r.0 f vs) (no_body_is bundle f function e none)
 
-pub replace_is : (bundle : List Item) (s : OneThread) (f block : ℕ) (vs : List Value) (function : Function) → acting bundle s (Replaces f vs) ≢ Stuck → slice_get (bundle_functions bundle) f ≡ Some function → function.first ≡ Some block
+pub replace_is : (bundle : List Item) (s : Held) (f block : ℕ) (vs : List Value) (function : Function) → acting bundle s (Replaces f vs) ≢ Stuck → slice_get (bundle_functions bundle) f ≡ Some function → function.first ≡ Some block
     → acting bundle s (Replaces f vs) ≡ went_on (record s { frames = record s.frames { top = entered block vs }; objects = objects_end s.objects s.frames.top.objects })
 unfolding replace_go
 replace_is bundle s f block vs function h e first =
@@ -502,18 +511,27 @@ some_by (b ∷ bs) e = omega arith
 
 -- ---- returns
 
-pub return_finishes : (bundle : List Item) (s t : OneThread) (vs : TypedValues) (ls : List Line) → acting bundle s (Returns vs) ≢ Stuck → s.frames.below ≡ []
-    → t ≡ record s { left = false; objects = objects_end s.objects s.frames.top.objects; steps = s.steps + 1 } → ls ≡ lines.Note (Returned 0 vs) ∷ [] → answers (Went ls) t ≡ acting bundle s (Returns vs)
-unfolding answers ended_by
-return_finishes bundle s t vs ls h bottom same told =
-    let r = acting_there bundle s (Returns vs) h in
-    let now : List HeapObject → ℕ → OneThread = λ os n. record s { left = false; objects = os; steps = n } in
-    ap (λ x. outcome_of (Went x) (configuration t)) told ∙ ap (λ x. outcome_of (Went (lines.Note (Returned 0 vs) ∷ [])) (configuration x)) same
-    ∙ ap (λ os. outcome_of (Went (lines.Note (Returned 0 vs) ∷ [])) (configuration (now os (s.steps + 1)))) (sym (top_ends s.frames.top s.objects))
-    ∙ ap (λ n. outcome_of (Went (lines.Note (Returned 0 vs) ∷ [])) (configuration (now (ended_by s) n))) (add-one s.steps)
-    ∙ sym (acting_is bundle s (Returns vs) r.0 r.1 ∙ ap (λ bs. performed (numbered bundle) (begun (record s { frames = record s.frames { below = bs } })) (turn (record s { frames = record s.frames { below = bs } }) r.0) (Returns vs)) bottom)
+-- what an answer says once the thread has ended
+finished_is : (s t : Held) (d : Doing) (n : Note) (rest : Chain) (ls : List Line) → t ≡ record (thread_ended s rest) { steps = s.steps + 1 } → ls ≡ lines.Note n ∷ []
+    → answers (Went ls) t ≡ finishes (begun s) (turn s d) n
+unfolding answers objects_end
+finished_is s t d n rest ls same told =
+    ap (λ x. outcome_of (Went x) (configuration t)) told ∙ ap (λ x. outcome_of (Went (lines.Note n ∷ [])) (configuration x)) same
+    ∙ ap (λ m. outcome_of (Went (lines.Note n ∷ [])) (configuration (record (thread_ended s rest) { steps = m }))) (add-one s.steps)
 
-returned_below : (bundle : List Item) (s : OneThread) (d : Doing) (vs : TypedValues) (f : Activation) (fs bs : List Activation) → bs ≡ f ∷ fs
+pub return_finishes : (bundle : List Item) (s t : Held) (vs : TypedValues) (rest : Chain) (ls : List Line) → acting bundle s (Returns vs) ≢ Stuck → s.frames.below ≡ []
+    → t ≡ record (thread_ended s rest) { steps = s.steps + 1 } → ls ≡ lines.Note (Returned s.thread vs) ∷ [] → answers (Went ls) t ≡ acting bundle s (Returns vs)
+return_finishes bundle s t vs rest ls h bottom same told =
+    let r = acting_there bundle s (Returns vs) h in
+    finished_is s t r.0 (Returned s.thread vs) rest ls same told ∙ ap (returns (numbered bundle) (begun s) (turn s r.0) vs) (sym bottom) ∙ sym (acting_is bundle s (Returns vs) r.0 r.1)
+
+pub exit_finishes : (bundle : List Item) (s t : Held) (rest : Chain) (ls : List Line) → acting bundle s Exits ≢ Stuck → t ≡ record (thread_ended s rest) { steps = s.steps + 1 }
+    → ls ≡ lines.Note (Exited s.thread) ∷ [] → answers (Went ls) t ≡ acting bundle s Exits
+exit_finishes bundle s t rest ls h same told =
+    let r = acting_there bundle s Exits h in
+    finished_is s t r.0 (Exited s.thread) rest ls same told ∙ sym (acting_is bundle s Exits r.0 r.1)
+
+returned_below : (bundle : List Item) (s : Held) (d : Doing) (vs : TypedValues) (f : Activation) (fs bs : List Activation) → bs ≡ f ∷ fs
     → returns (numbered bundle) (begun s) (turn s d) vs bs ≡ next (frames_end (s.frames.top ∷ []) (begun s)) (turn s d) (with_some (goes_on bundle f vs.values) (λ g. Some (g ∷ fs)))
 unfolding goes_on
 returned_below bundle s d vs f fs bs e = ap (returns (numbered bundle) (begun s) (turn s d) vs) e
@@ -522,7 +540,7 @@ second_by : (bs : List Activation) (f : Activation) → slice_get bs 0 ≡ Some 
 second_by [] f h = cc
 second_by (b ∷ bs) f h = let same : b ≡ f = cc in (bs, ap (λ x. x ∷ bs) same)
 
-pub return_there : (bundle : List Item) (s : OneThread) (vs : TypedValues) (f : Activation) → acting bundle s (Returns vs) ≢ Stuck → slice_get (frames_of s.frames) 1 ≡ Some f → IsSome (goes_on bundle f vs.values)
+pub return_there : (bundle : List Item) (s : Held) (vs : TypedValues) (f : Activation) → acting bundle s (Returns vs) ≢ Stuck → slice_get (frames_of s.frames) 1 ≡ Some f → IsSome (goes_on bundle f vs.values)
 return_there bundle s vs f h e =
     let r = acting_there bundle s (Returns vs) h in
     let q = second_by s.frames.below f e in
@@ -531,7 +549,7 @@ return_there bundle s vs f h e =
     let g = with_there (goes_on bundle f vs.values) go n.0 n.1 in
     some_there (goes_on bundle f vs.values) g.0 g.1
 
-pub return_is : (bundle : List Item) (s : OneThread) (vs : TypedValues) (c : Chain) (g : Activation) → acting bundle s (Returns vs) ≢ Stuck → frames_of c ≡ s.frames.below → goes_on bundle c.top vs.values ≡ Some g
+pub return_is : (bundle : List Item) (s : Held) (vs : TypedValues) (c : Chain) (g : Activation) → acting bundle s (Returns vs) ≢ Stuck → frames_of c ≡ s.frames.below → goes_on bundle c.top vs.values ≡ Some g
     → acting bundle s (Returns vs) ≡ went_on (record s { frames = record c { top = g }; objects = objects_end s.objects s.frames.top.objects })
 return_is bundle s vs c g h e way =
     let r = acting_there bundle s (Returns vs) h in
@@ -542,7 +560,7 @@ return_is bundle s vs c g h e way =
     ∙ ap (λ os. went_on (record s { frames = record c { top = g }; objects = os })) (top_ends s.frames.top s.objects)
 
 -- the frame that a return goes to is the second one
-pub second_is : (s : OneThread) (c : Chain) (f : Activation) → frames_of c ≡ s.frames.below → slice_get (frames_of s.frames) 1 ≡ Some f → f ≡ c.top
+pub second_is : (s : Held) (c : Chain) (f : Activation) → frames_of c ≡ s.frames.below → slice_get (frames_of s.frames) 1 ≡ Some f → f ≡ c.top
 second_is s c f e h = let there : slice_get (frames_of c) 0 ≡ Some f = ap (λ bs. slice_get bs 0) e ∙ h in cc
 
 pub ruleset returning = (return_there, return_is, second_is)
@@ -557,16 +575,16 @@ pub ruleset only_frame = (one_frame, more_frames)
 
 -- ---- exceptions
 
-throw_go : OneThread → Doing → EnteredFrames → Outcome
+throw_go : Held → Doing → EnteredFrames → Outcome
 throw_go s d r = next (frames_end r.ended (begun s)) (turn s d) (Some r.frames)
 
-pub throw_uncaught : (bundle : List Item) (s : OneThread) (e : Scalar) → acting bundle s (Throws e) ≢ Stuck → first_handler (frames_of s.frames) ≡ None → acting bundle s (Throws e) ≡ End [] (undefined_at s cases.Uncaught)
+pub throw_uncaught : (bundle : List Item) (s : Held) (e : Scalar) → acting bundle s (Throws e) ≢ Stuck → first_handler (frames_of s.frames) ≡ None → acting bundle s (Throws e) ≡ End [] (undefined_at s cases.Uncaught)
 unfolding throw_go
 throw_uncaught bundle s e h none =
     let r = acting_there bundle s (Throws e) h in
     acting_is bundle s (Throws e) r.0 r.1 ∙ tried_is (numbered bundle) s r.0 EnteredFrames (unwinding (numbered bundle) e (frames_of s.frames)) (Err cases.Uncaught) (throw_go s r.0) (uncaught (numbered bundle) e (frames_of s.frames) none)
 
-caught_there : (bundle : List Item) (s : OneThread) (e : Scalar) (n : ℕ) → acting bundle s (Throws e) ≢ Stuck → first_handler (frames_of s.frames) ≡ Some n
+caught_there : (bundle : List Item) (s : Held) (e : Scalar) (n : ℕ) → acting bundle s (Throws e) ≢ Stuck → first_handler (frames_of s.frames) ≡ Some n
     → (c : Catches (numbered bundle) e (frames_of s.frames) n) × (h : Activation) × (gets bundle c.frame c.goal e ≡ Some h)
 unfolding throw_go gets
 caught_there bundle s e n h first =
@@ -578,7 +596,7 @@ caught_there bundle s e n h first =
     let w = with_there (caught p c.frame c.goal e) go q.0 (sym c.unwound ∙ q.1) in
     (c, w.0, w.1)
 
-pub throw_there : (bundle : List Item) (s : OneThread) (e : Scalar) (n : ℕ) → acting bundle s (Throws e) ≢ Stuck → first_handler (frames_of s.frames) ≡ Some n
+pub throw_there : (bundle : List Item) (s : Held) (e : Scalar) (n : ℕ) → acting bundle s (Throws e) ≢ Stuck → first_handler (frames_of s.frames) ≡ Some n
     → (f : Activation) × (g : Goal) × (slice_get (frames_of s.frames) n ≡ Some f) × (f.handler ≡ Some g) × IsSome (gets bundle f g e) × (n < length (frames_of s.frames))
 throw_there bundle s e n h first =
     let r = caught_there bundle s e n h first in
@@ -589,7 +607,7 @@ drop_at [] n f t bs h e = cc
 drop_at (x ∷ fs) zero f t bs h e = let same : t ≡ x = cc in let rest : bs ≡ fs = cc in (same ∙ (let is : x ≡ f = cc in is), rest)
 drop_at (x ∷ fs) (suc n) f t bs h e = drop_at fs n f t bs h e
 
-pub throw_is : (bundle : List Item) (s : OneThread) (e : Scalar) (n : ℕ) (c : Chain) (f : Activation) (g : Goal) (h : Activation) → acting bundle s (Throws e) ≢ Stuck → first_handler (frames_of s.frames) ≡ Some n
+pub throw_is : (bundle : List Item) (s : Held) (e : Scalar) (n : ℕ) (c : Chain) (f : Activation) (g : Goal) (h : Activation) → acting bundle s (Throws e) ≢ Stuck → first_handler (frames_of s.frames) ≡ Some n
     → slice_get (frames_of s.frames) n ≡ Some f → f.handler ≡ Some g → frames_of c ≡ drop n (frames_of s.frames) → gets bundle f g e ≡ Some h
     → acting bundle s (Throws e) ≡ went_on (record s { frames = record c { top = h }; objects = objects_end s.objects (flat_map (λ (f : Activation). f.objects) (take n (frames_of s.frames))) })
 unfolding throw_go gets objects_end

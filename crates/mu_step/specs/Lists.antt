@@ -101,6 +101,28 @@ end_next ns i d start before after h was is =
     let step : take (i + 1) ns ≡ take i ns ++ n ∷ [] = rw add-one (take-suc ns i d h) in
     is ∙ ap (changed killed n) was ∙ sym (ends_one (objects_end start (take i ns)) n) ∙ sym (ends_behind start (take i ns) (n ∷ [])) ∙ ap (objects_end start) (sym step)
 
+-- the objects of one more frame have ended
+pub frame_next : (fs : List Activation) (n : ℕ) (f : Activation) (start before after : List HeapObject) → slice_get fs n ≡ Some f
+    → before ≡ objects_end start (flat_map (λ (f : Activation). f.objects) (take n fs)) → after ≡ objects_end before f.objects
+    → after ≡ objects_end start (flat_map (λ (f : Activation). f.objects) (take (n + 1) fs))
+frame_next fs n f start before after at was is =
+    let flat = λ (xs : List Activation). flat_map (λ (f : Activation). f.objects) xs in
+    is ∙ ap (λ os. objects_end os f.objects) was ∙ sym (ends_behind start (flat (take n fs)) f.objects)
+    ∙ ap (λ ns. objects_end start (flat (take n fs) ++ ns)) (sym (append-nil f.objects))
+    ∙ ap (objects_end start) (sym (flat_behind (take n fs) (f ∷ []))) ∙ ap (λ xs. objects_end start (flat xs)) (sym (take_next fs n f at))
+
+take_all : (fs : List Activation) → take (length fs) fs ≡ fs
+take_all [] = refl
+take_all (f ∷ fs) = ap (λ fs. f ∷ fs) (take_all fs)
+
+pub frames_all : (fs : List Activation) (n : ℕ) (start now : List HeapObject) → n ≡ length fs → now ≡ objects_end start (flat_map (λ (f : Activation). f.objects) (take n fs))
+    → now ≡ objects_end start (flat_map (λ (f : Activation). f.objects) fs)
+frames_all fs n start now count is =
+    let flat = λ (xs : List Activation). flat_map (λ (f : Activation). f.objects) xs in
+    is ∙ ap (λ n. objects_end start (flat (take n fs))) count ∙ ap (λ xs. objects_end start (flat xs)) (take_all fs)
+
+pub ruleset all_ending = (ends_none, frame_next, frames_all)
+
 -- a frame is left below those that are left so far
 pub enough_left : (fs : List Activation) (i n : ℕ) (c : Chain) → frames_of c ≡ drop i fs → i < n → n < length fs → 1 < length (frames_of c)
 enough_left fs i n c h low high = let long : length (frames_of c) ≡ length (drop i fs) = ap length h in omega (arith, long, length-drop i fs)

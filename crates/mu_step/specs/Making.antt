@@ -15,7 +15,7 @@ use Rattle.mu_model.specs.Acts.{Act, Gives, Faults, Makes, MakesHybrid, MakesOwn
 use Rattle.mu_model.specs.Outcomes.{Outcome, case_of_fault}
 use Rattle.mu_step.specs.declared.making.Making.{Making}
 use Rattle.mu_step.specs.declared.making.Making.TheVariants as kinds
-use Rattle.mu_step.specs.OneThread.{OneThread}
+use Rattle.mu_step.specs.Held.{Held}
 use Rattle.mu_step.specs.Acting.{acting}
 
 -- the graph of all types
@@ -23,12 +23,12 @@ abbrev pub graph_of : List Item → List TypeDef
 graph_of bundle = (bundle_tables bundle).types.definitions
 
 -- the instruction has what was found for its result, or meets the case of the fault
-abbrev pub tells : List Item → OneThread → Result Scalar PlaceFault → Outcome
+abbrev pub tells : List Item → Held → Result Scalar PlaceFault → Outcome
 tells bundle s (Ok x) = acting bundle s (Gives ((x ∷ []) ∷ []))
 tells bundle s (Err f) = acting bundle s (Faults (case_of_fault f))
 
 -- an object with these leaves is made
-abbrev pub made : List Item → OneThread → List ℕ → OneThread
+abbrev pub made : List Item → Held → List ℕ → Held
 made bundle s cs = record s { objects = s.objects ++ object_of (graph_of bundle) cs ∷ []; cells = s.cells - length cs }
 
 -- the frame has one more object
@@ -59,7 +59,7 @@ frame_made kinds.Own f n = owns f n
 frame_made _ f n = f
 
 -- the object is made, and its result not given yet
-abbrev pub state_made : List Item → OneThread → ℕ → Making → ℕ → OneThread
+abbrev pub state_made : List Item → Held → ℕ → Making → ℕ → Held
 state_made bundle s t m n = record (made bundle s (leaves_made (graph_of bundle) t m)) { frames = record s.frames { top = frame_made m s.frames.top n } }
 
 -- what a heap refuses that is asked for so many cells where so many are left

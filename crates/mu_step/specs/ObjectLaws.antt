@@ -1,5 +1,5 @@
 -- Laws of the acts that make objects, cast references and find places.
-use Rattle.std.specs.Prelude.{◌≡◌, ◌≢◌, ℕ, ◌+◌, ◌-◌, ◌*◌, ◌^◌, ◌<◌, ◌≤◌, Bool, true, false, nat_le, min, List, [], ◌∷◌, ◌++◌, Option, Some, None, IsSome, Result, Ok, Err, IfErr, length, option_map, if◌then◌else◌, refl}
+use Rattle.std.specs.Prelude.{◌≡◌, ◌≢◌, ℕ, ◌+◌, ◌-◌, ◌*◌, ◌^◌, ◌<◌, ◌≤◌, Bool, true, false, nat_le, min, List, [], ◌∷◌, ◌++◌, Option, Some, None, IsSome, Result, Ok, Err, IfErr, length, option_map, slice_set, if◌then◌else◌, refl}
 use Rattle.std.proofs.Common.{sym, ◌∙◌, ap, subst, arith, length-append, inl, inr}
 use Rattle.std.proofs.lemmas.Bool.Decides.{leb_tells}
 use Rattle.std.proofs.Math.Nat.{min-eq_left, min-eq_right}
@@ -16,60 +16,62 @@ use Rattle.typed_heap.specs.Places.{with_some, Way, move, find_place}
 use Rattle.typed_heap.proofs.Runs.{times_length}
 use Rattle.type_laws.specs.Leaves.{times}
 use Rattle.frames.specs.Activations.{Value, Goal, Activation}
-use Rattle.frames.specs.Chains.{stands}
+use Rattle.frames.specs.Chains.{frames_of, stands}
 use Rattle.mu_model.specs.declared.endings.Case.{Case}
 use Rattle.mu_model.specs.declared.endings.Ending.TheVariants.{HeapFull}
+use Rattle.mu_model.specs.Configuration.{Stack, Active, Configuration}
+use Rattle.mu_model.specs.Turns.{Turn}
 use Rattle.mu_model.specs.Types.{class_definition}
 use Rattle.mu_model.specs.Acts.{Gives, Faults, Casts, Finds, Makes, MakesHybrid, MakesOwn, Doing}
 use Rattle.mu_model.specs.Objects.{cast_any, object_added, owning}
-use Rattle.mu_model.specs.Frames.{onward}
-use Rattle.mu_model.specs.Outcomes.{Outcome, Stuck, on, unless_refused, tried, or_case, case_of_fault, has_result, faulted}
+use Rattle.mu_model.specs.Frames.{onward, passed}
+use Rattle.mu_model.specs.Outcomes.{Outcome, Next, Stuck, on, next, onto, unless_refused, tried, or_case, case_of_fault, has_result, faulted}
 use Rattle.model_numbers.specs.Numbered.{numbered}
 use Rattle.mu_step.specs.declared.making.Making.{Making}
 use Rattle.mu_step.specs.declared.making.Making.TheVariants as kinds
-use Rattle.mu_step.specs.OneThread.{OneThread}
+use Rattle.mu_step.specs.Held.{Held}
 use Rattle.mu_step.specs.Acting.{begun, turn, doing_of, acting, faulting, goes_on}
 use Rattle.mu_step.specs.Making.{tells, graph_of, made, owns, act_of, leaves_made, result_made, frame_made, state_made, IsFull}
-use Rattle.mu_step.specs.StepLaws.{on_there, acting_there, acting_is}
+use Rattle.mu_step.specs.StepLaws.{set_again, on_there, acting_there, acting_is}
 
 -- ---- what is found
 
-found_by : List Item → OneThread → Option (Result Scalar PlaceFault) → Doing → Outcome
+found_by : List Item → Held → Option (Result Scalar PlaceFault) → Doing → Outcome
 found_by bundle s o d = tried (numbered bundle) (begun s) (turn s d) (option_map or_case o) (has_result (numbered bundle) (begun s) (turn s d))
 
 mapped_there : (o : Option (Result Scalar PlaceFault)) (r : Result Scalar Case) → option_map or_case o ≡ Some r → IsSome o
 mapped_there None r h = cc
 mapped_there (Some a) r h = refl
 
-found_there : (bundle : List Item) (s : OneThread) (o : Option (Result Scalar PlaceFault)) (d : Doing) → found_by bundle s o d ≢ Stuck → IsSome o
+found_there : (bundle : List Item) (s : Held) (o : Option (Result Scalar PlaceFault)) (d : Doing) → found_by bundle s o d ≢ Stuck → IsSome o
 unfolding found_by tried
 found_there bundle s o d h =
     let r = on_there (option_map or_case o) (unless_refused (numbered bundle) (begun s) (turn s d) (has_result (numbered bundle) (begun s) (turn s d))) h in
     mapped_there o r.0 r.1
 
-found_is : (bundle : List Item) (s : OneThread) (o : Option (Result Scalar PlaceFault)) (r : Result Scalar PlaceFault) (d : Doing) → doing_of (numbered bundle) s ≡ Some d → o ≡ Some r → found_by bundle s o d ≡ tells bundle s r
+found_is : (bundle : List Item) (s : Held) (o : Option (Result Scalar PlaceFault)) (r : Result Scalar PlaceFault) (d : Doing) → doing_of (numbered bundle) s ≡ Some d → o ≡ Some r → found_by bundle s o d ≡ tells bundle s r
 unfolding found_by tried on
 found_is bundle s o (Ok x) d e h =
     ap (λ o. found_by bundle s o d) h ∙ sym (acting_is bundle s (Gives ((x ∷ []) ∷ [])) d e)
 found_is bundle s o (Err f) d e h =
     ap (λ o. found_by bundle s o d) h ∙ sym (acting_is bundle s (Faults (case_of_fault f)) d e)
 
-pub finds_there : (bundle : List Item) (s : OneThread) (way : Way) (x : Scalar) → acting bundle s (Finds way x) ≢ Stuck → IsSome (find_place (graph_of bundle) s.objects (move (graph_of bundle) way) x)
+pub finds_there : (bundle : List Item) (s : Held) (way : Way) (x : Scalar) → acting bundle s (Finds way x) ≢ Stuck → IsSome (find_place (graph_of bundle) s.objects (move (graph_of bundle) way) x)
 unfolding found_by
 finds_there bundle s way x h = let r = acting_there bundle s (Finds way x) h in found_there bundle s (find_place (graph_of bundle) s.objects (move (graph_of bundle) way) x) r.0 r.2
 
-pub finds_is : (bundle : List Item) (s : OneThread) (way : Way) (x : Scalar) (r : Result Scalar PlaceFault) → acting bundle s (Finds way x) ≢ Stuck
+pub finds_is : (bundle : List Item) (s : Held) (way : Way) (x : Scalar) (r : Result Scalar PlaceFault) → acting bundle s (Finds way x) ≢ Stuck
     → find_place (graph_of bundle) s.objects (move (graph_of bundle) way) x ≡ Some r → acting bundle s (Finds way x) ≡ tells bundle s r
 unfolding found_by
 finds_is bundle s way x r h e =
     let d = acting_there bundle s (Finds way x) h in
     acting_is bundle s (Finds way x) d.0 d.1 ∙ found_is bundle s (find_place (graph_of bundle) s.objects (move (graph_of bundle) way) x) r d.0 d.1 e
 
-pub casts_there : (bundle : List Item) (s : OneThread) (class : ℕ) (x : Scalar) → acting bundle s (Casts class x) ≢ Stuck → IsSome (cast_any (bundle_tables bundle) s.objects (class_definition (bundle_tables bundle) class) x)
+pub casts_there : (bundle : List Item) (s : Held) (class : ℕ) (x : Scalar) → acting bundle s (Casts class x) ≢ Stuck → IsSome (cast_any (bundle_tables bundle) s.objects (class_definition (bundle_tables bundle) class) x)
 unfolding found_by
 casts_there bundle s class x h = let r = acting_there bundle s (Casts class x) h in found_there bundle s (cast_any (bundle_tables bundle) s.objects (class_definition (bundle_tables bundle) class) x) r.0 r.2
 
-pub casts_is : (bundle : List Item) (s : OneThread) (class : ℕ) (x : Scalar) (r : Result Scalar PlaceFault) → acting bundle s (Casts class x) ≢ Stuck
+pub casts_is : (bundle : List Item) (s : Held) (class : ℕ) (x : Scalar) (r : Result Scalar PlaceFault) → acting bundle s (Casts class x) ≢ Stuck
     → cast_any (bundle_tables bundle) s.objects (class_definition (bundle_tables bundle) class) x ≡ Some r → acting bundle s (Casts class x) ≡ tells bundle s r
 unfolding found_by
 casts_is bundle s class x r h e =
@@ -88,8 +90,8 @@ le_true a b h = elim (leb_tells a b) [ inl t ↦ t.0 | inr f ↦ absurd (omega (
 le_false : (a b : ℕ) → b < a → nat_le a b ≡ false
 le_false a b h = elim (leb_tells a b) [ inl t ↦ absurd (omega (arith, t.1)) | inr f ↦ f.0 ]
 
-asking : List Item → OneThread → ℕ → (Doing → Outcome) → Bool → Outcome
-asking bundle s asked go enough = on (doing_of (numbered bundle) s) (λ d. if enough then go d else faulted (numbered bundle) (begun s) (turn s d) (HeapFull 0 asked s.cells))
+asking : List Item → Held → ℕ → (Doing → Outcome) → Bool → Outcome
+asking bundle s asked go enough = on (doing_of (numbered bundle) s) (λ d. if enough then go d else faulted (numbered bundle) (begun s) (turn s d) (HeapFull s.thread asked s.cells))
 
 abbrev leaves_of : List Item → ℕ → List ℕ
 leaves_of bundle t = leaf_classes (graph_of bundle) t
@@ -98,32 +100,54 @@ abbrev hybrid_of : List Item → ℕ → ℕ → List ℕ
 hybrid_of bundle t many = hybrid_classes (graph_of bundle) t many
 
 -- the object is made and given
-abbrev gives_object : List Item → OneThread → List ℕ → Doing → Outcome
+abbrev gives_object : List Item → Held → List ℕ → Doing → Outcome
 gives_object bundle s cs d = has_result (numbered bundle) (object_added (numbered bundle) (begun s) cs) (turn s d) (Object (length s.objects))
 
-abbrev gives_own : List Item → OneThread → List ℕ → Doing → Outcome
+abbrev gives_own : List Item → Held → List ℕ → Doing → Outcome
 gives_own bundle s cs d = has_result (numbered bundle) (object_added (numbered bundle) (begun s) cs) (owning (turn s d) (length s.objects)) (Place (length s.objects) 0)
 
-makes_full : (bundle : List Item) (s : OneThread) (t : ℕ) → s.cells < length (leaves_of bundle t) → acting bundle s (Makes t) ≡ faulting bundle s (HeapFull 0 (length (leaves_of bundle t)) s.cells)
+makes_full : (bundle : List Item) (s : Held) (t : ℕ) → s.cells < length (leaves_of bundle t) → acting bundle s (Makes t) ≡ faulting bundle s (HeapFull s.thread (length (leaves_of bundle t)) s.cells)
 unfolding asking acting faulting
 makes_full bundle s t h = ap (asking bundle s (length (leaves_of bundle t)) (gives_object bundle s (leaves_of bundle t))) (le_false (length (leaves_of bundle t)) s.cells h)
 
-makes_is : (bundle : List Item) (s : OneThread) (t n : ℕ) → length (leaves_of bundle t) ≤ s.cells → n ≡ length s.objects
+makes_is : (bundle : List Item) (s : Held) (t n : ℕ) → length (leaves_of bundle t) ≤ s.cells → n ≡ length s.objects
     → acting bundle s (Makes t) ≡ acting bundle (made bundle s (leaves_of bundle t)) (Gives ((Object n ∷ []) ∷ []))
 unfolding asking acting
 makes_is bundle s t n h e =
     ap (asking bundle s (length (leaves_of bundle t)) (gives_object bundle s (leaves_of bundle t))) (le_true (length (leaves_of bundle t)) s.cells h)
     ∙ ap (λ n. acting bundle (made bundle s (leaves_of bundle t)) (Gives ((Object n ∷ []) ∷ []))) (sym e)
 
-own_full : (bundle : List Item) (s : OneThread) (t : ℕ) → s.cells < length (leaves_of bundle t) → acting bundle s (MakesOwn t) ≡ faulting bundle s (HeapFull 0 (length (leaves_of bundle t)) s.cells)
+own_full : (bundle : List Item) (s : Held) (t : ℕ) → s.cells < length (leaves_of bundle t) → acting bundle s (MakesOwn t) ≡ faulting bundle s (HeapFull s.thread (length (leaves_of bundle t)) s.cells)
 unfolding asking acting faulting
 own_full bundle s t h = ap (asking bundle s (length (leaves_of bundle t)) (gives_own bundle s (leaves_of bundle t))) (le_false (length (leaves_of bundle t)) s.cells h)
 
-own_is : (bundle : List Item) (s : OneThread) (t n : ℕ) → length (leaves_of bundle t) ≤ s.cells → n ≡ length s.objects
+on_same : {A : Type 0} (o : Option A) (f g : A → Outcome) → ((a : A) → f a ≡ g a) → on o f ≡ on o g
+unfolding on
+on_same None f g h = refl
+on_same (Some a) f g h = h a
+
+-- what stood for the stack does not matter once it becomes another
+next_aside : (c : Configuration) (u : Turn) (ss : List Stack) (a b : Stack) (o : Option (List Activation)) → next (record c { stacks = slice_set ss u.stack a }) u o ≡ next (record c { stacks = slice_set ss u.stack b }) u o
+unfolding on
+next_aside c u ss a b None = refl
+next_aside c u ss a b (Some fs) =
+    ap (λ stacks. Next (record c { stacks = stacks })) (set_again ss u.stack a (Active u.thread fs) ∙ sym (set_again ss u.stack b (Active u.thread fs)))
+
+-- the frame that owns the object has it for its result
+gives_own_so : (bundle : List Item) (s : Held) (t : ℕ) (d : Doing)
+    → gives_own bundle s (leaves_of bundle t) d ≡ has_result (numbered bundle) (begun (state_made bundle s t kinds.Own (length s.objects))) (turn (state_made bundle s t kinds.Own (length s.objects)) d) (Place (length s.objects) 0)
+gives_own_so bundle s t d =
+    let m = state_made bundle s t kinds.Own (length s.objects) in
+    next_aside (begun m) (turn m d) s.seats.stacks (Active s.thread (frames_of s.frames)) (Active s.thread (frames_of m.frames)) (with_some (passed (numbered bundle) m.frames.top ((Place (length s.objects) 0 ∷ []) ∷ [])) (onto (turn m d)))
+
+own_is : (bundle : List Item) (s : Held) (t n : ℕ) → length (leaves_of bundle t) ≤ s.cells → n ≡ length s.objects
     → acting bundle s (MakesOwn t) ≡ acting bundle (state_made bundle s t kinds.Own n) (Gives ((Place n 0 ∷ []) ∷ []))
 unfolding asking acting
 own_is bundle s t n h e =
     ap (asking bundle s (length (leaves_of bundle t)) (gives_own bundle s (leaves_of bundle t))) (le_true (length (leaves_of bundle t)) s.cells h)
+    ∙ on_same (doing_of (numbered bundle) s) (gives_own bundle s (leaves_of bundle t))
+    (λ d. has_result (numbered bundle) (begun (state_made bundle s t kinds.Own (length s.objects))) (turn (state_made bundle s t kinds.Own (length s.objects)) d) (Place (length s.objects) 0))
+    (gives_own_so bundle s t)
     ∙ ap (λ n. acting bundle (state_made bundle s t kinds.Own n) (Gives ((Place n 0 ∷ []) ∷ []))) (sym e)
 
 hybrid_asks : List Item → ℕ → ℕ → ℕ
@@ -134,27 +158,27 @@ unfolding hybrid_asks
 hybrid_length bundle t many =
     length-append (leaves_of bundle t) (times many (run_classes (graph_of bundle) t)) ∙ ap (λ (m : ℕ). length (leaves_of bundle t) + m) (times_length many (run_classes (graph_of bundle) t))
 
-hybrid_full : (bundle : List Item) (s : OneThread) (t many : ℕ) → s.cells < length (hybrid_of bundle t many)
-    → acting bundle s (MakesHybrid t many) ≡ faulting bundle s (HeapFull 0 (length (hybrid_of bundle t many)) s.cells)
+hybrid_full : (bundle : List Item) (s : Held) (t many : ℕ) → s.cells < length (hybrid_of bundle t many)
+    → acting bundle s (MakesHybrid t many) ≡ faulting bundle s (HeapFull s.thread (length (hybrid_of bundle t many)) s.cells)
 unfolding asking hybrid_asks acting faulting
 hybrid_full bundle s t many h =
     ap (asking bundle s (hybrid_asks bundle t many) (gives_object bundle s (hybrid_of bundle t many))) (le_false (hybrid_asks bundle t many) s.cells (subst (λ n. s.cells < n) (hybrid_length bundle t many) h))
-    ∙ ap (λ n. faulting bundle s (HeapFull 0 n s.cells)) (sym (hybrid_length bundle t many))
+    ∙ ap (λ n. faulting bundle s (HeapFull s.thread n s.cells)) (sym (hybrid_length bundle t many))
 
-hybrid_is : (bundle : List Item) (s : OneThread) (t many n : ℕ) → length (hybrid_of bundle t many) ≤ s.cells → n ≡ length s.objects
+hybrid_is : (bundle : List Item) (s : Held) (t many n : ℕ) → length (hybrid_of bundle t many) ≤ s.cells → n ≡ length s.objects
     → acting bundle s (MakesHybrid t many) ≡ acting bundle (made bundle s (hybrid_of bundle t many)) (Gives ((Object n ∷ []) ∷ []))
 unfolding asking hybrid_asks acting
 hybrid_is bundle s t many n h e =
     ap (asking bundle s (hybrid_asks bundle t many) (gives_object bundle s (hybrid_of bundle t many))) (le_true (hybrid_asks bundle t many) s.cells (subst (λ n. n ≤ s.cells) (hybrid_length bundle t many) h))
     ∙ ap (λ n. acting bundle (made bundle s (hybrid_of bundle t many)) (Gives ((Object n ∷ []) ∷ []))) (sym e)
 
-pub making_full : (bundle : List Item) (s : OneThread) (t : ℕ) (m : Making) → s.cells < length (leaves_made (graph_of bundle) t m)
-    → acting bundle s (act_of t m) ≡ faulting bundle s (HeapFull 0 (length (leaves_made (graph_of bundle) t m)) s.cells)
+pub making_full : (bundle : List Item) (s : Held) (t : ℕ) (m : Making) → s.cells < length (leaves_made (graph_of bundle) t m)
+    → acting bundle s (act_of t m) ≡ faulting bundle s (HeapFull s.thread (length (leaves_made (graph_of bundle) t m)) s.cells)
 making_full bundle s t kinds.Object h = makes_full bundle s t h
 making_full bundle s t (kinds.Hybrid many) h = hybrid_full bundle s t many h
 making_full bundle s t kinds.Own h = own_full bundle s t h
 
-pub making_is : (bundle : List Item) (s : OneThread) (t : ℕ) (m : Making) (n : ℕ) → length (leaves_made (graph_of bundle) t m) ≤ s.cells → n ≡ length s.objects
+pub making_is : (bundle : List Item) (s : Held) (t : ℕ) (m : Making) (n : ℕ) → length (leaves_made (graph_of bundle) t m) ≤ s.cells → n ≡ length s.objects
     → acting bundle s (act_of t m) ≡ acting bundle (state_made bundle s t m n) (Gives ((result_made m n ∷ []) ∷ []))
 making_is bundle s t kinds.Object n h e = makes_is bundle s t n h e
 making_is bundle s t (kinds.Hybrid many) n h e = hybrid_is bundle s t many n h e

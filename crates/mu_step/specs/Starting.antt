@@ -1,7 +1,8 @@
 -- Inner: nothing that a reader believes of a run rests on this. It is the first configuration of a run, by the numbers of the code.
-use Rattle.std.specs.Prelude.{◌≡◌, ℕ, zero, suc, ◌+◌, ◌-◌, ◌<◌, true, List, [], ◌∷◌, ◌++◌, Option, Some, None, IsSome, IsSomeAnd, length, map, take, drop, slice_get, slice_index_or, sum_by, refl}
-use Rattle.std.proofs.Common.{sym, ◌∙◌, ap, subst, arith, add-one}
+use Rattle.std.specs.Prelude.{◌≡◌, ℕ, zero, suc, ◌+◌, ◌-◌, ◌<◌, ◌==◌, ◌||◌, false, nat_lt, List, [], ◌∷◌, ◌++◌, Option, Some, None, IsSome, IsSomeAnd, length, map, take, drop, slice_get, slice_index_or, sum_by, refl}
+use Rattle.std.proofs.Common.{sym, ◌∙◌, ap, subst, arith, add-one, inl, inr}
 use Rattle.std.proofs.Math.Nat.{sub-zero}
+use Rattle.std.proofs.lemmas.Bool.Decides.{nat_tests, eqb_tells}
 use Rattle.std.proofs.Math.Seq.{take-suc}
 use Rattle.std.specs.List.{All}
 use Rattle.ir_tree.specs.declared.items.Item.{Item}
@@ -17,10 +18,14 @@ use Rattle.bundle_check.specs.declared.code.Function.{Function}
 use Rattle.bundle_check.specs.Checking.{bundle_functions, bundle_tables, check_demands}
 use Rattle.typed_heap.specs.Objects.{HeapObject, leaf_classes, object_of}
 use Rattle.typed_heap.specs.Places.{with_some}
-use Rattle.frames.specs.Chains.{Chain}
+use Rattle.frames.specs.Chains.{Chain, frames_of}
 use Rattle.mem_axioms.specs.declared.types.Rule.{Rule}
 use Rattle.mem_axioms.specs.declared.types.Event.{Event}
-use Rattle.mu_model.specs.Configuration.{Configuration}
+use Rattle.mu_model.specs.Configuration.{Active, Configuration}
+use Rattle.mem_axioms.specs.EventFits.{is_thread}
+use Rattle.mu_values.specs.declared.scalars.Scalar.TheVariants.{Null}
+use Rattle.seats.specs.Seats.{Seats}
+use Rattle.mu_step.specs.Hand.{IsSound}
 use Rattle.mu_model.specs.Types.{type_graph, class_definition}
 use Rattle.mu_model.specs.Programs.{named}
 use Rattle.mu_model.specs.Acts.{Program}
@@ -28,7 +33,7 @@ use Rattle.mu_model.specs.Run.{Setting, target_leaves, global_objects, cells_tak
 use Rattle.model_numbers.specs.Laws.{ProgramsAreSame}
 use Rattle.model_numbers.specs.Numbered.{numbered}
 use Rattle.mu_step.specs.Plain.{plain_setting}
-use Rattle.mu_step.specs.OneThread.{OneThread, configuration}
+use Rattle.mu_step.specs.Held.{Held, configuration}
 use Rattle.mu_step.specs.Acting.{entered}
 use Rattle.mu_step.specs.StepLaws.{some_of, with_is, get_below}
 
@@ -133,27 +138,68 @@ start_there bundle f h = by (slice_get (bundle_functions bundle) f) refl h
     by None e k = absurd k
     by (Some function) e k = let r = some_of function.first k in (function, e, r.0, r.1, get_below (bundle_functions bundle) f function e)
 
-abbrev pub first_state : List HeapObject → List ℕ → Rule → ℕ → ℕ → ℕ → OneThread
-first_state os picks rule cells budget block =
-    record { frames = record { top = entered block []; below = [] }; left = true; objects = os; log = []; picks = picks; rule = rule; cells = cells; steps = 0; budget = budget }
+not_first : (i : ℕ) → nat_lt (suc i) 1 ≡ false
+not_first i = grind (arith, nat_tests)
 
-abbrev pub state_of : Chain → List HeapObject → List Event → List ℕ → Rule → ℕ → ℕ → OneThread
-state_of fr os lg picks rule cells budget = record { frames = fr; left = true; objects = os; log = lg; picks = picks; rule = rule; cells = cells; steps = 0; budget = budget }
+not_zero : (i : ℕ) → (suc i == 0) ≡ false
+not_zero i = elim (eqb_tells (suc i) 0) [ inl t ↦ absurd (omega (arith, t.1)) | inr f ↦ f.0 ]
 
-pub state_first : (os : List HeapObject) (picks : List ℕ) (rule r : Rule) (cells budget block : ℕ) (fr : Chain) (lg : List Event) → fr.top ≡ entered block [] → fr.below ≡ [] → lg ≡ [] → r ≡ rule
-    → state_of fr os lg picks r cells budget ≡ first_state os picks rule cells budget block
-state_first os picks rule r cells budget block fr lg top below none same =
-    ap (λ t. state_of (record { top = t; below = fr.below }) os lg picks r cells budget) top ∙ ap (λ bs. state_of (record { top = entered block []; below = bs }) os lg picks r cells budget) below
-    ∙ ap (λ lg. state_of (record { top = entered block []; below = [] }) os lg picks r cells budget) none ∙ ap (λ r. first_state os picks r cells budget block) same
+first_made : (i : ℕ) → is_thread [] i ≡ nat_lt i 1
+first_made zero = refl
+first_made (suc i) = ap (λ b. b || false) (not_zero i) ∙ sym (not_first i)
 
-pub start_is : (bundle : List Item) (os : List HeapObject) (picks : List ℕ) (rule : Rule) (left budget f block cells : ℕ) (function : Function) (s : OneThread) → slice_get (bundle_functions bundle) f ≡ Some function → function.first ≡ Some block
-    → s ≡ first_state os picks rule left budget block → left ≡ cells - cells_taken (bundle_tables bundle) os → starting bundle (plain_setting os picks rule cells budget) f ≡ Some (configuration s)
+-- no thread is in hand yet
+abbrev pub first_state : Chain → List HeapObject → List ℕ → Rule → ℕ → ℕ → ℕ → Held
+first_state fr os picks rule cells budget block =
+    record {
+      thread = 0;
+      stack = 0;
+      frames = fr;
+      left = false;
+      seats = record { threads = Some (record { stack = 0; own = Null }) ∷ []; stacks = Active 0 (entered block [] ∷ []) ∷ []; waiters = [] };
+      objects = os;
+      log = [];
+      picks = picks;
+      skip = 0;
+      rule = rule;
+      cells = cells;
+      steps = 0;
+      budget = budget;
+    }
+
+abbrev pub state_of : Chain → Seats → List HeapObject → List Event → List ℕ → Rule → ℕ → ℕ → Held
+state_of fr seats os lg picks rule cells budget =
+    record { thread = 0; stack = 0; frames = fr; left = false; seats = seats; objects = os; log = lg; picks = picks; skip = 0; rule = rule; cells = cells; steps = 0; budget = budget }
+
+seats_by : Chain → Seats
+seats_by c = record { threads = Some (record { stack = 0; own = Null }) ∷ []; stacks = Active 0 (frames_of c) ∷ []; waiters = [] }
+
+pub state_first : (os : List HeapObject) (picks : List ℕ) (rule r : Rule) (cells budget block : ℕ) (fr c : Chain) (seats : Seats) (lg : List Event) → c.top ≡ entered block [] → c.below ≡ []
+    → seats ≡ record { threads = Some (record { stack = 0; own = Null }) ∷ []; stacks = Active 0 (frames_of c) ∷ []; waiters = [] } → lg ≡ [] → r ≡ rule
+    → state_of fr seats os lg picks r cells budget ≡ first_state fr os picks rule cells budget block
+unfolding seats_by
+state_first os picks rule r cells budget block fr c seats lg top below seated none same =
+    ap (λ seats. state_of fr seats os lg picks r cells budget) seated ∙ ap (λ t. state_of fr (seats_by (record { top = t; below = c.below })) os lg picks r cells budget) top
+    ∙ ap (λ bs. state_of fr (seats_by (record { top = entered block []; below = bs })) os lg picks r cells budget) below
+    ∙ ap (λ lg. state_of fr (seats_by (record { top = entered block []; below = [] })) os lg picks r cells budget) none ∙ ap (λ r. first_state fr os picks r cells budget block) same
+
+pub start_is : (bundle : List Item) (fr : Chain) (os : List HeapObject) (picks : List ℕ) (rule : Rule) (left budget f block cells : ℕ) (function : Function) (s : Held) → slice_get (bundle_functions bundle) f ≡ Some function → function.first ≡ Some block
+    → s ≡ first_state fr os picks rule left budget block → left ≡ cells - cells_taken (bundle_tables bundle) os → starting bundle (plain_setting os picks rule cells budget) f ≡ Some (configuration s)
 unfolding starting
-start_is bundle os picks rule left budget f block cells function s there first same enough =
+start_is bundle fr os picks rule left budget f block cells function s there first same enough =
     let set = plain_setting os picks rule cells budget in
     let go : Option ℕ → Option Configuration = λ b. with_some b (λ block. Some (begins_in (numbered bundle) set f block)) in
     ap (λ o. with_some o go) (with_is (slice_get (bundle_functions bundle) f) function (λ (f : Function). Some f.first) there) ∙ ap go first
-    ∙ ap (λ n. Some (configuration (first_state os picks rule n budget block))) (sym enough) ∙ ap (λ s. Some (configuration s)) (sym same)
+    ∙ ap (λ n. Some (configuration (first_state fr os picks rule n budget block))) (sym enough) ∙ ap (λ s. Some (configuration s)) (sym same)
+
+-- the one thread is there from the start
+pub first_sound : (seats : Seats) (log : List Event) → log ≡ [] → length seats.threads ≡ 1 → IsSound false 0 0 seats log
+first_sound seats log none one =
+    record {
+      on_stack = λ e. cc;
+      within = λ e. cc;
+      made = λ i. ap (λ log. is_thread log i) none ∙ first_made i ∙ ap (nat_lt i) (sym one);
+    }
 
 pub ruleset starts = (start_there, start_is)
 

@@ -1,12 +1,14 @@
 // Accesses of memory, and fences.
-ghost use Rattle.std.specs.Prelude.{◌≡◌, ◌≢◌, suc, ◌+◌, ◌<◌, [], ◌∷◌, IsSome, IsNone, Some, None, MatchOption, IfOk, OnOk, OnErr, length, slice_get, drop, true};
+ghost use Rattle.std.specs.Prelude.{◌≡◌, ◌≢◌, suc, ℕ, ◌+◌, ◌-◌, ◌<◌, [], ◌∷◌, IsSome, IsNone, Some, None, MatchOption, IfOk, OnOk, OnErr, length, slice_get, drop, true, false};
 ghost use Rattle.mem_axioms.specs.declared.types.Mode.TheVariants.{Read};
 ghost use Rattle.mem_axioms.specs.declared.types.Kind.TheVariants as kinds;
 ghost use Rattle.mem_axioms.specs.Objects.{HasCell, initial_of};
 ghost use Rattle.mem_axioms.specs.Choices.{choices};
 ghost use Rattle.mem_axioms.specs.Races.{race};
 ghost use Rattle.mem_axioms.specs.EventFits.{EventFits, is_thread};
-ghost use Rattle.mem_axioms.specs.Rooms.{HasRoom};
+ghost use Rattle.mem_axioms.specs.Rooms.{HasRoom, one_less};
+ghost use Rattle.mem_axioms.specs.Synchronizes.{makes_thread};
+ghost use Rattle.mem_axioms.specs.Lemmas.Kept.{is_any_access};
 ghost use Rattle.mu_model.specs.declared.lines.Line.TheVariants as written;
 ghost use Rattle.mu_model.specs.Acts as acts;
 ghost use Rattle.mu_model.specs.Accesses.{wanted, updated, kind_of, access_results};
@@ -15,6 +17,7 @@ ghost use Rattle.mu_threads.specs.Picks.{pick as pick_of};
 ghost use Rattle.mu_model.specs.Outcomes.{Stuck};
 ghost use Rattle.frames.specs.Chains.{stands};
 ghost use Rattle.step_forms.specs.Asked.{access_of};
+ghost use Rattle.mu_step.specs.Held.{ahead};
 ghost use Rattle.mu_step.specs.Outcome.{Stays};
 ghost use Rattle.mu_step.specs.Acting.{answers, acting};
 ghost use Rattle.mu_step.specs.Remembering.{initials};
@@ -75,7 +78,7 @@ fn updated(op: UpdateOp, old: Scalar, operand: Scalar) -> Scalar
 }
 
 /// A read of the scalar that was chosen.
-fn read(cell: CellId, order: Order, chosen: Chosen) -> Kind
+pub(crate) fn read(cell: CellId, order: Order, chosen: Chosen) -> Kind
     ensures { result ≡ kinds.Access Read cell order chosen.position chosen.value }
 {
     Kind::Access {
@@ -148,7 +151,7 @@ fn write_results(access: Access, chosen: Chosen, values: &mut Slots) -> Result<(
 }
 
 /// The line of an event with that number.
-fn line_of(alloc: Global, number: u32, event: Event) -> Result<Lines, AllocError>
+pub(crate) fn line_of(alloc: Global, number: u32, event: Event) -> Result<Lines, AllocError>
     ensures { IfOk result (λ lines. lines ≡ written.Event number event ∷ []) }
 {
     let mut lines = Lines::new(alloc);
@@ -159,7 +162,9 @@ fn line_of(alloc: Global, number: u32, event: Event) -> Result<Lines, AllocError
 /// How many options an access of a cell has, and the one that is picked.
 fn option_picked<M: Memory, L: Ledger>(
     memory: &M,
+    thread: u32,
     picks: &Schedule,
+    skip: u32,
     cell: CellId,
     wanted: &Wanted,
     blank: Blank,
@@ -167,22 +172,26 @@ fn option_picked<M: Memory, L: Ledger>(
     requires name { blank.name ≡ L.name }
     requires parts { blank.parts ≡ L.parts }
     requires one { L.parts ≡ 1 }
-    requires thread { is_thread (M.log memory.now) 0 ≡ true }
+    requires thread { is_thread (M.log memory.now) thread ≡ true }
     requires cell { HasCell (M.objects memory.now) cell }
     requires events { length (M.log memory.now) + 1 < 4294967295 }
-    ensures count { result.0 ≡ length (choices (M.rule memory.now) (initial_of (M.objects memory.now)) (M.log memory.now) 0 cell wanted.now) }
+    ensures count { result.0 ≡ length (choices (M.rule memory.now) (initial_of (M.objects memory.now)) (M.log memory.now) thread cell wanted.now) }
     ensures some { 0 < result.0 }
-    ensures option { slice_get (choices (M.rule memory.now) (initial_of (M.objects memory.now)) (M.log memory.now) 0 cell wanted.now) (pick_of result.0 (drop 0 picks.now)).0 ≡ Some result.1 }
+    ensures option { slice_get (choices (M.rule memory.now) (initial_of (M.objects memory.now)) (M.log memory.now) thread cell wanted.now) (pick_of result.0 (drop skip picks.now)).0 ≡ Some result.1 }
 {
     let mut counter = Steps::<L>::new(blank);
-    let options = memory.options(0, cell, wanted, &mut counter);
-    let picked = picks.look(0, options);
-    let chosen = memory.choose(0, cell, wanted, picked, &mut counter);
+    let options = memory.options(thread, cell, wanted, &mut counter);
+    let picked = picks.look(skip, options);
+    let chosen = memory.choose(thread, cell, wanted, picked, &mut counter);
     (options, chosen)
 }
 
 /// A memory gets an event; where it races, that is the answer, and the memory is as before.
-fn commit<M: Memory, L: Ledger>(memory: &mut M, event: Event, blank: Blank) -> Option<Race>
+pub(crate) fn commit<M: Memory, L: Ledger>(
+    memory: &mut M,
+    event: Event,
+    blank: Blank,
+) -> Option<Race>
     requires name { blank.name ≡ L.name }
     requires parts { blank.parts ≡ L.parts }
     requires one { L.parts ≡ 1 }
@@ -192,11 +201,42 @@ fn commit<M: Memory, L: Ledger>(memory: &mut M, event: Event, blank: Blank) -> O
     ensures race { MatchOption result (race (M.rule memory.old) (M.log memory.old) event ≡ None) (λ found. race (M.rule memory.old) (M.log memory.old) event ≡ Some found.earlier) }
     ensures added { IsNone result → M.log memory.new ≡ event ∷ M.log memory.old }
     ensures raced { IsSome result → M.log memory.new ≡ M.log memory.old }
+    ensures left { IsNone result → M.room memory.new ≡ one_less (M.room memory.old) }
     ensures same_objects { M.objects memory.new ≡ M.objects memory.old }
     ensures same_rule { M.rule memory.new ≡ M.rule memory.old }
 {
     let mut counter = Steps::<L>::new(blank);
     memory.commit(event, &mut counter)
+}
+
+/// A memory gets an event that is no access, and so races with none.
+#[tactic(auto, using(crate::specs::AccessLaws::others_alone))]
+pub(crate) fn commit_other<M: Memory, L: Ledger>(memory: &mut M, event: Event, blank: Blank)
+    requires name { blank.name ≡ L.name }
+    requires parts { blank.parts ≡ L.parts }
+    requires one { L.parts ≡ 1 }
+    requires other { is_any_access event ≡ false }
+    requires fits { EventFits (M.rule memory.old) (M.objects memory.old) (M.log memory.old) event }
+    requires room { 0 < (M.room memory.old).events }
+    requires count { length (M.log memory.old) + 1 < 4294967295 }
+    ensures added { M.log memory.new ≡ event ∷ M.log memory.old }
+    ensures left { (M.room memory.new).events ≡ (M.room memory.old).events - 1 }
+    ensures same_objects { M.objects memory.new ≡ M.objects memory.old }
+    ensures same_rule { M.rule memory.new ≡ M.rule memory.old }
+{
+    match commit::<M, L>(memory, event, blank) {
+        None => {}
+        Some(_race) => unreachable!(),
+    }
+}
+
+/// So many picks are taken, and then one among so many options.
+fn take_picks(picks: &mut Schedule, skip: u32, options: u32)
+    requires { 0 < options }
+    ensures { picks.new ≡ (pick_of options (drop skip picks.old)).1 }
+{
+    picks.skip(skip);
+    picks.pick(options);
 }
 
 impl<M: Memory> State<M> {
@@ -252,13 +292,15 @@ impl<M: Memory> State<M> {
     {
         let (options, chosen) = option_picked::<M, Brand>(
             &self.memory,
+            self.thread,
             &self.picks,
+            self.skip,
             cell,
             &wanted(access),
             Blank::new(1),
         );
         let event = Event {
-            thread: 0,
+            thread: self.thread,
             kind: kind_of(access, cell, chosen),
         };
         write_results(access, chosen, values)?;
@@ -267,13 +309,13 @@ impl<M: Memory> State<M> {
     }
 
     /// The ending of a run whose last event races.
-    fn race_ending(&self, event: Event, race: Race) -> Ending
+    pub(crate) fn race_ending(&self, event: Event, race: Race) -> Ending
         ensures { result ≡ race_at self.now event race.earlier }
     {
         let top = self.frames.top();
         Ending::Undefined {
             case: Case::DataRace,
-            thread: 0,
+            thread: self.thread,
             block: top.block,
             at: top.at,
             race: Some(Raced {
@@ -285,7 +327,7 @@ impl<M: Memory> State<M> {
 
     /// The thread's event is logged, and it goes on at a place, with the values in the list for its variables; a pick among so many
     /// options is taken. Where the event races that is the ending.
-    fn log(
+    pub(crate) fn log(
         &mut self,
         alloc: Global,
         event: Event,
@@ -296,20 +338,22 @@ impl<M: Memory> State<M> {
     ) -> Result<StepEnd, AllocError>
         requires left { self.old.left ≡ true }
         requires room { self.old.steps < self.old.budget }
+        requires makes { (i : ℕ) → makes_thread i event ≡ false }
         requires fits { EventFits self.old.rule (initials self.old.objects) self.old.log event }
-        requires cell { HasRoom (record { thread = 0; cell = cell; events = 1 }) event }
+        requires cell { HasRoom (record { thread = self.old.thread; cell = cell; events = 1 }) event }
         requires options { 0 < options }
-        ensures ok { IfOk result (λ end. answers end self.new ≡ logs self.old event (pick options self.old.picks).1 (record self.old.frames { top = stands self.old.frames.top place.block place.at out.old.values })) }
+        ensures ok { IfOk result (λ end. answers end self.new ≡ logs self.old event (pick options (ahead self.old)).1 (record self.old.frames { top = stands self.old.frames.top place.block place.at out.old.values })) }
         ensures err { OnErr result (self.new ≡ self.old) }
         ensures stays { IfOk result (λ end. Stays end self.old self.new) }
     {
         let lines = line_of(alloc, self.events, event)?;
-        self.memory.reserve(0, cell, 1)?;
+        self.memory.reserve(self.thread, cell, 1)?;
         match commit::<M, Brand>(&mut self.memory, event, Blank::new(1)) {
             Some(race) => Ok(ended(alloc, self.race_ending(event, race))),
             None => {
                 stand(&mut self.frames, place, out);
-                self.picks.pick(options);
+                take_picks(&mut self.picks, self.skip, options);
+                self.skip = 0;
                 self.events += 1;
                 self.steps += 1;
                 Ok(StepEnd::Went(lines))
@@ -334,7 +378,7 @@ impl<M: Memory> State<M> {
         ensures stays { IfOk result (λ end. Stays end self.old self.new) }
     {
         let event = Event {
-            thread: 0,
+            thread: self.thread,
             kind: Kind::Fence { order },
         };
         values.clear();

@@ -1,4 +1,4 @@
-// What one thread does.
+// What the thread in hand does.
 ghost use Rattle.std.specs.Prelude.{◌≡◌, ◌≢◌, ◌+◌, ◌<◌, [], ◌∷◌, ◌++◌, IsSome, Some, IfOk, OnErr, true};
 ghost use Rattle.typed_heap.specs.Heap.{AreNarrow};
 ghost use Rattle.frames.specs.Activations.{Value};
@@ -6,21 +6,21 @@ ghost use Rattle.frames.specs.Chains.{stands};
 ghost use Rattle.mu_model.specs.Outcomes.{Stuck};
 ghost use Rattle.mu_model.specs.Acts as acts;
 ghost use Rattle.step_forms.specs.Asked.{asked, lists_of};
-ghost use Rattle.step_forms.specs.Built.{act_is_built};
 ghost use Rattle.step_forms.specs.Classes.{ActIsThere};
-ghost use Rattle.mu_step.specs.Built.{IsBuilt};
-ghost use Rattle.mu_step.specs.OneThread.{OneThread};
+ghost use Rattle.mu_step.specs.Held.{Held};
 ghost use Rattle.mu_step.specs.Outcome.{Stays};
-ghost use Rattle.mu_step.specs.Acting.{answers, went_on, acting, stepping};
+ghost use Rattle.mu_step.specs.Acting.{answers, went_on, acting, stepping, told};
 ghost use Rattle.mu_step.specs.Making.{graph_of};
+ghost use Rattle.mu_step.specs.StepLaws.{GoesOn};
+ghost use Rattle.mu_step.specs.Rare.{is_rare};
 
 use crate::flow::{passing, push_on_top, stand};
 use crate::making::Making;
-use crate::state::{State, ended};
+use crate::state::State;
 use bundle_check::Checked;
 use bundle_facts::widths_are_narrow;
 use mem_axioms::Memory;
-use mu_model::{Ending, StepEnd};
+use mu_model::StepEnd;
 use mu_values::{Scalar, Slots};
 use std::alloc::{AllocError, Global};
 use step_forms::{Act, Room, Variables, decide, forms_are_there};
@@ -40,7 +40,7 @@ impl<M: Memory> State<M> {
         requires there { acting code.now self.old (acts.Gives results.now.values) ≢ Stuck }
         ensures ok { IfOk result (λ end. answers end self.new ≡ acting code.now self.old (acts.Gives results.now.values)) }
         ensures err { OnErr result (self.new ≡ self.old) }
-        ensures stays { IfOk result (λ end. (s t : OneThread) → Stays end s t) }
+        ensures stays { IfOk result (λ end. (s t : Held) → Stays end s t) }
     {
         let place = passing(code, self.frames.top(), results, out)?;
         stand(&mut self.frames, place, out);
@@ -53,7 +53,7 @@ impl<M: Memory> State<M> {
         requires room { self.old.steps < self.old.budget }
         ensures ok { IfOk result (λ end. answers end self.new ≡ went_on (record self.old { frames = record self.old.frames { top = stands self.old.frames.top self.old.frames.top.block (self.old.frames.top.at + 1) (self.old.frames.top.vars ++ (scalar ∷ []) ∷ []) } })) }
         ensures err { OnErr result (self.new ≡ self.old) }
-        ensures stays { IfOk result (λ end. (s t : OneThread) → Stays end s t) }
+        ensures stays { IfOk result (λ end. (s t : Held) → Stays end s t) }
     {
         push_on_top(&mut self.frames, scalar)?;
         Ok(self.went(alloc))
@@ -73,7 +73,7 @@ impl<M: Memory> State<M> {
         requires there { acting code.now self.old (acts.Gives ((scalar ∷ []) ∷ [])) ≢ Stuck }
         ensures ok { IfOk result (λ end. answers end self.new ≡ acting code.now self.old (acts.Gives ((scalar ∷ []) ∷ []))) }
         ensures err { OnErr result (self.new ≡ self.old) }
-        ensures stays { IfOk result (λ end. (s t : OneThread) → Stays end s t) }
+        ensures stays { IfOk result (λ end. (s t : Held) → Stays end s t) }
     {
         values.clear();
         values.push_scalar(scalar)?;
@@ -95,7 +95,7 @@ impl<M: Memory> State<M> {
         requires there { acting code.now self.old (acts.Gives ((scalar ∷ []) ∷ [])) ≢ Stuck }
         ensures ok { IfOk result (λ end. answers end self.new ≡ acting code.now self.old (acts.Gives ((scalar ∷ []) ∷ []))) }
         ensures err { OnErr result (self.new ≡ self.old) }
-        ensures stays { IfOk result (λ end. (s t : OneThread) → Stays end s t) }
+        ensures stays { IfOk result (λ end. (s t : Held) → Stays end s t) }
     {
         let top = self.frames.top();
         if top.fresh {
@@ -112,14 +112,14 @@ impl<M: Memory> State<M> {
         requires left { self.old.left ≡ true }
         requires room { self.old.steps < self.old.budget }
         ensures on { answers result self.new ≡ went_on (record self.old { frames = record self.old.frames { top = stands self.old.frames.top block 0 values.old.values } }) }
-        ensures end { (s t : OneThread) → Stays result s t }
+        ensures end { (s t : Held) → Stays result s t }
     {
         self.frames.jump(block, values);
         self.went(alloc)
     }
 
-    /// The thread does an act, whose values and classes stand in the room.
-    #[tactic(auto, using(crate::specs::ActLaws::goes_is))]
+    /// The thread does an act, whose values and classes stand in the room, and which is no trap. No watchpoint is enabled.
+    #[tactic(auto, using(crate::specs::ActLaws::goes_is, crate::specs::TrapLaws::watching))]
     fn perform(
         &mut self,
         alloc: Global,
@@ -131,7 +131,8 @@ impl<M: Memory> State<M> {
         requires left { self.old.left ≡ true }
         requires room { self.old.steps < self.old.budget }
         requires narrow { AreNarrow (graph_of code.now) }
-        requires built { act_is_built act ≡ true }
+        requires plain { act ≢ Act.Traps }
+        requires waits { GoesOn self.old }
         requires classes { ActIsThere (graph_of code.now) (lists_of room.old) act }
         requires there { acting code.now self.old (asked act (lists_of room.old)) ≢ Stuck }
         ensures ok { IfOk result (λ end. answers end self.new ≡ acting code.now self.old (asked act (lists_of room.old))) }
@@ -157,10 +158,10 @@ impl<M: Memory> State<M> {
             Act::MakesOwn { class } => self.make(alloc, code, class, Making::Own, values, out),
             Act::Accesses { access, cell } => self.access(alloc, code, access, cell, values, out),
             Act::Fences(order) => self.fence(alloc, code, order, values, out),
-            Act::Traps
-            | Act::Watches { .. }
-            | Act::Chooses { .. }
-            | Act::Swaps { .. }
+            Act::Watches { block, .. } => Ok(self.go(alloc, block, values)),
+            Act::Chooses { disabled, .. } => Ok(self.go(alloc, disabled, values)),
+            Act::Traps => unreachable!(),
+            Act::Swaps { .. }
             | Act::Leaves { .. }
             | Act::Starts { .. }
             | Act::MakesStack { .. }
@@ -170,20 +171,65 @@ impl<M: Memory> State<M> {
             | Act::SetsOwn(_)
             | Act::TellsOwn
             | Act::Waits { .. }
-            | Act::Wakes { .. } => unreachable!(),
+            | Act::Wakes { .. } => self.perform_rare(alloc, code, act, room, out),
+        }
+    }
+
+    /// The same of acts on stacks, threads and cells that threads wait at.
+    fn perform_rare(
+        &mut self,
+        alloc: Global,
+        code: &Checked,
+        act: Act,
+        room: &mut Room,
+        out: &mut Slots,
+    ) -> Result<StepEnd, AllocError>
+        requires left { self.old.left ≡ true }
+        requires room { self.old.steps < self.old.budget }
+        requires waits { GoesOn self.old }
+        requires rare { is_rare act ≡ true }
+        requires there { acting code.now self.old (asked act (lists_of room.old)) ≢ Stuck }
+        ensures ok { IfOk result (λ end. answers end self.new ≡ acting code.now self.old (asked act (lists_of room.old))) }
+        ensures err { OnErr result (self.new ≡ self.old) }
+        ensures stays { IfOk result (λ end. Stays end self.old self.new) }
+    {
+        match act {
+            Act::Swaps { stack, entering } => self.swap(alloc, code, stack, entering, room, out),
+            Act::Leaves { stack, entering } => {
+                self.leave_stack(alloc, code, stack, entering, room, out)
+            }
+            Act::Starts {
+                stack,
+                own,
+                entering,
+            } => self.start_thread(alloc, code, stack, own, entering, room, out),
+            Act::Waits {
+                timed,
+                expected,
+                cell,
+            } => self.wait(alloc, code, timed, expected, cell, &mut room.values, out),
+            Act::Wakes { many, cell } => self.wake(alloc, code, many, cell, &mut room.values, out),
+            Act::MakesStack { function } => {
+                self.make_stack(alloc, code, function, &mut room.values, out)
+            }
+            Act::KillsStack { stack } => {
+                self.kill_stack(alloc, code, stack, &mut room.values, out)
+            }
+            Act::Tells => self.tell_stack(alloc, code, &mut room.values, out),
+            Act::Exits => self.exit(alloc, code),
+            Act::SetsOwn(own) => self.set_own(alloc, code, own, &mut room.values, out),
+            Act::TellsOwn => self.tell_own(alloc, code, &mut room.values, out),
+            _ => unreachable!(),
         }
     }
 
     /// What the thread's next instruction asks, with values and classes in the room.
     #[tactic(auto, using(crate::specs::StepLaws::running))]
     fn asks(&self, code: &Checked, room: &mut Room) -> Result<Act, AllocError>
-        requires built { IsBuilt code.now }
-        requires left { self.now.left ≡ true }
-        requires room { self.now.steps < self.now.budget }
+        requires waits { GoesOn self.now }
         requires there { stepping code.now self.now ≢ Stuck }
         ensures act { IfOk result (λ act. stepping code.now self.now ≡ acting code.now self.now (asked act (lists_of room.new))) }
         ensures classes { IfOk result (ActIsThere (graph_of code.now) (lists_of room.new)) }
-        ensures built { IfOk result (λ act. act_is_built act ≡ true) }
     {
         let _items = code.items();
         forms_are_there();
@@ -200,49 +246,27 @@ impl<M: Memory> State<M> {
     }
 
     /// The thread does its next instruction.
-    fn run(
+    #[tactic(auto, using(crate::specs::StepLaws::told_plain))]
+    pub(crate) fn run(
         &mut self,
         alloc: Global,
         code: &Checked,
         room: &mut Room,
         out: &mut Slots,
     ) -> Result<StepEnd, AllocError>
-        requires built { IsBuilt code.now }
         requires left { self.old.left ≡ true }
         requires room { self.old.steps < self.old.budget }
+        requires waits { GoesOn self.old }
         requires there { stepping code.now self.old ≢ Stuck }
-        ensures ok { IfOk result (λ end. answers end self.new ≡ stepping code.now self.old) }
+        ensures ok { IfOk result (λ end. answers end self.new ≡ told code.now (stepping code.now self.old)) }
         ensures err { OnErr result (self.new ≡ self.old) }
         ensures stays { IfOk result (λ end. Stays end self.old self.new) }
     {
         let _items = code.items();
         widths_are_narrow();
-        let act = self.asks(code, room)?;
-        self.perform(alloc, code, act, room, out)
-    }
-
-    /// One step of the run.
-    #[tactic(auto, using(crate::specs::StepLaws::step_is_done, crate::specs::StepLaws::step_is_over))]
-    pub(crate) fn step(
-        &mut self,
-        alloc: Global,
-        code: &Checked,
-        room: &mut Room,
-        out: &mut Slots,
-    ) -> Result<StepEnd, AllocError>
-        requires built { IsBuilt code.now }
-        requires there { stepping code.now self.old ≢ Stuck }
-        ensures ok { IfOk result (λ end. answers end self.new ≡ stepping code.now self.old) }
-        ensures err { OnErr result (self.new ≡ self.old) }
-        ensures stays { IfOk result (λ end. Stays end self.old self.new) }
-    {
-        if !self.left {
-            return Ok(ended(alloc, Ending::Done));
+        match self.asks(code, room)? {
+            Act::Traps => self.trap(alloc, code),
+            act => self.perform(alloc, code, act, room, out),
         }
-        let steps = self.steps;
-        if steps < self.budget {
-            return self.run(alloc, code, room, out);
-        }
-        Ok(ended(alloc, Ending::Budget { steps }))
     }
 }

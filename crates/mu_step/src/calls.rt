@@ -2,7 +2,7 @@
 ghost use Rattle.std.specs.Prelude.{◌≡◌, ◌≢◌, ◌<◌, IsSome, Some, IfOk, IfSome, OnErr, true};
 ghost use Rattle.mu_model.specs.Outcomes.{Stuck};
 ghost use Rattle.mu_model.specs.Acts as acts;
-ghost use Rattle.mu_step.specs.OneThread.{OneThread};
+ghost use Rattle.mu_step.specs.Held.{Held};
 ghost use Rattle.mu_step.specs.Outcome.{Stays};
 ghost use Rattle.mu_step.specs.Acting.{answers, went_on, acting, awaited, entered, entered_above, objects_end};
 
@@ -96,7 +96,7 @@ impl<M: Memory> State<M> {
         requires left { self.old.left ≡ true }
         requires room { self.old.steps < self.old.budget }
         ensures on { answers result self.new ≡ went_on (record self.old { frames = record self.old.frames { top = entered block values.old.values }; objects = objects_end self.old.objects self.old.frames.top.objects }) }
-        ensures end { (s t : OneThread) → Stays result s t }
+        ensures end { (s t : Held) → Stays result s t }
     {
         end_objects(&mut self.heap, self.frames.top().cells.as_slice());
         replace_top(&mut self.frames, block, values);

@@ -42,7 +42,7 @@ fn is_fault(case: Case) -> bool
 
 /// Adds an exception to the values for a block, where the block has a handler.
 #[tactic(auto, using(crate::specs::ActLaws::gets_plain, crate::specs::ActLaws::gets_exception))]
-fn add_exception(
+pub(crate) fn add_exception(
     code: &Checked,
     block: u32,
     exception: Scalar,
@@ -58,7 +58,7 @@ fn add_exception(
 }
 
 /// The block of a frame's handler. The values for it are written to a list.
-fn handler_goal(frame: &Frame, out: &mut Slots) -> Result<u32, AllocError>
+pub(crate) fn handler_goal(frame: &Frame, out: &mut Slots) -> Result<u32, AllocError>
     requires { IsSome frame.now.handler }
     ensures { IfOk result (λ block. IsSomeAnd frame.now.handler (λ h. goal_of h ≡ record { block = block; values = out.new.values })) }
 {

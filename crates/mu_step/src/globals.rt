@@ -7,7 +7,7 @@ ghost use Rattle.typed_heap.specs.Heap.{AreNarrow};
 ghost use Rattle.mu_model.specs.Run.{global_objects, cells_taken};
 ghost use Rattle.model_numbers.specs.Numbered.{numbered};
 ghost use Rattle.mu_step.specs.Acting.{entered};
-ghost use Rattle.mu_step.specs.OneThread.{configuration};
+ghost use Rattle.mu_step.specs.Held.{configuration};
 ghost use Rattle.mu_step.specs.Plain.{plain_setting};
 ghost use Rattle.mu_step.specs.Starting.{global_object, starting};
 
@@ -22,6 +22,7 @@ use mem_axioms::Memory;
 use mu_threads::Schedule;
 use mu_types::{Classes, TypeDef};
 use mu_values::Slots;
+use seats::Seats;
 use std::alloc::{AllocError, Global};
 use typed_heap::Heap;
 
@@ -85,7 +86,7 @@ fn first_frames(alloc: Global, block: u32) -> Result<Frames, AllocError>
 
 impl<M: Memory + Drop> State<M> {
     /// Thread 0 on stack 0, in that function, with the objects of a heap, of which the memory is told.
-    #[tactic(auto, using(crate::specs::Starting::starts))]
+    #[tactic(auto, using(crate::specs::Starting::starts, crate::specs::Starting::first_sound))]
     pub(crate) fn start(
         alloc: Global,
         code: &Checked,
@@ -99,19 +100,26 @@ impl<M: Memory + Drop> State<M> {
         requires objects { M.objects memory ≡ [] }
         requires budget { budget ≤ 1000000 }
         requires there { IsSomeAnd ((numbered code.now).body entry) IsSome }
-        ensures { IfOk result (λ state. (cells : ℕ) → heap.left ≡ cells - cells_taken (bundle_tables code.now) heap.objects → starting code.now (plain_setting heap.objects picks (M.rule memory) cells budget) entry ≡ Some (configuration state)) }
+        ensures whole { IfOk result (λ state. state.skip ≡ 0) }
+        ensures first { IfOk result (λ state. (cells : ℕ) → heap.left ≡ cells - cells_taken (bundle_tables code.now) heap.objects → starting code.now (plain_setting heap.objects picks (M.rule memory) cells budget) entry ≡ Some (configuration state)) }
     {
         match code.function(entry).first {
             None => unreachable!(),
             Some(block) => {
                 remember_all(alloc, &heap, &mut memory)?;
-                let frames = first_frames(alloc, block)?;
+                let hand = first_frames(alloc, block)?;
+                let first = first_frames(alloc, block)?;
+                let seats = Seats::new(alloc, first)?;
                 Ok(State {
-                    frames,
-                    left: true,
+                    thread: 0,
+                    stack: 0,
+                    frames: hand,
+                    left: false,
+                    seats,
                     heap,
                     memory,
                     picks,
+                    skip: 0,
                     events: 0,
                     steps: 0,
                     budget,

@@ -4,10 +4,9 @@ ghost use Rattle.bundle_check.specs.Checking.{bundle_tables};
 ghost use Rattle.mu_model.specs.Programs.{named};
 ghost use Rattle.mu_model.specs.Outcomes.{Stuck};
 ghost use Rattle.mu_model.specs.Step.{step};
-ghost use Rattle.mu_model.specs.Run.{cells_taken, first_configuration};
+ghost use Rattle.mu_model.specs.Run.{cells_taken, first_configuration, client_answers};
 ghost use Rattle.mu_step.specs.Plain.{plain_setting};
 ghost use Rattle.mu_step.specs.Outcome.{outcome_of, Stays};
-ghost use Rattle.mu_step.specs.Built.{IsBuilt};
 
 use crate::state::State;
 use bundle_check::Checked;
@@ -21,7 +20,7 @@ use std::marker::Model;
 use step_forms::Room;
 use typed_heap::Heap;
 
-/// A machine that runs checked code on one thread, over any memory. Contracts see the bundle and the configuration that its run has
+/// A machine that runs checked code, over any memory. Contracts see the bundle and the configuration that its run has
 /// come to.
 #[derive(Drop)]
 pub struct Machine<'a, M: Memory> {
@@ -34,12 +33,15 @@ pub struct Machine<'a, M: Memory> {
 }
 
 impl<'a, M: Memory> Model for Machine<'a, M> {
+    ghost use Rattle.std.specs.Prelude.{◌≡◌};
     ghost use Rattle.mu_step.specs.Plain.{Running};
-    ghost use Rattle.mu_step.specs.OneThread.{configuration};
+    ghost use Rattle.mu_step.specs.Held.{configuration};
 
     ghost Value = { Running };
 
     ghost view = { λ m. record { bundle = m.code.now; configuration = configuration m.state } };
+
+    ghost invariant = { λ m. m.state.skip ≡ 0 };
 }
 
 impl<'a, M: Memory + Drop> Machine<'a, M> {
@@ -75,13 +77,12 @@ impl<'a, M: Memory + Drop> Machine<'a, M> {
         })
     }
 
-    /// One step of the run. Where no memory is found, and where the step gives the ending, nothing changes; an ending comes without
-    /// lines, and the next step gives it again.
+    /// One step of the run. No client answers, so a trap stops the run. Where no memory is found, and where the step gives the ending,
+    /// nothing changes, and the next step gives the same again.
     #[tactic(auto, using(crate::specs::Machines::machines))]
     pub fn step(&mut self) -> Result<StepEnd, AllocError>
-        requires built { IsBuilt self.old.bundle }
         requires there { step (named self.old.bundle) self.old.configuration ≢ Stuck }
-        ensures ok { IfOk result (λ end. outcome_of end self.new.configuration ≡ step (named self.old.bundle) self.old.configuration) }
+        ensures ok { IfOk result (λ end. outcome_of end self.new.configuration ≡ client_answers (named self.old.bundle) self.old.configuration.client (step (named self.old.bundle) self.old.configuration)) }
         ensures bundle { self.new.bundle ≡ self.old.bundle }
         ensures err { OnErr result (self.new ≡ self.old) }
         ensures stays { IfOk result (λ end. Stays end self.old.configuration self.new.configuration) }

@@ -205,9 +205,9 @@ impl<M: Memory> State<M> {
     ) -> Result<StepEnd, AllocError>
         requires left { self.old.left ≡ true }
         requires room { self.old.steps < self.old.budget }
-        requires there { asked < 2 ^ 128 - 1 → faulting code.now self.old (endings.HeapFull 0 asked left) ≢ Stuck }
+        requires there { asked < 2 ^ 128 - 1 → faulting code.now self.old (endings.HeapFull self.old.thread asked left) ≢ Stuck }
         ensures exact { OnOk result (asked < 2 ^ 128 - 1) }
-        ensures ok { IfOk result (λ end. answers end self.new ≡ faulting code.now self.old (endings.HeapFull 0 asked left)) }
+        ensures ok { IfOk result (λ end. answers end self.new ≡ faulting code.now self.old (endings.HeapFull self.old.thread asked left)) }
         ensures err { OnErr result (self.new ≡ self.old) }
         ensures stays { IfOk result (λ end. Stays end self.old self.new) }
     {
@@ -218,7 +218,7 @@ impl<M: Memory> State<M> {
             alloc,
             code,
             Ending::HeapFull {
-                thread: 0,
+                thread: self.thread,
                 asked,
                 left,
             },

@@ -75,3 +75,15 @@ pub(crate) fn leave_frames(frames: &mut Frames, heap: &mut Heap, n: u32)
         leave_one(frames, heap);
     }
 }
+
+/// The cells of the objects of all frames are dead.
+#[tactic(auto, using(crate::specs::Lists::all_ending))]
+pub(crate) fn end_frames(frames: &Frames, heap: &mut Heap)
+    ensures objects { heap.new.objects ≡ objects_end heap.old.objects (flat_map (λ (f : Activation). f.objects) (frames_of frames.now)) }
+    ensures left { heap.new.left ≡ heap.old.left }
+    ensures initials { initials heap.new.objects ≡ initials heap.old.objects }
+{
+    for n in 0..frames.count() {
+        end_objects(heap, frames.frame(n).cells.as_slice());
+    }
+}

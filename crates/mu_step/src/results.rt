@@ -2,7 +2,6 @@
 ghost use Rattle.std.specs.Prelude.{◌≡◌, ◌≢◌, ◌<◌, [], ◌∷◌, IsSome, Some, IfOk, OnErr, length, true};
 ghost use Rattle.mu_values.specs.Slots.{TypedValues};
 ghost use Rattle.mu_model.specs.declared.lines.Line.TheVariants as noted;
-ghost use Rattle.mu_model.specs.declared.lines.Note.TheVariants.{Returned};
 ghost use Rattle.mu_model.specs.Outcomes.{Stuck};
 ghost use Rattle.mu_model.specs.Acts as acts;
 ghost use Rattle.mu_step.specs.Outcome.{Stays};
@@ -21,7 +20,7 @@ use std::mem;
 use step_forms::Room;
 
 /// The values in the room with their classes, of which there are as many.
-fn taken(alloc: Global, room: &mut Room) -> Result<Passed, AllocError>
+pub(crate) fn taken(alloc: Global, room: &mut Room) -> Result<Passed, AllocError>
     ensures { IfOk result (λ values. values ≡ record { types = room.old.types.members; values = room.old.values.values }) }
 {
     if room.types.len() != room.values.len() {
@@ -32,12 +31,12 @@ fn taken(alloc: Global, room: &mut Room) -> Result<Passed, AllocError>
     Ok(Passed::new(types, values))
 }
 
-/// The record of what thread 0 returned.
-fn returned(alloc: Global, values: Passed) -> Result<Lines, AllocError>
-    ensures { IfOk result (λ lines. lines ≡ noted.Note (Returned 0 values) ∷ []) }
+/// The one line of a record.
+pub(crate) fn line(alloc: Global, note: Note) -> Result<Lines, AllocError>
+    ensures { IfOk result (λ lines. lines ≡ noted.Note note ∷ []) }
 {
     let mut lines = Lines::new(alloc);
-    lines.push(Line::Note(Note::Returned { thread: 0, values }))?;
+    lines.push(Line::Note(note))?;
     Ok(lines)
 }
 
@@ -66,13 +65,13 @@ impl<M: Memory> State<M> {
     }
 
     /// The bottom frame returns, and the thread ends.
-    #[tactic(auto, using(crate::specs::ActLaws::return_finishes))]
     fn finish(
         &mut self,
         alloc: Global,
         code: &Checked,
         room: &mut Room,
     ) -> Result<StepEnd, AllocError>
+        requires left { self.old.left ≡ true }
         requires room { self.old.steps < self.old.budget }
         requires bottom { self.old.frames.below ≡ [] }
         requires there { acting code.now self.old (acts.Returns (record { types = room.old.types.members; values = room.old.values.values })) ≢ Stuck }
@@ -80,9 +79,10 @@ impl<M: Memory> State<M> {
         ensures err { OnErr result (self.new ≡ self.old) }
         ensures stays { IfOk result (λ end. Stays end self.old self.new) }
     {
-        let lines = returned(alloc, taken(alloc, room)?)?;
-        end_objects(&mut self.heap, self.frames.top().cells.as_slice());
-        self.left = false;
+        let values = taken(alloc, room)?;
+        let thread = self.thread;
+        let lines = line(alloc, Note::Returned { thread, values })?;
+        self.end_thread();
         self.steps += 1;
         Ok(StepEnd::Went(lines))
     }

@@ -4,7 +4,7 @@ ghost use Rattle.bundle_check.specs.Checking.{bundle_tables};
 ghost use Rattle.frames.specs.FrameOf.{frame_of, goal_of};
 ghost use Rattle.mu_model.specs.Types.{classes_given};
 ghost use Rattle.model_numbers.specs.Numbered.{optional_goal_at, kept_at};
-ghost use Rattle.mu_step.specs.Acting.{awaited, with_awaited, entered, entered_above};
+ghost use Rattle.mu_step.specs.Acting.{awaits, awaited, with_awaited, entered, entered_above};
 
 use bundle_check::Checked;
 use code_check::Target;
@@ -85,7 +85,6 @@ fn kept(alloc: Global, types: &[u32], own: &Slots, names: &[u32]) -> Result<Pass
 }
 
 /// What a frame waits for that calls a function.
-#[tactic(auto, using(crate::specs::ActLaws::awaiting))]
 pub(crate) fn waiting(
     alloc: Global,
     code: &Checked,
@@ -95,9 +94,23 @@ pub(crate) fn waiting(
     requires { IsSome (awaited code.now (frame_of frame.now) function) }
     ensures { IfOk result (λ w. awaited code.now (frame_of frame.now) function ≡ Some w) }
 {
+    let waits = classes_given(alloc, code, function)?;
+    waiting_for(alloc, code, frame, waits)
+}
+
+/// What a frame waits for that is to be given values of these classes.
+#[tactic(auto, using(crate::specs::ActLaws::awaiting))]
+pub(crate) fn waiting_for(
+    alloc: Global,
+    code: &Checked,
+    frame: &Frame,
+    waits: Types,
+) -> Result<Wait, AllocError>
+    requires { IsSome (awaits code.now (frame_of frame.now) waits.members) }
+    ensures { IfOk result (λ w. awaits code.now (frame_of frame.now) waits.members ≡ Some w) }
+{
     let block = code.block(frame.block);
     let instruction = &block.code.as_slice()[frame.at as usize];
-    let waits = classes_given(alloc, code, function)?;
     let handler = handler(alloc, code, &frame.slots, &instruction.exceptional)?;
     let kept = kept(
         alloc,
@@ -139,7 +152,7 @@ fn exchange(frame: &mut Frame, waiting: &mut Wait)
 }
 
 /// The same of the top frame.
-fn exchange_on_top(frames: &mut Frames, waiting: &mut Wait)
+pub(crate) fn exchange_on_top(frames: &mut Frames, waiting: &mut Wait)
     ensures frames { frames.new ≡ record frames.old { top = with_awaited frames.old.top waiting.old } }
     ensures before { record frames.new { top = with_awaited frames.new.top waiting.new } ≡ frames.old }
 {

@@ -14,15 +14,14 @@ use Rattle.bundle_names.specs.Naming.{name_demands}
 use Rattle.bundle_check.specs.declared.fault.EntryFault.{EntryFault}
 use Rattle.bundle_check.specs.Checking.{check_demands}
 use Rattle.bundle_check.specs.Answers.{entry}
-use Rattle.mu_step.specs.Built.{built_demands}
 use Rattle.hail_load.specs.declared.tree.Command.{Command}
 use Rattle.hail_load.specs.Code.{code_of}
 use Rattle.hail_load.specs.Texts.{hail_demands, hail_commands}
 use Rattle.mu_threads.specs.ScheduleTexts.{schedule_demands, schedule_numbers}
 use Rattle.mu_texts.specs.declared.what.What.{What}
 use Rattle.mu_texts.specs.declared.what.What.TheVariants.{Bundle, Hail, Schedule}
-use Rattle.mu_texts.specs.Refusals.{name_fault_name, check_fault_name, run_fault_name, hail_fault_name, load_fault_name, schedule_fault_name}
-use Rattle.mu_texts.specs.Answer.{Part, ◌>>=◌, read_part, met_part, named, checked, built, as_written, accepted, to_run, entry_part, entered, filled, hail_part, filled_part, loaded, scheduled}
+use Rattle.mu_texts.specs.Refusals.{name_fault_name, check_fault_name, hail_fault_name, load_fault_name, schedule_fault_name}
+use Rattle.mu_texts.specs.Answer.{Part, ◌>>=◌, read_part, met_part, named, checked, as_written, accepted, entry_part, entered, filled, hail_part, filled_part, loaded, scheduled}
 
 -- an answer that ends the way has a status that is so
 abbrev pub StopsSo : (Status → Type 0) → {A : Type 0} → Part A → Type 0
@@ -54,10 +53,6 @@ module _ (P : Status → Type 0) (refused : P Refused) (memory : P Memory) where
       then P (as_written bytes >>= named) checked
       (then P (as_written bytes) named (reading (text_answer bytes)) (λ bundle. meeting Bundle name_fault_name bundle (first_unmet (name_demands bundle))))
       (λ bundle. meeting Bundle check_fault_name bundle (first_unmet (check_demands bundle)))
-
-  -- a bundle that is accepted and built
-  pub building : (bytes : List ℕ) → StopsSo P (to_run bytes)
-  building bytes = then P (accepted bytes) built (accepting bytes) (λ bundle. meeting Bundle run_fault_name bundle (first_unmet (built_demands bundle)))
 
   -- a text that is a bundle
   pub writing : (bytes : List ℕ) → StopsSo P (as_written bytes)

@@ -1,6 +1,5 @@
 pub mod Accepting
 pub mod Refusing
-pub mod Entering
 pub mod Scripts
 pub mod Runnable
 pub mod Moments

@@ -1,4 +1,4 @@
--- A function that may be entered, of a bundle that is built, can be run.
+-- A function that may be entered, of a bundle that is accepted, can be run.
 use Rattle.std.proofs.Common.{◌≡◌, ℕ, ◌≤◌, List, [], Option, Some, None, IsSome, IsSomeAnd, refl, sym, ◌∙◌, ap, subst}
 use Rattle.std.specs.Prelude.{Result, Ok, Err}
 use Rattle.demands.specs.declared.fault.Fault.{Fault}
@@ -23,10 +23,8 @@ use Rattle.mem_axioms.specs.declared.types.Rule.TheVariants.{C11}
 use Rattle.mu_step.specs.Plain.{plain_setting}
 use Rattle.mu_texts.specs.declared.what.What.{What}
 use Rattle.mu_texts.specs.declared.what.What.TheVariants.{Bundle}
-use Rattle.mu_step.specs.Built.{built_demands}
-use Rattle.mu_step.specs.BuiltLaws.{forms_built}
-use Rattle.mu_texts.specs.Refusals.{name_fault_name, check_fault_name, run_fault_name}
-use Rattle.mu_texts.specs.Answer.{Part, ◌>>=◌, read_part, met_part, named, checked, built, as_written, accepted, entry_part, filled, run_of}
+use Rattle.mu_texts.specs.Refusals.{name_fault_name, check_fault_name}
+use Rattle.mu_texts.specs.Answer.{Part, ◌>>=◌, read_part, met_part, named, checked, as_written, accepted, entry_part, filled, run_of}
 use Rattle.mu_texts.specs.Comes.{IsLoaded, SettingsFit, LoadedRunsEnd, CanBegin}
 
 -- ---- a text that is accepted was read, and met its demands
@@ -69,10 +67,7 @@ unfolding run_of
 loaded_runs_end bytes code one ends fits h = λ s name n loaded there.
     of_accepted EnteredRunsEnd bytes code one ends h s name n (fitting code s (of_accepted SettingsFit bytes code one fits h) loaded) there
 
--- ---- a function that is entered, of a bundle that is accepted and built
-
-pub was_built : (code bundle : List Item) → built code ≡ Ok bundle → code ≡ bundle
-was_built code bundle h = (was_met Bundle run_fault_name code bundle (first_unmet (built_demands code)) h).1
+-- ---- a function that is entered, of a bundle that is accepted
 
 pub was_entered : (r : Result ℕ EntryFault) (n : ℕ) → entry_part r ≡ Ok n → r ≡ Ok n
 was_entered (Ok m) n h = let same : m ≡ n = cc in ap entered_as same
@@ -92,7 +87,7 @@ has_body (Some (Some block)) go h = refl
 abbrev plain : List Item → Setting
 plain code = plain_setting (filled code 0 []).store.objects [] C11 0 0
 
-pub can_begin : (code : List Item) (name : List ℕ) (n : ℕ) → LoadedRunsEnd code → first_unmet (built_demands code) ≡ None → entry code name ≡ Ok n → CanBegin code n
-can_begin code name n ends built entered =
+pub can_begin : (code : List Item) (name : List ℕ) (n : ℕ) → LoadedRunsEnd code → entry code name ≡ Ok n → CanBegin code n
+can_begin code name n ends entered =
     let r = ends (plain code) name n (record { objects = record { commands = []; cells = 0; is = refl }; entries = refl }) entered in
-    record { built = forms_built code built; begins = has_body ((program code).body n) (begins_in (program code) (plain code) n) r.0; ends = λ s loaded. (ends s name n loaded entered).1 }
+    record { begins = has_body ((program code).body n) (begins_in (program code) (plain code) n) r.0; ends = λ s loaded. (ends s name n loaded entered).1 }

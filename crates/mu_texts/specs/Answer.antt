@@ -25,14 +25,13 @@ use Rattle.mu_threads.specs.ScheduleTexts.{schedule_demands, schedule_numbers}
 use Rattle.mu_model.specs.Run.{Setting, global_objects, cells_taken, Run, Ends, Breaks, Unfinished, program_run}
 use Rattle.run_texts.specs.Texts.{ending_status}
 use Rattle.run_texts.specs.Pieces.{pieces_of}
-use Rattle.mu_step.specs.Built.{built_demands}
 use Rattle.mu_texts.specs.declared.what.What.{What}
 use Rattle.mu_texts.specs.declared.what.What.TheVariants.{Bundle, Hail, Schedule}
 use Rattle.mu_texts.specs.declared.ready.Ready.{Ready}
 use Rattle.mu_texts.specs.declared.ready.Ready.TheVariants as ready
 use Rattle.mu_texts.specs.Start.{Started}
 use Rattle.mu_texts.specs.What.{name_of}
-use Rattle.mu_texts.specs.Refusals.{text_fault_name, name_fault_name, check_fault_name, run_fault_name, entry_fault_name, hail_fault_name, load_fault_name, schedule_fault_name}
+use Rattle.mu_texts.specs.Refusals.{text_fault_name, name_fault_name, check_fault_name, entry_fault_name, hail_fault_name, load_fault_name, schedule_fault_name}
 
 -- What is to be written, in the pieces that are put one by one, and the status that goes with it.
 pub record Answer : Type 0 where
@@ -72,15 +71,12 @@ met_part what name x None = Ok x
 met_part what name x (Some (faults.At kind place)) = Err (refused what place (name kind))
 met_part what name x (Some faults.Memory) = Err no_answer
 
--- all its names are defined, each once; it meets all other demands; and all its functions are built
+-- all its names are defined, each once; and it meets all other demands
 abbrev pub named : List Item → Part (List Item)
 named bundle = met_part Bundle name_fault_name bundle (first_unmet (name_demands bundle))
 
 abbrev pub checked : List Item → Part (List Item)
 checked bundle = met_part Bundle check_fault_name bundle (first_unmet (check_demands bundle))
-
-abbrev pub built : List Item → Part (List Item)
-built bundle = met_part Bundle run_fault_name bundle (first_unmet (built_demands bundle))
 
 -- the bundle that a text is
 abbrev pub as_written : List ℕ → Part (List Item)
@@ -106,10 +102,6 @@ abbrev pub for_print : List ℕ → Part Ready
 for_print bytes = as_written bytes >>= λ bundle. Ok (ready.Canonical bundle)
 
 -- ---- what a run is given
-
--- a bundle that is accepted, and whose functions are built
-abbrev pub to_run : List ℕ → Part (List Item)
-to_run bytes = accepted bytes >>= built
 
 -- what commands make of a heap with the objects of the globals, in which so many cells may be made besides
 abbrev pub filled : List Item → ℕ → List Command → Loaded

@@ -14,7 +14,6 @@ use Rattle.mu_model.specs.Programs.{named as program}
 use Rattle.mu_model.specs.Run.{Setting, cells_taken, first_configuration}
 use Rattle.model_laws.specs.Bounds.{HasEnding}
 use Rattle.typed_programs.specs.Laws.{SettingFits}
-use Rattle.mu_step.specs.Built.{IsBuilt}
 use Rattle.ir_tree.specs.declared.items.Item.{Item}
 use Rattle.mu_texts.specs.Start.{Started}
 use Rattle.mu_texts.specs.Answer.{Part, line, refused, filled, run_of}
@@ -70,13 +69,11 @@ LoadedRunsEnd code = (s : Setting) (name : List ℕ) (n : ℕ) → IsLoaded code
 
 -- what the machine asks of a bundle and of a function that its runs begin with, and that they come to their endings
 pub record CanBegin (code : List Item) (n : ℕ) : Type 0 where
-  pub built : IsBuilt code
   pub begins : IsSomeAnd ((program code).body n) IsSome
   pub ends : (s : Setting) → IsLoaded code s → HasEnding (run_of code n s)
 
 -- the same of one run
 pub record IsRunnable (code : List Item) (start : Started) : Type 0 where
-  pub built : IsBuilt code
   pub begins : IsSomeAnd ((program code).body start.entry) IsSome
   pub ends : HasEnding (run_of code start.entry start.setting)
   pub short : start.setting.budget ≤ 1000000

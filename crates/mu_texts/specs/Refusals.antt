@@ -14,8 +14,6 @@ use Rattle.check_tables.specs.declared.fault.CheckKind.{CheckKind}
 use Rattle.check_tables.specs.declared.fault.CheckKind.TheVariants as check_kinds
 use Rattle.bundle_check.specs.declared.fault.EntryFault.{EntryFault}
 use Rattle.bundle_check.specs.declared.fault.EntryFault.TheVariants as entry_faults
-use Rattle.mu_step.specs.declared.built.RunKind.{RunKind}
-use Rattle.mu_step.specs.declared.built.RunKind.TheVariants as run_kinds
 use Rattle.hail_load.specs.declared.fault.HailKind.{HailKind}
 use Rattle.hail_load.specs.declared.fault.HailKind.TheVariants as hail_kinds
 use Rattle.hail_load.specs.declared.fault.LoadKind.{LoadKind}
@@ -67,9 +65,6 @@ check_fault_name check_kinds.BadDestination = codes "BadDestination"
 check_fault_name check_kinds.BadIndex = codes "BadIndex"
 check_fault_name check_kinds.BadSignature = codes "BadSignature"
 check_fault_name check_kinds.EntryParameters = codes "EntryParameters"
-
-abbrev pub run_fault_name : RunKind → List ℕ
-run_fault_name run_kinds.NotBuilt = codes "NotBuilt"
 
 abbrev pub entry_fault_name : EntryFault → List ℕ
 entry_fault_name entry_faults.Unknown = codes "Unknown"

@@ -1,13 +1,12 @@
 // Reads the texts of files, and judges them.
 ghost use Rattle.std.specs.Prelude.{◌≡◌, ◌≤◌, None, Ok, IfOk, OnOk};
 ghost use Rattle.demands.specs.Demands.{first_unmet};
-ghost use Rattle.mu_step.specs.Built.{built_demands};
-ghost use Rattle.mu_texts.specs.Answer.{as_written, named, checked, built, accepted, entered, to_run, for_check, for_print, hail_part, scheduled};
+ghost use Rattle.mu_texts.specs.Answer.{as_written, named, checked, accepted, entered, for_check, for_print, hail_part, scheduled};
 ghost use Rattle.mu_texts.specs.Comes.{Comes, Passes, IsRefusal, LoadedRunsEnd, CanBegin, CanRun};
 
 use crate::ready::Ready;
 use crate::refusals::{
-    check_fault_name, entry_fault_name, hail_fault_name, name_fault_name, refusal, run_fault_name,
+    check_fault_name, entry_fault_name, hail_fault_name, name_fault_name, refusal,
     schedule_fault_name, text_fault_name,
 };
 use crate::stop::Stop;
@@ -20,7 +19,6 @@ use ir_text::{TextFault, answer_is_one, read_bundle};
 use ir_tree::Bundle;
 use loaded_programs::loaded_settings_fit;
 use mu_base::Status;
-use mu_step::are_built;
 use mu_threads::{Schedule, read_schedule};
 use std::alloc::{AllocError, Global};
 use text_programs::entered_runs_have_an_ending;
@@ -90,29 +88,11 @@ fn accept(alloc: Global, bytes: &[u8]) -> Result<Checked, Stop>
     judge_named(alloc, names)
 }
 
-// All functions of a bundle are built.
-fn judge_built(alloc: Global, code: &Checked) -> Result<(), Stop>
-    ensures built { Passes (built code.now) code.now result }
-    ensures met { OnOk result (first_unmet (built_demands code.now) ≡ None) }
-{
-    match are_built(code) {
-        Ok(()) => Ok(()),
-        Err(Fault::Memory) => Err(Stop::Memory),
-        Err(Fault::At { kind, place }) => Err(refused(
-            alloc,
-            What::Bundle,
-            place,
-            run_fault_name(kind),
-        )?),
-    }
-}
-
 /// The number of the function with that name, where a run may begin with it.
 ///
 /// Else the line is `refused entry FAULT`.
 pub fn enter(alloc: Global, code: &Checked, name: &str) -> Result<u32, Stop>
-    requires ends { LoadedRunsEnd code.now }
-    requires built { first_unmet (built_demands code.now) ≡ None }
+    requires { LoadedRunsEnd code.now }
     ensures number { Comes (entered code.now name.now) result }
     ensures begins { IfOk result (CanBegin code.now) }
 {
@@ -123,20 +103,6 @@ pub fn enter(alloc: Global, code: &Checked, name: &str) -> Result<u32, Stop>
             text.extend_from_slice(entry_fault_name(fault).as_bytes())?;
             Err(Stop::Line(text, Status::Refused))
         }
-    }
-}
-
-// A bundle that is to be run: its runs have an ending.
-fn accept_to_run(alloc: Global, bytes: &[u8]) -> Result<Checked, Stop>
-    ensures code { Comes (accepted bytes.now) result }
-    ensures ends { IfOk result LoadedRunsEnd }
-{
-    answer_is_one();
-    entered_runs_have_an_ending();
-    loaded_settings_fit();
-    match accept(alloc, bytes) {
-        Ok(code) => Ok(code),
-        Err(stop) => Err(stop),
     }
 }
 
@@ -160,16 +126,16 @@ pub fn judge_for_print(alloc: Global, bytes: &[u8]) -> Result<Ready, Stop>
     Ok(Ready::Canonical(read(alloc, bytes)?))
 }
 
-/// What `mu run` asks of a bundle's text: a bundle that meets all demands on it, and whose functions are built.
-#[tactic(auto, using(crate::proofs::Entering::entering))]
+/// What `mu run` asks of a bundle's text: a bundle that meets all demands on it. Its runs have an ending.
 pub fn judge_for_run(alloc: Global, bytes: &[u8]) -> Result<Checked, Stop>
-    ensures asked { Comes (to_run bytes.now) result }
+    ensures asked { Comes (accepted bytes.now) result }
     ensures ends { IfOk result LoadedRunsEnd }
-    ensures built { IfOk result (λ code. first_unmet (built_demands code) ≡ None) }
 {
-    let code = accept_to_run(alloc, bytes)?;
-    match judge_built(alloc, &code) {
-        Ok(()) => Ok(code),
+    answer_is_one();
+    entered_runs_have_an_ending();
+    loaded_settings_fit();
+    match accept(alloc, bytes) {
+        Ok(code) => Ok(code),
         Err(stop) => Err(stop),
     }
 }

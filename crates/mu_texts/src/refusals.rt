@@ -1,7 +1,7 @@
 // The lines of refusals.
 ghost use Rattle.std.specs.Prelude.{◌≡◌, ◌++◌, IfOk, codes, decimal};
 ghost use Rattle.mu_texts.specs.What.{name_of};
-ghost use Rattle.mu_texts.specs.Refusals.{lex_fault_name, text_fault_name, name_fault_name, type_fault_name, const_fault_name, check_fault_name, run_fault_name, entry_fault_name, hail_fault_name, load_fault_name, schedule_fault_name};
+ghost use Rattle.mu_texts.specs.Refusals.{lex_fault_name, text_fault_name, name_fault_name, type_fault_name, const_fault_name, check_fault_name, entry_fault_name, hail_fault_name, load_fault_name, schedule_fault_name};
 
 use crate::what::What;
 use bundle_check::EntryFault;
@@ -11,7 +11,6 @@ use hail_load::{HailKind, LoadKind};
 use ir_lex::LexKind;
 use ir_text::TextKind;
 use itoa::Buffer;
-use mu_step::RunKind;
 use mu_threads::ScheduleKind;
 use mu_types::TypeKind;
 use mu_values::ConstKind;
@@ -92,15 +91,6 @@ pub fn check_fault_name(kind: CheckKind) -> &'static str
         CheckKind::BadIndex => "BadIndex",
         CheckKind::BadSignature => "BadSignature",
         CheckKind::EntryParameters => "EntryParameters",
-    }
-}
-
-/// The name of what keeps a bundle from being run, in refusals.
-pub fn run_fault_name(kind: RunKind) -> &'static str
-    ensures { result.now ≡ run_fault_name kind }
-{
-    match kind {
-        RunKind::NotBuilt => "NotBuilt",
     }
 }
 

@@ -1,4 +1,3 @@
-pub mod Built
 pub mod Classes
 pub mod Fields
 pub mod Signed

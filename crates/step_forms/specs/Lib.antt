@@ -1,6 +1,5 @@
 pub mod AccessLaws
 pub mod Asked
-pub mod Built
 pub mod Classes
 pub mod ConstantLaws
 pub mod OperandLaws

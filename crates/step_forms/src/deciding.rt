@@ -3,7 +3,6 @@ ghost use Rattle.std.specs.Prelude.{◌≡◌, true, Some, IsSome, IfOk};
 ghost use Rattle.bundle_check.specs.Checking.{bundle_tables};
 ghost use Rattle.model_numbers.specs.Forms.{computation_at, control_at, allocation_at, addressing_at, access_at, trapping_at, switch_at, common_at, act_at};
 ghost use Rattle.step_forms.specs.Asked.{asked, lists_of, Lists};
-ghost use Rattle.step_forms.specs.Built.{form_is_built, act_is_built};
 ghost use Rattle.step_forms.specs.Classes.{ActIsThere, FormIsThere};
 
 use crate::accessing::{Comparison, atomicrmw, cmpxchg, load, store};
@@ -24,20 +23,6 @@ use code_check::{
     SwitchForm, TrappingForm,
 };
 use std::alloc::AllocError;
-
-/// Whether the machine has a rule for the form.
-pub fn form_is_built(form: &Form) -> bool
-    ensures { result ≡ form_is_built form.now }
-{
-    matches!(
-        form,
-        Form::Computation(_)
-            | Form::Control(_)
-            | Form::Allocation(_)
-            | Form::Addressing(_)
-            | Form::Access(_)
-    )
-}
 
 /// What a computation does.
 fn compute(
@@ -303,7 +288,7 @@ fn common(code: &Checked, vars: &Variables, form: &CommonForm) -> Act
 
 /// What an instruction does, with the values of its block's variables, of which the classes are told. The values and classes that go
 /// with the act stand in the room, which is changed even where no memory is found. A class that the act names, or asks a client for values
-/// of, is in the graph where that of the form is. An act that the machine does not do yet is that of a form without a rule.
+/// of, is in the graph where that of the form is.
 pub fn decide(
     code: &Checked,
     types: &[u32],
@@ -315,7 +300,6 @@ pub fn decide(
     requires classes { FormIsThere (bundle_tables code.now).types.definitions form.now }
     ensures act { IfOk result (λ act. act_at code.now types.now vars.now form.now ≡ Some (asked act (lists_of room.new))) }
     ensures classes { IfOk result (ActIsThere (bundle_tables code.now).types.definitions (lists_of room.new)) }
-    ensures built { IfOk result (λ act. form_is_built form.now ≡ true → act_is_built act ≡ true) }
 {
     match form {
         Form::Computation(form) => compute(code, vars, form, room),

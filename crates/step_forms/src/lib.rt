@@ -22,7 +22,7 @@ mod way;
 
 pub use access::Access;
 pub use act::Act;
-pub use deciding::{decide, form_is_built};
+pub use deciding::decide;
 pub use entering::Entering;
 pub use laws::forms_are_there;
 pub use operands::{push_value, read_classes, read_goal, read_kept, read_values, scalar};

@@ -1,5 +1,5 @@
 use Rattle.std.proofs.Common.{ℕ, List, subst}
-use Rattle.mu_texts.specs.Answer.{to_run}
+use Rattle.mu_texts.specs.Answer.{accepted}
 use Rattle.mu_texts.specs.Comes.{Comes}
 use Rattle.mu_command.proofs.Files.{was_judged}
 use Rattle.mu_command.proofs.finding.find_code.Goals as goal
@@ -7,4 +7,4 @@ use Rattle.mu_command.proofs.finding.find_code.Goals as goal
 pub returns-clause-judged : goal.returns-clause-judged
 returns-clause-judged g c =
     was_judged _ _ _ _ _ c.in_ok-bytes.bytes c.judge_for_run.result c.in_ok-bytes.ensures.loaded
-    (subst (λ (b : List ℕ). Comes (to_run b) c.judge_for_run.result) c.deref.ensures.value c.judge_for_run.ensures.asked)
+    (subst (λ (b : List ℕ). Comes (accepted b) c.judge_for_run.result) c.deref.ensures.value c.judge_for_run.ensures.asked)

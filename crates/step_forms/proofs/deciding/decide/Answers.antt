@@ -1,10 +1,8 @@
-use Rattle.std.proofs.Common.{◌≡◌, true, subst}
+use Rattle.std.proofs.Common.{subst}
 use Rattle.code_check.specs.declared.code.Form.TheVariants as forms
 use Rattle.bundle_check.specs.Checking.{bundle_tables}
 use Rattle.step_forms.specs.Asked.{lists_of}
-use Rattle.step_forms.specs.Built.{form_is_built}
 use Rattle.step_forms.specs.Classes.{FormIsThere}
-use Rattle.step_forms.proofs.Built.{act_built, decided_built}
 use Rattle.step_forms.proofs.Classes.{act_is_there, decided_is_there}
 use Rattle.step_forms.proofs.deciding.decide.Goals as goal
 
@@ -55,18 +53,3 @@ returns-in-Common-clause-classes c =
     let graph = (bundle_tables c.args.code.now).types.definitions in
     let there = subst (FormIsThere graph) c.in-Common.is c.requires.classes in
     act_is_there graph c.args.code.now c.args.types.now c.args.vars.now (forms.Common c.in-Common.form) c.common.result _ there (c.common.ensures (lists_of c.args.room.now))
-
-pub returns-in-Computation-clause-built : goal.returns-in-Computation-clause-built
-returns-in-Computation-clause-built c = rw c.in-Computation.is (decided_built c.args.code.now c.args.types.now c.args.vars.now (forms.Computation c.in-Computation.form) c.compute.result _ c.compute.ensures)
-
-pub returns-in-Control-clause-built : goal.returns-in-Control-clause-built
-returns-in-Control-clause-built c = rw c.in-Control.is (decided_built c.args.code.now c.args.types.now c.args.vars.now (forms.Control c.in-Control.form) c.go_on.result _ c.go_on.ensures)
-
-pub returns-in-Allocation-clause-built : goal.returns-in-Allocation-clause-built
-returns-in-Allocation-clause-built c = λ built. act_built c.args.code.now c.args.types.now c.args.vars.now (forms.Allocation c.in-Allocation.form) c.make.result _ (c.make.ensures (lists_of c.args.room.now)) (subst (λ f. form_is_built f ≡ true) c.in-Allocation.is built)
-
-pub returns-in-Addressing-clause-built : goal.returns-in-Addressing-clause-built
-returns-in-Addressing-clause-built c = λ built. act_built c.args.code.now c.args.types.now c.args.vars.now (forms.Addressing c.in-Addressing.form) c.find.result _ (c.find.ensures (lists_of c.args.room.now)) (subst (λ f. form_is_built f ≡ true) c.in-Addressing.is built)
-
-pub returns-in-Access-clause-built : goal.returns-in-Access-clause-built
-returns-in-Access-clause-built c = λ built. act_built c.args.code.now c.args.types.now c.args.vars.now (forms.Access c.in-Access.form) c.access.result _ (c.access.ensures (lists_of c.args.room.now)) (subst (λ f. form_is_built f ≡ true) c.in-Access.is built)

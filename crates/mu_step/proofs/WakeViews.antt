@@ -1,0 +1,346 @@
+-- Lemmas of wakes, over the parts of a state.
+use Rattle.std.proofs.Common.{◌≡◌, ◌≢◌, ℕ, suc, ◌+◌, true, List, [], ◌∷◌, ◌++◌, Option, Some, None, IsSome, IsSomeAnd, Result, Ok, Err, OnOk, length, slice_get, slice_set, refl, sym, ◌∙◌, ap, subst, arith, add-one}
+use Rattle.std.proofs.lemmas.List.{append-nil, append_assoc}
+use Rattle.ir_tree.specs.declared.items.Item.{Item}
+use Rattle.mu_values.specs.declared.scalars.Scalar.{Scalar}
+use Rattle.mu_values.specs.declared.scalars.Scalar.TheVariants.{Int, Place}
+use Rattle.heap_cells.specs.declared.cells.CellId.{CellId}
+use Rattle.typed_heap.specs.declared.faults.PlaceFault.{PlaceFault}
+use Rattle.typed_heap.specs.Places.{with_some, cell_of}
+use Rattle.frames.specs.Activations.{Value, Activation}
+use Rattle.frames.specs.Chains.{Chain, frames_of, stands}
+use Rattle.mem_axioms.specs.declared.types.Rule.{Rule}
+use Rattle.mem_axioms.specs.declared.types.Event.{Event}
+use Rattle.mem_axioms.specs.Objects.{HasCell}
+use Rattle.mem_axioms.specs.EventFits.{is_thread, wakes_at, EventFits}
+use Rattle.mem_axioms.specs.Lemmas.Fitting.{thread-same, wake-numbered}
+use Rattle.mu_model.specs.declared.lines.Line.{Line}
+use Rattle.mu_model.specs.declared.lines.Line.TheVariants as lines
+use Rattle.mu_model.specs.declared.endings.StepEnd.TheVariants.{Went}
+use Rattle.mu_model.specs.declared.endings.Case.{Case}
+use Rattle.mu_model.specs.Acts as acts
+use Rattle.mu_model.specs.Configuration.{Stack, Active, Thread}
+use Rattle.mu_model.specs.Outcomes.{Stuck, case_of_fault}
+use Rattle.mu_model.specs.Waiting.{without, was_woken}
+use Rattle.seats.specs.Seats.{Seats, seat_of, IsOn, oldest_at}
+use Rattle.mu_step.specs.Held.{Held}
+use Rattle.mu_step.specs.Acting.{answers, acting, goes_on}
+use Rattle.mu_step.specs.Hand.{IsSound}
+use Rattle.mu_step.specs.StepLaws.{GoesOn, set_there, get_below, some_there, some_of, with_there, with_is, set_again}
+use Rattle.mu_step.specs.FutexLaws.{found_or}
+use Rattle.mu_step.specs.Waking.{frames_at, behind, stood, goes_behind, all_go, AreDistinct, wake_event, woken_event, logs_woken, woken_lines, AreThreads}
+use Rattle.mu_step.specs.WakeLaws.{IsSeated, seated_from, seated_at, goes_from, goes_at, go_last, woken_threads, next_wakes, logs_same, logs_many, all_go_many, all_threads, waking_at, woken_of, woke, Wakes, wakes, wake_cell_there, wake_is}
+use Rattle.mu_step.proofs.FutexViews.{answers_lines}
+
+-- ---- where a thread goes on that is woken
+
+pub seat_there : (bundle : List Item) (s : Seats) (i : ℕ) → IsSome (goes_behind bundle s.threads i s.stacks) → IsSome (seat_of s i)
+seat_there bundle s i h =
+    let r = some_of (goes_behind bundle s.threads i s.stacks) h in
+    let g = goes_from bundle s.threads i s.stacks r.0 r.1 in
+    some_there (seat_of s i) g.seated.seat (with_is (slice_get s.threads i) (Some g.seated.seat) (λ t. t) g.seated.there)
+
+on_seat : (s : Seats) (i k : ℕ) (seat : Thread) → IsOn s i k → slice_get s.threads i ≡ Some (Some seat) → seat.stack ≡ k
+on_seat s i k seat h e = subst (λ (o : Option (Option Thread)). IsSomeAnd (with_some o (λ t. t)) (λ (t : Thread). t.stack ≡ k)) e h
+
+frames_same : (ss : List Stack) (k i : ℕ) (fs gs : List Activation) → slice_get ss k ≡ Some (Active i fs) → slice_get ss k ≡ Some (Active i gs) → fs ≡ gs
+frames_same ss k i fs gs a b = let same : Active i fs ≡ Active i gs = cc in cc
+
+-- the frames that are found by its stack are its own
+record Found (bundle : List Item) (s : Seats) (i k : ℕ) (c : Chain) : Type 0 where
+  pub goal : Activation
+  pub seated : IsSeated s.threads s.stacks i k (frames_of c)
+  pub way : goes_on bundle c.top ((was_woken ∷ []) ∷ []) ≡ Some goal
+
+found : (bundle : List Item) (s : Seats) (i k : ℕ) (c : Chain) → IsSome (goes_behind bundle s.threads i s.stacks) → IsOn s i k → slice_get s.stacks k ≡ Some (Active i (frames_of c)) → Found bundle s i k c
+found bundle s i k c h on there =
+    let r = some_of (goes_behind bundle s.threads i s.stacks) h in
+    let g = goes_from bundle s.threads i s.stacks r.0 r.1 in
+    let number : g.stack ≡ k = sym g.seated.on ∙ on_seat s i k g.seated.seat on g.seated.there in
+    let frames : g.frames ≡ frames_of c = frames_same s.stacks k i g.frames (frames_of c) (ap (slice_get s.stacks) (sym number) ∙ g.seated.stack) there in
+    let way : behind bundle (frames_of c) ≡ Some g.now = ap (behind bundle) (sym frames) ∙ g.behind_is in
+    let q = with_there (goes_on bundle c.top ((was_woken ∷ []) ∷ [])) (λ x. Some (x ∷ c.below)) g.now way in
+    record { goal = q.0; seated = record { seat = g.seated.seat; there = g.seated.there; on = g.seated.on ∙ number; stack = there }; way = q.1 }
+
+pub behind_goes : (bundle : List Item) (s : Seats) (i k : ℕ) (c : Chain) (f : Activation) (vs : List Value) → IsSome (goes_behind bundle s.threads i s.stacks) → IsOn s i k → slice_get s.stacks k ≡ Some (Active i (frames_of c))
+    → f ≡ c.top → vs ≡ (was_woken ∷ []) ∷ [] → IsSome (goes_on bundle f vs)
+behind_goes bundle s i k c f vs h on there top results =
+    let q = found bundle s i k c h on there in
+    subst (λ f. IsSome (goes_on bundle f vs)) (sym top) (subst (λ vs. IsSome (goes_on bundle c.top vs)) (sym results) (some_there (goes_on bundle c.top ((was_woken ∷ []) ∷ [])) q.goal q.way))
+
+pub behind_told : (bundle : List Item) (s : Seats) (i k : ℕ) (c : Chain) (f : Activation) (vs out : List Value) (block at : ℕ) → IsSome (goes_behind bundle s.threads i s.stacks) → IsOn s i k → slice_get s.stacks k ≡ Some (Active i (frames_of c))
+    → f ≡ c.top → vs ≡ (was_woken ∷ []) ∷ [] → goes_on bundle f vs ≡ Some (stands f block at out)
+    → IsSomeAnd (frames_at s.threads s.stacks i) (λ here. (here.0 ≡ k) × (behind bundle here.1 ≡ Some (stood block at out here.1)))
+behind_told bundle s i k c f vs out block at h on there top results way =
+    let q = found bundle s i k c h on there in
+    let so : goes_on bundle c.top ((was_woken ∷ []) ∷ []) ≡ Some (stands c.top block at out) =
+    ap (goes_on bundle c.top) (sym results) ∙ subst (λ f. goes_on bundle f vs ≡ Some (stands f block at out)) top way in
+    subst (λ (o : Option (ℕ × List Activation)). IsSomeAnd o (λ here. (here.0 ≡ k) × (behind bundle here.1 ≡ Some (stood block at out here.1)))) (sym (seated_at s.threads s.stacks i k (frames_of c) q.seated))
+    (refl, ap (λ o. with_some o (λ x. Some (x ∷ c.below))) so)
+
+-- ---- frames that are exchanged, and exchanged back
+
+chain_same : (c d : Chain) → frames_of c ≡ frames_of d → c ≡ d
+chain_same c d e =
+    let top : c.top ≡ d.top = cc in
+    let below : c.below ≡ d.below = cc in
+    ap (λ f. record { top = f; below = c.below }) top ∙ ap (λ fs. record { top = d.top; below = fs }) below
+
+seat_on : (s : Seats) (i k : ℕ) → IsOn s i k → (t : Thread) × (slice_get s.threads i ≡ Some (Some t)) × (t.stack ≡ k)
+seat_on s i k h = by (slice_get s.threads i) refl h
+  where
+    by : (o : Option (Option Thread)) → slice_get s.threads i ≡ o → IsSomeAnd (with_some o (λ t. t)) (λ (t : Thread). t.stack ≡ k) → (t : Thread) × (slice_get s.threads i ≡ Some (Some t)) × (t.stack ≡ k)
+    by None e h = absurd h
+    by (Some None) e h = absurd h
+    by (Some (Some t)) e h = (t, e, h)
+
+pub on_still : (s t : Seats) (i k : ℕ) (ss : List Stack) → IsOn s i k → t ≡ record s { stacks = ss } → IsOn t i k
+on_still s t i k ss h e = subst (λ (x : Seats). IsOn x i k) (sym e) h
+
+-- what is there after both exchanges
+pub back_again : (s mid : Seats) (i k : ℕ) (c before last : Chain) → mid ≡ record s { stacks = slice_set s.stacks k (Active i (frames_of before)) } → slice_get s.stacks k ≡ Some (Active i (frames_of c))
+    → slice_get mid.stacks k ≡ Some (Active i (frames_of last)) → last ≡ before
+back_again s mid i k c before last e there back =
+    let low = get_below s.stacks k (Active i (frames_of c)) there in
+    let at : slice_get mid.stacks k ≡ Some (Active i (frames_of before)) = ap (λ (x : Seats). slice_get x.stacks k) e ∙ set_there s.stacks k (Active i (frames_of before)) low in
+    chain_same last before (frames_same mid.stacks k i (frames_of last) (frames_of before) back at)
+
+pub stood_there : (s mid after : Seats) (i k block at : ℕ) (vs : List Value) (c before now : Chain) → IsOn s i k → slice_get s.stacks k ≡ Some (Active i (frames_of c)) → mid ≡ record s { stacks = slice_set s.stacks k (Active i (frames_of before)) }
+    → now ≡ record c { top = stands c.top block at vs } → after ≡ record mid { stacks = slice_set mid.stacks k (Active i (frames_of now)) }
+    → IsSomeAnd (frames_at s.threads s.stacks i) (λ here. after ≡ record s { stacks = slice_set s.stacks k (Active i (stood block at vs here.1)) })
+stood_there s mid after i k block at vs c before now on there first stands_so second =
+    let q = seat_on s i k on in
+    let seated : IsSeated s.threads s.stacks i k (frames_of c) = record { seat = q.0; there = q.1; on = q.2; stack = there } in
+    let is : after ≡ record s { stacks = slice_set s.stacks k (Active i (stood block at vs (frames_of c))) } =
+    second ∙ ap (λ (x : Seats). record x { stacks = slice_set x.stacks k (Active i (frames_of now)) }) first
+    ∙ ap (λ ss. record s { stacks = ss }) (set_again s.stacks k (Active i (frames_of before)) (Active i (frames_of now)))
+    ∙ ap (λ (c : Chain). record s { stacks = slice_set s.stacks k (Active i (frames_of c)) }) stands_so in
+    subst (λ (o : Option (ℕ × List Activation)). IsSomeAnd o (λ here. after ≡ record s { stacks = slice_set s.stacks k (Active i (stood block at vs here.1)) })) (sym (seated_at s.threads s.stacks i k (frames_of c) seated)) is
+
+-- ---- all that go on
+
+pub none_go : (bundle : List Item) (s : Seats) (is : List ℕ) → is ≡ [] → IsSomeAnd (all_go bundle s.threads is s.stacks) (λ ss. s ≡ record s { stacks = ss })
+unfolding all_go
+none_go bundle s is e = subst (λ is. IsSomeAnd (all_go bundle s.threads is s.stacks) (λ ss. s ≡ record s { stacks = ss })) (sym e) refl
+
+pub first_goes : (bundle : List Item) (s : Seats) (is js : List ℕ) (i : ℕ) → is ≡ i ∷ js → IsSome (all_go bundle s.threads is s.stacks) → IsSome (goes_behind bundle s.threads i s.stacks)
+unfolding all_go
+first_goes bundle s is js i e h =
+    let r = some_of (all_go bundle s.threads (i ∷ js) s.stacks) (subst (λ is. IsSome (all_go bundle s.threads is s.stacks)) e h) in
+    let g = with_there (goes_behind bundle s.threads i s.stacks) (all_go bundle s.threads js) r.0 r.1 in
+    some_there (goes_behind bundle s.threads i s.stacks) g.0 g.1
+
+-- the first of them, once it is known where it stands
+record First (bundle : List Item) (s : Seats) (js : List ℕ) (i k block at : ℕ) (vs : List Value) : Type 0 where
+  pub frames : List Activation
+  pub out : List Stack
+  pub rest : List Stack
+  pub seated : IsSeated s.threads s.stacks i k frames
+  pub all : all_go bundle s.threads (i ∷ js) s.stacks ≡ Some out
+  pub go : all_go bundle s.threads js s.stacks ≡ Some rest
+  pub later : IsSeated s.threads rest i k frames
+  pub is : slice_set rest k (Active i (stood block at vs frames)) ≡ out
+
+first_by : (bundle : List Item) (s : Seats) (js : List ℕ) (i k block at : ℕ) (vs : List Value) (o : Option (ℕ × List Activation)) → frames_at s.threads s.stacks i ≡ o → AreDistinct (i ∷ js) → IsSome (all_go bundle s.threads (i ∷ js) s.stacks)
+    → IsSomeAnd o (λ here. (here.0 ≡ k) × (behind bundle here.1 ≡ Some (stood block at vs here.1))) → First bundle s js i k block at vs
+unfolding all_go
+first_by bundle s js i k block at vs None e distinct h told = absurd told
+first_by bundle s js i k block at vs (Some (m, fs)) e distinct h told =
+    let seated = seated_from s.threads s.stacks i k fs (e ∙ ap (λ m. Some (m, fs)) told.0) in
+    let r = some_of (all_go bundle s.threads (i ∷ js) s.stacks) h in
+    let one = goes_at bundle s.threads i k s.stacks fs (stood block at vs fs) seated told.1 in
+    let then : all_go bundle s.threads js (slice_set s.stacks k (Active i (stood block at vs fs))) ≡ Some r.0 = sym (with_is (goes_behind bundle s.threads i s.stacks) (slice_set s.stacks k (Active i (stood block at vs fs))) (all_go bundle s.threads js) one) ∙ r.1 in
+    let q = go_last bundle s.threads js s.stacks r.0 i k fs (stood block at vs fs) distinct.0 seated then in
+    record { frames = fs; out = r.0; rest = q.rest; seated = seated; all = r.1; go = q.go; later = q.seated; is = q.is }
+
+first : (bundle : List Item) (s : Seats) (is js : List ℕ) (i k block at : ℕ) (vs : List Value) → is ≡ i ∷ js → AreDistinct is → IsSome (all_go bundle s.threads is s.stacks)
+    → IsSomeAnd (frames_at s.threads s.stacks i) (λ here. (here.0 ≡ k) × (behind bundle here.1 ≡ Some (stood block at vs here.1))) → First bundle s js i k block at vs
+first bundle s is js i k block at vs e distinct h told =
+    first_by bundle s js i k block at vs (frames_at s.threads s.stacks i) refl (subst AreDistinct e distinct) (subst (λ is. IsSome (all_go bundle s.threads is s.stacks)) e h) told
+
+pub rest_distinct : (is js : List ℕ) (i : ℕ) → is ≡ i ∷ js → AreDistinct is → AreDistinct js
+rest_distinct is js i e h = (subst AreDistinct e h).1
+
+pub rest_goes : (bundle : List Item) (s : Seats) (is js : List ℕ) (i k block at : ℕ) (vs : List Value) → is ≡ i ∷ js → AreDistinct is → IsSome (all_go bundle s.threads is s.stacks)
+    → IsSomeAnd (frames_at s.threads s.stacks i) (λ here. (here.0 ≡ k) × (behind bundle here.1 ≡ Some (stood block at vs here.1))) → IsSome (all_go bundle s.threads js s.stacks)
+rest_goes bundle s is js i k block at vs e distinct h told = let q = first bundle s is js i k block at vs e distinct h told in some_there (all_go bundle s.threads js s.stacks) q.rest q.go
+
+rested : (bundle : List Item) (s mid : Seats) (js : List ℕ) (rest : List Stack) → all_go bundle s.threads js s.stacks ≡ Some rest → IsSomeAnd (all_go bundle s.threads js s.stacks) (λ ss. mid ≡ record s { stacks = ss }) → mid ≡ record s { stacks = rest }
+rested bundle s mid js rest e h = subst (λ (o : Option (List Stack)). IsSomeAnd o (λ ss. mid ≡ record s { stacks = ss })) e h
+
+pub on_later : (bundle : List Item) (s mid : Seats) (is js : List ℕ) (i k block at : ℕ) (vs : List Value) → is ≡ i ∷ js → AreDistinct is → IsSome (all_go bundle s.threads is s.stacks)
+    → IsSomeAnd (frames_at s.threads s.stacks i) (λ here. (here.0 ≡ k) × (behind bundle here.1 ≡ Some (stood block at vs here.1)))
+    → IsSomeAnd (all_go bundle s.threads js s.stacks) (λ ss. mid ≡ record s { stacks = ss }) → IsOn mid i k
+on_later bundle s mid is js i k block at vs e distinct h told there =
+    let q = first bundle s is js i k block at vs e distinct h told in
+    let same = rested bundle s mid js q.rest q.go there in
+    subst (λ (x : Seats). IsOn x i k) (sym same)
+    (subst (λ (o : Option (Option Thread)). IsSomeAnd (with_some o (λ t. t)) (λ (t : Thread). t.stack ≡ k)) (sym q.later.there) q.later.on)
+
+pub all_gone : (bundle : List Item) (s mid after : Seats) (is js : List ℕ) (i k block at : ℕ) (vs : List Value) → is ≡ i ∷ js → AreDistinct is → IsSome (all_go bundle s.threads is s.stacks)
+    → IsSomeAnd (frames_at s.threads s.stacks i) (λ here. (here.0 ≡ k) × (behind bundle here.1 ≡ Some (stood block at vs here.1)))
+    → IsSomeAnd (all_go bundle s.threads js s.stacks) (λ ss. mid ≡ record s { stacks = ss })
+    → IsSomeAnd (frames_at mid.threads mid.stacks i) (λ here. after ≡ record mid { stacks = slice_set mid.stacks k (Active i (stood block at vs here.1)) })
+    → IsSomeAnd (all_go bundle s.threads is s.stacks) (λ ss. after ≡ record s { stacks = ss })
+all_gone bundle s mid after is js i k block at vs e distinct h told there moved =
+    let q = first bundle s is js i k block at vs e distinct h told in
+    let same = rested bundle s mid js q.rest q.go there in
+    let now : IsSomeAnd (frames_at s.threads q.rest i) (λ here. after ≡ record s { stacks = slice_set q.rest k (Active i (stood block at vs here.1)) }) =
+    subst (λ (x : Seats). IsSomeAnd (frames_at x.threads x.stacks i) (λ here. after ≡ record x { stacks = slice_set x.stacks k (Active i (stood block at vs here.1)) })) same moved in
+    let is_so : after ≡ record s { stacks = slice_set q.rest k (Active i (stood block at vs q.frames)) } =
+    subst (λ (o : Option (ℕ × List Activation)). IsSomeAnd o (λ here. after ≡ record s { stacks = slice_set q.rest k (Active i (stood block at vs here.1)) })) (seated_at s.threads q.rest i k q.frames q.later) now in
+    subst (λ (o : Option (List Stack)). IsSomeAnd o (λ ss. after ≡ record s { stacks = ss })) (sym (ap (λ is. all_go bundle s.threads is s.stacks) e ∙ q.all))
+    (is_so ∙ ap (λ ss. record s { stacks = ss }) q.is)
+
+-- ---- the cell of a wake
+
+pub wake_place : (bundle : List Item) (s v : Held) (many : ℕ) (cell : CellId) → v ≡ s → acting bundle s (acts.Wakes many cell) ≢ Stuck → IsSome (cell_of v.objects (Place cell.object cell.at))
+wake_place bundle s v many cell view h = subst (λ (s : Held). IsSome (cell_of s.objects (Place cell.object cell.at))) (sym view) (wake_cell_there bundle s many cell h)
+
+pub wake_found : (bundle : List Item) (s v : Held) (many : ℕ) (cell there : CellId) (r : Result CellId PlaceFault) → v ≡ s → acting bundle s (acts.Wakes many cell) ≢ Stuck
+    → cell_of v.objects (Place cell.object cell.at) ≡ Some r → r ≡ Ok there → acting bundle s (acts.Wakes many cell) ≡ waking_at bundle s many there
+wake_found bundle s v many cell there r view h e is =
+    wake_is bundle s many cell r h (ap (λ (s : Held). cell_of s.objects (Place cell.object cell.at)) (sym view) ∙ e) ∙ ap (found_or bundle s (waking_at bundle s many)) is
+
+pub wake_fails : (bundle : List Item) (s v : Held) (many : ℕ) (cell : CellId) (f : PlaceFault) (k : Case) (r : Result CellId PlaceFault) → v ≡ s → acting bundle s (acts.Wakes many cell) ≢ Stuck
+    → cell_of v.objects (Place cell.object cell.at) ≡ Some r → r ≡ Err f → k ≡ case_of_fault f → acting bundle s (acts.Wakes many cell) ≡ acting bundle s (acts.Faults k)
+wake_fails bundle s v many cell f k r view h e is case =
+    wake_is bundle s many cell r h (ap (λ (s : Held). cell_of s.objects (Place cell.object cell.at)) (sym view) ∙ e) ∙ ap (found_or bundle s (waking_at bundle s many)) is ∙ ap (λ k. acting bundle s (acts.Faults k)) (sym case)
+
+-- ---- a wake at a cell that is there
+
+pub record Woke (s v : Held) (many : ℕ) (cell : CellId) (is : List ℕ) : Type 0 where
+  pub view : v ≡ s
+  pub left : s.left ≡ true
+  pub sound : IsSound v.left v.thread v.stack v.seats v.log
+  pub alone : GoesOn s
+  pub those : is ≡ woken_of v many cell
+
+module _ (bundle : List Item) (s v : Held) (many : ℕ) (cell : CellId) (is : List ℕ) (q : Woke s v many cell is) (h : waking_at bundle s many cell ≢ Stuck) where
+  parts : Wakes bundle v many cell
+  parts =
+      wakes bundle v many cell (subst GoesOn (sym q.view) q.alone) (q.sound.within (ap (λ (s : Held). s.left) q.view ∙ q.left))
+      (subst (λ (s : Held). waking_at bundle s many cell ≢ Stuck) (sym q.view) h)
+
+  all : all_go bundle v.seats.threads is v.seats.stacks ≡ Some parts.stacks
+  all = ap (λ is. all_go bundle v.seats.threads is v.seats.stacks) q.those ∙ parts.go
+
+  results : (n : ℕ) → n ≡ length is → n ≡ length (woken_of v many cell)
+  results n e = e ∙ ap length q.those
+
+  pub wake_goes_on : (n : ℕ) (f : Activation) (vs : List Value) → n ≡ length is → f ≡ v.frames.top → vs ≡ (Int 32 n ∷ []) ∷ [] → IsSome (goes_on bundle f vs)
+  wake_goes_on n f vs count top told =
+      subst (λ f. IsSome (goes_on bundle f vs)) (sym top)
+      (subst (λ vs. IsSome (goes_on bundle v.frames.top vs)) (sym told) (subst (λ n. IsSome (goes_on bundle v.frames.top ((Int 32 n ∷ []) ∷ []))) (sym (results n count)) parts.goes))
+
+  pub wake_all_go : IsSome (all_go bundle v.seats.threads is v.seats.stacks)
+  wake_all_go = some_there (all_go bundle v.seats.threads is v.seats.stacks) parts.stacks all
+
+  pub wake_threads : (lg : List Event) → lg ≡ v.log → AreThreads lg is
+  wake_threads lg e = subst (λ lg. AreThreads lg is) (sym e) (all_threads bundle v.seats.threads is v.seats.stacks parts.stacks v.log q.sound.made all)
+
+  seats_so : (mid after : Seats) → IsSomeAnd (all_go bundle v.seats.threads is v.seats.stacks) (λ ss. mid ≡ record v.seats { stacks = ss }) → after ≡ record mid { waiters = without (oldest_at cell many mid.waiters) mid.waiters }
+      → after ≡ record v.seats { stacks = parts.stacks; waiters = without (oldest_at cell many v.seats.waiters) v.seats.waiters }
+  seats_so mid after went woken =
+      let same : mid ≡ record v.seats { stacks = parts.stacks } = subst (λ (o : Option (List Stack)). IsSomeAnd o (λ ss. mid ≡ record v.seats { stacks = ss })) all went in
+      woken ∙ ap (λ (x : Seats). record x { waiters = without (oldest_at cell many x.waiters) x.waiters }) same
+
+  pub wake_sound : (mid after : Seats) (number n : ℕ) (lg new : List Event) → IsSomeAnd (all_go bundle v.seats.threads is v.seats.stacks) (λ ss. mid ≡ record v.seats { stacks = ss })
+      → after ≡ record mid { waiters = without (oldest_at cell many mid.waiters) mid.waiters } → lg ≡ v.log → new ≡ logs_woken number is (wake_event v.thread cell n ∷ lg) → IsSound v.left v.thread v.stack after new
+  wake_sound mid after number n lg new went woken log added =
+      let so = seats_so mid after went woken in
+      let many_so = all_go_many bundle v.seats.threads is v.seats.stacks parts.stacks all in
+      subst (λ (x : Seats). IsSound v.left v.thread v.stack x new) (sym so)
+      (record {
+        on_stack = q.sound.on_stack;
+        within = λ e. let low = q.sound.within e in omega (arith, low, many_so);
+        made =
+            λ i.
+            ap (λ lg. is_thread lg i) added ∙ logs_same number is (wake_event v.thread cell n ∷ lg) i ∙ thread-same lg (wake_event v.thread cell n) i refl ∙ ap (λ lg. is_thread lg i) log ∙ q.sound.made i;
+      })
+
+  pub waked : (f : Activation) (vs out : List Value) (n number block at : ℕ) (mid after : Seats) (held fr : Chain) (lg new : List Event) (rl kept : Rule) (ls : List Line) → n ≡ length is → number ≡ length v.log → f ≡ v.frames.top → vs ≡ (Int 32 n ∷ []) ∷ []
+      → goes_on bundle f vs ≡ Some (stands f block at out)
+      → IsSomeAnd (all_go bundle v.seats.threads is v.seats.stacks) (λ ss. mid ≡ record v.seats { stacks = ss }) → after ≡ record mid { waiters = without (oldest_at cell many mid.waiters) mid.waiters }
+      → held ≡ v.frames → fr ≡ record held { top = stands held.top block at out } → lg ≡ v.log → new ≡ logs_woken number is (wake_event v.thread cell (length is) ∷ lg) → rl ≡ v.rule → kept ≡ rl
+      → ls ≡ lines.Event number (wake_event v.thread cell (length is)) ∷ woken_lines number is (number + 1)
+      → answers (Went ls) (record v { frames = fr; seats = after; log = new; rule = kept; steps = v.steps + 1 }) ≡ waking_at bundle s many cell
+  waked f vs out n number block at mid after held fr lg new rl kept ls count numbered_so top told way went woken frames stands_so log added rule same written =
+      let now = stands v.frames.top block at out in
+      let t = woke v many cell parts.stacks now in
+      let lines_so : List ℕ → ℕ → List Line = λ is number. lines.Event number (wake_event v.thread cell (length is)) ∷ woken_lines number is (suc number) in
+      let ls_is : ls ≡ lines_so (woken_of v many cell) (length v.log) =
+      written ∙ ap (λ m. lines.Event number (wake_event v.thread cell (length is)) ∷ woken_lines number is m) (add-one number) ∙ ap (lines_so is) numbered_so ∙ ap (λ is. lines_so is (length v.log)) q.those in
+      let frames_is : fr ≡ record v.frames { top = now } = stands_so ∙ ap (λ (c : Chain). record c { top = stands c.top block at out }) frames in
+      let log_is : new ≡ t.log =
+      added ∙ ap (λ lg. logs_woken number is (wake_event v.thread cell (length is) ∷ lg)) log ∙ ap (λ m. logs_woken m is (wake_event v.thread cell (length is) ∷ v.log)) numbered_so
+      ∙ ap (λ is. logs_woken (length v.log) is (wake_event v.thread cell (length is) ∷ v.log)) q.those in
+      let on : goes_on bundle v.frames.top ((Int 32 (length (woken_of v many cell)) ∷ []) ∷ []) ≡ Some now =
+      ap (λ m. goes_on bundle v.frames.top ((Int 32 m ∷ []) ∷ [])) (sym (results n count)) ∙ ap (goes_on bundle v.frames.top) (sym told) ∙ subst (λ f. goes_on bundle f vs ≡ Some (stands f block at out)) top way in
+      ap (λ ls. answers (Went ls) (record v { frames = fr; seats = after; log = new; rule = kept; steps = v.steps + 1 })) ls_is
+      ∙ ap (λ fr. answers (Went (lines_so (woken_of v many cell) (length v.log))) (record v { frames = fr; seats = after; log = new; rule = kept; steps = v.steps + 1 })) frames_is
+      ∙ ap (λ seats. answers (Went (lines_so (woken_of v many cell) (length v.log))) (record v { frames = record v.frames { top = now }; seats = seats; log = new; rule = kept; steps = v.steps + 1 })) (seats_so mid after went woken)
+      ∙ ap (λ new. answers (Went (lines_so (woken_of v many cell) (length v.log))) (record t { log = new; rule = kept; steps = v.steps + 1 })) log_is
+      ∙ ap (λ rl. answers (Went (lines_so (woken_of v many cell) (length v.log))) (record t { rule = rl; steps = v.steps + 1 })) (same ∙ rule)
+      ∙ answers_lines t (lines_so (woken_of v many cell) (length v.log)) (ap (λ (s : Held). s.left) q.view ∙ q.left)
+      ∙ sym (parts.is now on)
+      ∙ ap (λ (s : Held). waking_at bundle s many cell) q.view
+
+-- ---- events and lines of those that are woken, the first and then the rest
+
+pub woken_fits : (rule : Rule) (objects : List (List Scalar)) (log : List Event) (is js : List ℕ) (i wake : ℕ) → is ≡ i ∷ js → AreThreads log is → wakes_at log wake ≡ true → EventFits rule objects log (woken_event wake i)
+woken_fits rule objects log is js i wake e threads there = let h = subst (AreThreads log) e threads in record { thread = h.0; child = tt; cell = tt; wake = there; position = tt }
+
+pub rest_threads : (log new : List Event) (is js : List ℕ) (i wake : ℕ) → is ≡ i ∷ js → AreThreads log is → new ≡ woken_event wake i ∷ log → AreThreads new js
+rest_threads log new is js i wake e threads added = let h = subst (AreThreads log) e threads in subst (λ lg. AreThreads lg js) (sym added) (woken_threads (woken_event wake i) log js h.1)
+
+pub rest_wake : (log new : List Event) (x : Event) (wake : ℕ) → wakes_at log wake ≡ true → new ≡ x ∷ log → wakes_at new wake ≡ true
+rest_wake log new x wake h added = ap (λ lg. wakes_at lg wake) added ∙ next_wakes wake x log h
+
+pub logged_none : (wake : ℕ) (is : List ℕ) (log : List Event) → is ≡ [] → log ≡ logs_woken wake is log
+unfolding logs_woken
+logged_none wake is log e = sym (ap (λ is. logs_woken wake is log) e)
+
+pub logged_rest : (wake : ℕ) (is js : List ℕ) (i : ℕ) (log new last : List Event) → is ≡ i ∷ js → new ≡ woken_event wake i ∷ log → last ≡ logs_woken wake js new → last ≡ logs_woken wake is log
+unfolding logs_woken
+logged_rest wake is js i log new last e added rest = rest ∙ ap (logs_woken wake js) added ∙ sym (ap (λ is. logs_woken wake is log) e)
+
+pub lines_none : (wake n : ℕ) (is : List ℕ) (ls : List Line) → is ≡ [] → ls ≡ ls ++ woken_lines wake is n
+unfolding woken_lines
+lines_none wake n is ls e = sym (append-nil ls) ∙ sym (ap (λ is. ls ++ woken_lines wake is n) e)
+
+pub lines_rest : (wake n : ℕ) (is js : List ℕ) (i : ℕ) (ls new last : List Line) → is ≡ i ∷ js → new ≡ ls ++ lines.Event n (woken_event wake i) ∷ [] → last ≡ new ++ woken_lines wake js (n + 1) → last ≡ ls ++ woken_lines wake is n
+unfolding woken_lines
+lines_rest wake n is js i ls new last e added rest =
+    let x = lines.Event n (woken_event wake i) in
+    rest ∙ ap (λ new. new ++ woken_lines wake js (n + 1)) added ∙ append_assoc ls (x ∷ []) (woken_lines wake js (n + 1)) ∙ ap (λ m. ls ++ x ∷ woken_lines wake js m) (add-one n)
+    ∙ sym (ap (λ is. ls ++ woken_lines wake is n) e)
+
+pub lines_rest_ok : {A E : Type 0} (wake n : ℕ) (is js : List ℕ) (i : ℕ) (ls new last : List Line) (r : Result A E) → is ≡ i ∷ js → new ≡ ls ++ lines.Event n (woken_event wake i) ∷ [] → OnOk r (last ≡ new ++ woken_lines wake js (n + 1)) → OnOk r (last ≡ ls ++ woken_lines wake is n)
+lines_rest_ok wake n is js i ls new last (Ok a) e added rest = lines_rest wake n is js i ls new last e added rest
+lines_rest_ok wake n is js i ls new last (Err a) e added rest = tt
+
+pub empty_is : (is : List ℕ) → length is ≡ 0 → is ≡ []
+empty_is [] h = refl
+empty_is (i ∷ is) h = absurd (omega (arith, h))
+
+pub logged_empty : (wake : ℕ) (is : List ℕ) (log : List Event) → length is ≡ 0 → log ≡ logs_woken wake is log
+logged_empty wake is log h = logged_none wake is log (empty_is is h)
+
+pub ruleset woken_log = (woken_fits, rest_threads, rest_wake, logged_empty, logged_rest)
+
+-- the event of the wake
+pub wake_fits : (rule : Rule) (objects : List (List Scalar)) (log : List Event) (i n : ℕ) (cell : CellId) → is_thread log i ≡ true → HasCell objects cell → EventFits rule objects log (wake_event i cell n)
+wake_fits rule objects log i n cell own there = record { thread = own; child = tt; cell = there; wake = tt; position = tt }
+
+pub wake_there : (log new : List Event) (i n number : ℕ) (cell : CellId) → number ≡ length log → new ≡ wake_event i cell n ∷ log → wakes_at new number ≡ true
+wake_there log new i n number cell e added = ap (λ lg. wakes_at lg number) added ∙ ap (wakes_at (wake_event i cell n ∷ log)) e ∙ wake-numbered log i cell n
+
+pub all_threads_still : (log new : List Event) (is : List ℕ) (x : Event) → AreThreads log is → new ≡ x ∷ log → AreThreads new is
+all_threads_still log new is x h added = subst (λ lg. AreThreads lg is) (sym added) (woken_threads x log is h)
+
+pub wake_many : (number n m i : ℕ) (cell : CellId) (is : List ℕ) (log lg new : List Event) → number ≡ length log → n ≡ length is → lg ≡ log → new ≡ logs_woken number is (wake_event i cell m ∷ lg) → number + (n + 1) ≡ length new
+wake_many number n m i cell is log lg new a b c d =
+    let all = ap length d ∙ logs_many number is (wake_event i cell m ∷ lg) in
+    let same : length lg ≡ length log = ap length c in
+    omega (arith, all, same, a, b)

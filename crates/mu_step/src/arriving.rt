@@ -1,0 +1,156 @@
+// Where a stack that is entered goes on.
+ghost use Rattle.std.specs.Prelude.{◌≡◌, ◌≢◌, ◌<◌, IsSome, Some, IfOk, length, take, true, false};
+ghost use Rattle.std.specs.List.{flat_map};
+ghost use Rattle.frames.specs.Activations.{Activation};
+ghost use Rattle.frames.specs.Chains.{frames_of};
+ghost use Rattle.frames.specs.Handlers.{first_handler};
+ghost use Rattle.mu_model.specs.Acts as acts;
+ghost use Rattle.step_forms.specs.Asked.{entering_of};
+ghost use Rattle.mu_step.specs.Acting.{objects_end};
+ghost use Rattle.mu_step.specs.Entering.{entered_by, arrives, found, IsPlain};
+ghost use Rattle.mu_step.specs.Remembering.{initials};
+
+use crate::exceptions::{add_exception, handler_goal};
+use crate::flow::{Place, passing, stand};
+use crate::objects::leave_frames;
+use bundle_check::Checked;
+use frames::{Frames, Unwound};
+use mu_base::Types;
+use mu_model::Case;
+use mu_values::{Scalar, Slots};
+use std::alloc::AllocError;
+use step_forms::{Entering, Room};
+use typed_heap::Heap;
+
+/// How many frames end above the one that goes on, and where that stands.
+#[derive(Clone, Copy, Debug, PartialEq, Eq)]
+pub(crate) struct Arrival {
+    pub(crate) above: u32,
+    pub(crate) place: Place,
+}
+
+/// Where a stack goes on, or why it does not.
+#[derive(Clone, Copy, Debug, PartialEq, Eq)]
+pub(crate) enum Found {
+    Lands(Arrival),
+    Refused(Case),
+}
+
+/// Whether two lists have the same classes.
+fn are_same(types: &Types, waits: &Types) -> bool
+    ensures same { result ≡ true → types.now.members ≡ waits.now.members }
+    ensures apart { result ≡ false → types.now.members ≢ waits.now.members }
+{
+    types.as_slice() == waits.as_slice()
+}
+
+/// Where the top frame goes on with values of the classes that it waits for.
+fn pass_at(
+    code: &Checked,
+    frames: &Frames,
+    types: &Types,
+    values: &Slots,
+    out: &mut Slots,
+) -> Result<Arrival, AllocError>
+    requires same { types.now.members ≡ frames.now.top.waits }
+    requires there { IsSome (entered_by code.now (frames_of frames.now) (acts.Passes types.now.members values.now.values)) }
+    ensures { IfOk result (λ a. entered_by code.now (frames_of frames.now) (acts.Passes types.now.members values.now.values) ≡ found (Found.Lands a) (frames_of frames.now) out.new.values) }
+{
+    let place = passing(code, frames.top(), values, out)?;
+    Ok(Arrival { above: 0, place })
+}
+
+/// Where the top frame goes on with values of these classes.
+#[tactic(auto, using(crate::specs::EnteringLaws::values_misfit))]
+fn pass(
+    code: &Checked,
+    frames: &Frames,
+    types: &Types,
+    values: &Slots,
+    out: &mut Slots,
+) -> Result<Found, AllocError>
+    requires { IsSome (entered_by code.now (frames_of frames.now) (acts.Passes types.now.members values.now.values)) }
+    ensures is { IfOk result (λ r. entered_by code.now (frames_of frames.now) (acts.Passes types.now.members values.now.values) ≡ found r (frames_of frames.now) out.new.values) }
+    ensures plain { IfOk result IsPlain }
+{
+    if are_same(types, &frames.top().waits) {
+        let arrival = pass_at(code, frames, types, values, out)?;
+        Ok(Found::Lands(arrival))
+    } else {
+        Ok(Found::Refused(Case::StackTypes))
+    }
+}
+
+/// Where the frame with that number catches an exception, which has the first handler.
+fn catch_at(
+    code: &Checked,
+    frames: &Frames,
+    above: u32,
+    exception: Scalar,
+    out: &mut Slots,
+) -> Result<Arrival, AllocError>
+    requires first { first_handler (frames_of frames.now) ≡ Some above }
+    requires there { IsSome (entered_by code.now (frames_of frames.now) (acts.ThrowsInto exception)) }
+    ensures { IfOk result (λ a. entered_by code.now (frames_of frames.now) (acts.ThrowsInto exception) ≡ found (Found.Lands a) (frames_of frames.now) out.new.values) }
+{
+    let block = handler_goal(frames.frame(above), out)?;
+    add_exception(code, block, exception, out)?;
+    Ok(Arrival {
+        above,
+        place: Place { block, at: 0 },
+    })
+}
+
+/// Where an exception is caught.
+#[tactic(auto, using(crate::specs::EnteringLaws::thrown_uncaught))]
+fn catch(
+    code: &Checked,
+    frames: &Frames,
+    exception: Scalar,
+    out: &mut Slots,
+) -> Result<Found, AllocError>
+    requires { IsSome (entered_by code.now (frames_of frames.now) (acts.ThrowsInto exception)) }
+    ensures is { IfOk result (λ r. entered_by code.now (frames_of frames.now) (acts.ThrowsInto exception) ≡ found r (frames_of frames.now) out.new.values) }
+    ensures plain { IfOk result IsPlain }
+{
+    match frames.unwind() {
+        Unwound::Uncaught => Ok(Found::Refused(Case::Uncaught)),
+        Unwound::Caught(above) => {
+            let arrival = catch_at(code, frames, above, exception, out)?;
+            Ok(Found::Lands(arrival))
+        }
+    }
+}
+
+/// Where these frames go on that are entered with what stands in the room, or why they do not. The values of the frame that goes on
+/// are written to a list.
+#[tactic(auto, using(crate::specs::EnteringLaws::misfits))]
+pub(crate) fn prepare(
+    code: &Checked,
+    frames: &Frames,
+    entering: Entering,
+    room: &Room,
+    out: &mut Slots,
+) -> Result<Found, AllocError>
+    requires { IsSome (entered_by code.now (frames_of frames.now) (entering_of entering room.now.types.members room.now.values.values)) }
+    ensures is { IfOk result (λ r. entered_by code.now (frames_of frames.now) (entering_of entering room.now.types.members room.now.values.values) ≡ found r (frames_of frames.now) out.new.values) }
+    ensures plain { IfOk result IsPlain }
+{
+    match entering {
+        Entering::Passes => pass(code, frames, &room.types, &room.values, out),
+        Entering::Throws(exception) => catch(code, frames, exception, out),
+        Entering::Misfits => Ok(Found::Refused(Case::StackTypes)),
+    }
+}
+
+/// The frames go on so, and the cells of the objects of those that end are dead.
+pub(crate) fn arrive(frames: &mut Frames, heap: &mut Heap, arrival: Arrival, out: &mut Slots)
+    requires { arrival.above < length (frames_of frames.old) }
+    ensures frames { arrives arrival (frames_of frames.old) out.old.values ≡ Some (record { frames = frames_of frames.new; ended = take arrival.above (frames_of frames.old) }) }
+    ensures objects { heap.new.objects ≡ objects_end heap.old.objects (flat_map (λ (f : Activation). f.objects) (take arrival.above (frames_of frames.old))) }
+    ensures left { heap.new.left ≡ heap.old.left }
+    ensures initials { initials heap.new.objects ≡ initials heap.old.objects }
+{
+    leave_frames(frames, heap, arrival.above);
+    stand(frames, arrival.place, out);
+}

@@ -1,0 +1,179 @@
+// A thread that moves from its stack to another one.
+ghost use Rattle.std.specs.Prelude.{◌≡◌, ◌≢◌, ◌+◌, ◌<◌, ◌∷◌, [], Some, IfOk, length, slice_get, false};
+ghost use Rattle.frames.specs.Chains.{frames_of};
+ghost use Rattle.mem_axioms.specs.EventFits.{EventFits};
+ghost use Rattle.mem_axioms.specs.Lemmas.Kept.{is_any_access};
+ghost use Rattle.mu_model.specs.declared.lines.Line.TheVariants as written;
+ghost use Rattle.mu_model.specs.Configuration.{Ready, Active, Dead};
+ghost use Rattle.step_forms.specs.Asked.{entering_of};
+ghost use Rattle.step_forms.specs.declared.entering.Entering.TheVariants as asked_to;
+ghost use Rattle.seats.specs.Seats.{IsOn, IsReadyFor};
+ghost use Rattle.mu_step.specs.Entering.{handed, IsMoved, IsStarted};
+
+use crate::accessing::commit_other;
+use crate::results::taken;
+use frames::Frames;
+use mem_axioms::{Event, Memory};
+use mu_base::Types;
+use mu_model::{Line, Lines};
+use mu_values::Scalar;
+use seats::Seats;
+use stacks::Entered;
+use std::alloc::{AllocError, Global};
+use std::marker::Brand;
+use std::sync::ledger::Blank;
+use step_forms::{Entering, Room};
+
+/// The same classes.
+pub(crate) fn copied(alloc: Global, types: &Types) -> Result<Types, AllocError>
+    ensures { IfOk result (λ copy. copy.members ≡ types.now.members) }
+{
+    Ok(Types::from_vec(Vec::from_slice(alloc, types.as_slice())?))
+}
+
+/// The lines of two events, the first of which has that number.
+pub(crate) fn lines_of(
+    alloc: Global,
+    number: u32,
+    first: Event,
+    second: Event,
+) -> Result<Lines, AllocError>
+    requires { number + 1 < 4294967295 }
+    ensures { IfOk result (λ lines. lines ≡ written.Event number first ∷ written.Event (number + 1) second ∷ []) }
+{
+    let mut lines = Lines::new(alloc);
+    lines.push(Line::Event {
+        number,
+        event: first,
+    })?;
+    lines.push(Line::Event {
+        number: number + 1,
+        event: second,
+    })?;
+    Ok(lines)
+}
+
+/// What is handed to a stack: what stands in the room is moved out of it.
+pub(crate) fn hand_over(
+    alloc: Global,
+    entering: Entering,
+    room: &mut Room,
+) -> Result<Entered, AllocError>
+    requires { entering ≢ asked_to.Misfits }
+    ensures { IfOk result (λ e. handed e ≡ entering_of entering room.old.types.members room.old.values.values) }
+{
+    match entering {
+        Entering::Passes => Ok(Entered::Values(taken(alloc, room)?)),
+        Entering::Throws(exception) => Ok(Entered::Thrown(exception)),
+        Entering::Misfits => unreachable!(),
+    }
+}
+
+/// What was handed to a stack is moved back to the room.
+pub(crate) fn hand_back(passed: Entered, room: &mut Room) {
+    match passed {
+        Entered::Values(values) => {
+            let (types, values) = values.into_parts();
+            room.types = types;
+            room.values = values;
+        }
+        Entered::Thrown(_exception) => {}
+    }
+}
+
+/// The thread puts its frames back, leaves its stack for values of these classes, and takes up the frames of another stack that it
+/// enters. What was handed to that comes back.
+#[tactic(auto, using(crate::specs::EnteringLaws::moving))]
+pub(crate) fn switch(
+    seats: &mut Seats,
+    thread: u32,
+    stack: u32,
+    frames: &mut Frames,
+    waits: Types,
+    to: u32,
+    with_: Entered,
+) -> Entered
+    requires on { IsOn seats.old thread stack }
+    requires within { stack < length seats.old.stacks }
+    requires other { to ≢ stack }
+    requires waits { frames.old.top.waits ≡ waits.members }
+    requires takes { IsReadyFor (slice_get seats.old.stacks to) with_ }
+    ensures passed { result ≡ with_ }
+    ensures frames { slice_get seats.old.stacks to ≡ Some (Ready (frames_of frames.new)) }
+    ensures moved { IsMoved seats.old seats.new thread stack to (Ready (frames_of frames.old)) }
+{
+    seats.exchange(thread, stack, frames);
+    let passed = seats.leave_to(thread, stack, waits, to, with_);
+    seats.exchange(thread, to, frames);
+    passed
+}
+
+/// The thread puts its frames back, its stack dies, and it takes up the frames of another stack that it enters. The frames of the
+/// dead stack come back, and what was handed to the other one.
+#[tactic(auto, using(crate::specs::EnteringLaws::moving))]
+pub(crate) fn switch_ending(
+    seats: &mut Seats,
+    thread: u32,
+    stack: u32,
+    frames: &mut Frames,
+    to: u32,
+    with_: Entered,
+) -> (Frames, Entered)
+    requires on { IsOn seats.old thread stack }
+    requires within { stack < length seats.old.stacks }
+    requires other { to ≢ stack }
+    requires takes { IsReadyFor (slice_get seats.old.stacks to) with_ }
+    ensures ended { frames_of result.0 ≡ frames_of frames.old }
+    ensures passed { result.1 ≡ with_ }
+    ensures frames { slice_get seats.old.stacks to ≡ Some (Ready (frames_of frames.new)) }
+    ensures moved { IsMoved seats.old seats.new thread stack to Dead }
+{
+    seats.exchange(thread, stack, frames);
+    let (ended, passed) = seats.end_to(thread, stack, to, with_);
+    seats.exchange(thread, to, frames);
+    (ended, passed)
+}
+
+/// The thread puts its frames back, the next thread is started on another stack, and the frames of that are taken up. What was
+/// handed to it comes back.
+#[tactic(auto, using(crate::specs::EnteringLaws::moving))]
+pub(crate) fn switch_starting(
+    seats: &mut Seats,
+    thread: u32,
+    stack: u32,
+    frames: &mut Frames,
+    number: u32,
+    own: Scalar,
+    to: u32,
+    with_: Entered,
+) -> Entered
+    requires on { IsOn seats.old thread stack }
+    requires number { number ≡ length seats.old.threads }
+    requires few { length seats.old.threads < 64 }
+    requires other { to ≢ stack }
+    requires takes { IsReadyFor (slice_get seats.old.stacks to) with_ }
+    ensures passed { result ≡ with_ }
+    ensures frames { slice_get seats.old.stacks to ≡ Some (Ready (frames_of frames.new)) }
+    ensures started { IsStarted seats.old seats.new stack to own (Active thread (frames_of frames.old)) }
+{
+    seats.exchange(thread, stack, frames);
+    let passed = seats.start(to, own, with_);
+    seats.exchange(number, to, frames);
+    passed
+}
+
+/// A memory gets two events that are no accesses.
+pub(crate) fn log_two<M: Memory>(memory: &mut M, first: Event, second: Event)
+    requires first { is_any_access first ≡ false }
+    requires second { is_any_access second ≡ false }
+    requires first_fits { EventFits (M.rule memory.old) (M.objects memory.old) (M.log memory.old) first }
+    requires second_fits { EventFits (M.rule memory.old) (M.objects memory.old) (first ∷ M.log memory.old) second }
+    requires room { (M.room memory.old).events ≡ 2 }
+    requires count { length (M.log memory.old) + 2 < 4294967295 }
+    ensures log { M.log memory.new ≡ second ∷ first ∷ M.log memory.old }
+    ensures same_objects { M.objects memory.new ≡ M.objects memory.old }
+    ensures same_rule { M.rule memory.new ≡ M.rule memory.old }
+{
+    commit_other::<M, Brand>(memory, first, Blank::new(1));
+    commit_other::<M, Brand>(memory, second, Blank::new(1));
+}
