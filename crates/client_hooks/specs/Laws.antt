@@ -1,11 +1,11 @@
 -- Laws of handlers.
-use Rattle.std.specs.Prelude.{◌≡◌, [], refl}
-use Rattle.std.proofs.Common.{sym, subst}
+use Rattle.std.specs.Prelude.{◌≡◌, [], true, Option, Some, refl}
+use Rattle.std.proofs.Common.{sym, ◌∙◌, ap, subst}
 use Rattle.check_tables.specs.declared.tables.Tables.{Tables}
 use Rattle.mu_values.specs.Slots.{TypedValues}
-use Rattle.mu_model.specs.Clients.{Classed, With, Pass, Throw, Reply, Resume, Rebind, Exit, Stop, Answer}
+use Rattle.mu_model.specs.Clients.{Classed, With, Pass, Throw, Reply, Resume, Rebind, Exit, Stop, Answer, Client}
 use Rattle.mu_model.specs.Outcomes.{View}
-use Rattle.mu_model.specs.Answers.{blank, plain_answer}
+use Rattle.mu_model.specs.Answers.{blank, plain_answer, answer_of, advanced}
 use Rattle.client_hooks.specs.Told.{is_blank, EntersWithTold, RepliesTold}
 use Rattle.client_hooks.specs.Handlers.{PassesAsked, ResumesAsked, OnlyResumes}
 
@@ -26,3 +26,14 @@ replied_told p view Stop h = absurd h
 -- what only resumes gives no value but those of the view
 pub resumed_told : (p : Tables) (view : View) (a : Answer) → OnlyResumes p view a → RepliesTold p view [] a.reply
 resumed_told p view a h = replied_told p view a.reply h.1
+
+-- ---- what passes zero and NULL is the client that has no entries and does so
+
+abbrev pub auto_client : Client
+auto_client = record { entries = []; auto = true }
+
+pub blank_is_auto : (p : Tables) (view : View) (o : Option Answer) → (a : Answer) × (o ≡ Some a) × (a ≡ plain_answer (Resume (Pass (blank p view.asked)))) → o ≡ answer_of p view auto_client
+blank_is_auto p view o h = h.1 ∙ ap Some h.2
+
+pub auto_stays : auto_client ≡ advanced auto_client
+auto_stays = refl

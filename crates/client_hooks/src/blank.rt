@@ -3,8 +3,10 @@ ghost use Rattle.std.specs.Prelude.{◌≡◌};
 ghost use Rattle.mu_model.specs.Clients.{Pass, Resume};
 ghost use Rattle.mu_model.specs.Answers.{blank, plain_answer};
 
+use crate::client::Client;
 use crate::copying::copy_values;
-use crate::hook::Handler;
+use crate::determined::Determined;
+use crate::hook::{Handler, Hook};
 use crate::notes::{Notes, Watches};
 use crate::reply::{Reply, ReplyEnd, With};
 use crate::view::TrapView;
@@ -40,4 +42,14 @@ impl Handler for PassBlank {
     }
 
     ghost resumes = { λ _. blank_resumes };
+}
+
+impl Determined for Hook<PassBlank> {
+    ghost use Rattle.client_hooks.specs.Laws.{auto_client, blank_is_auto, auto_stays};
+
+    ghost stands_for = { λ _. auto_client };
+
+    ghost answers = { λ _ p view o h. blank_is_auto p view o h };
+
+    ghost goes_on = { λ _ _ _. auto_stays };
 }

@@ -5,6 +5,7 @@ ghost use Rattle.mu_model.specs.Clients.{Answer};
 ghost use Rattle.mu_model.specs.Outcomes.{View};
 ghost use Rattle.mu_model.specs.Answers.{answer_of};
 ghost use Rattle.client_hooks.specs.Handlers.{OnlyResumes};
+ghost use Rattle.client_hooks.specs.AutoAnswers.{AnswersGoOn};
 
 use crate::blank::PassBlank;
 use crate::client::Client;
@@ -19,4 +20,9 @@ pub fn hooks_resume<H: Handler>()
 /// view.
 pub fn blank_hooks_are_auto()
     ensures { (h : _) (p : Tables) (view : View) (o : Option Answer) → ⟦<Hook<PassBlank> as Client>⟧.may h p view o → o ≡ answer_of p view (record { entries = []; auto = true }) }
+{}
+
+/// An answer of a hook never ends a run: where a trap asks it, the step goes on with what comes of its answer.
+pub fn hooks_go_on<H: Handler>()
+    ensures { (h : _) → AnswersGoOn (⟦<Hook<H> as Client>⟧.may h) }
 {}

@@ -7,17 +7,21 @@
 mod blank;
 mod client;
 mod copying;
+mod determined;
 mod hook;
 mod laws;
 mod notes;
+mod plan;
 mod reply;
 mod view;
 
 pub use blank::PassBlank;
 pub use client::Client;
 pub use copying::copy_values;
+pub use determined::Determined;
 pub use hook::{Handler, Hook};
-pub use laws::{blank_hooks_are_auto, hooks_resume};
+pub use laws::{blank_hooks_are_auto, hooks_go_on, hooks_resume};
 pub use notes::{Notes, Watch, Watches};
+pub use plan::{End, Plan};
 pub use reply::{ClassedValue, ClientFault, Reply, ReplyEnd, With};
 pub use view::TrapView;

@@ -1,17 +1,16 @@
 //! What an answer records, and which watchpoints it changes.
-ghost use Rattle.std.specs.Prelude.{◌≡◌, [], ◌∷◌, ◌++◌, OnOk};
+ghost use Rattle.std.specs.Prelude.{◌≡◌, [], ◌∷◌, ◌++◌, OnOk, OnErr};
 ghost use Rattle.mu_model.specs.declared.lines.Note.TheVariants.{Frame, Kept};
 
 use mu_model::Note;
 use mu_values::Passed;
 use std::alloc::{AllocError, Global};
 use std::marker::Model;
-use text_forms::Listing;
 
 /// Records, in order, each of where a frame stands or of what it keeps. Contracts see them as records of a run.
 #[derive(Drop)]
 pub struct Notes {
-    notes: Listing<Note>,
+    notes: Vec<Note>,
 }
 
 impl Model for Notes {
@@ -20,7 +19,7 @@ impl Model for Notes {
 
     ghost Value = { List Note };
 
-    ghost view = { λ n. n.notes };
+    ghost view = { λ n. n.notes.items };
 }
 
 impl Notes {
@@ -29,28 +28,32 @@ impl Notes {
         ensures { result ≡ [] }
     {
         Notes {
-            notes: Listing::new(alloc),
+            notes: Vec::new(alloc),
         }
     }
 
     /// Adds a record of where a frame stands, by its number from the top. After a refusal for want of memory the records are as
     /// before.
     pub fn add_frame(&mut self, frame: u32, block: u32, at: u32) -> Result<(), AllocError>
-        ensures { OnOk result (self.new ≡ self.old ++ Frame frame block at ∷ []) }
+        ensures added { OnOk result (self.new ≡ self.old ++ Frame frame block at ∷ []) }
+        ensures same { OnErr result (self.new ≡ self.old) }
     {
-        self.notes.push(Note::Frame { frame, block, at })
+        self.notes.push(Note::Frame { frame, block, at })?;
+        Ok(())
     }
 
     /// Adds a record of what a frame keeps, by its number from the top. After a refusal for want of memory the records are as before.
     pub fn add_kept(&mut self, frame: u32, values: Passed) -> Result<(), AllocError>
-        ensures { OnOk result (self.new ≡ self.old ++ Kept frame values ∷ []) }
+        ensures added { OnOk result (self.new ≡ self.old ++ Kept frame values ∷ []) }
+        ensures same { OnErr result (self.new ≡ self.old) }
     {
-        self.notes.push(Note::Kept { frame, values })
+        self.notes.push(Note::Kept { frame, values })?;
+        Ok(())
     }
 
     /// The records.
-    pub fn into_list(self) -> Listing<Note>
-        ensures { result ≡ self }
+    pub fn into_vec(self) -> Vec<Note>
+        ensures { result.items ≡ self }
     {
         self.notes
     }
@@ -66,7 +69,7 @@ pub struct Watch {
 /// Changes of watchpoints, in order. Contracts see pairs of a number and whether it is enabled.
 #[derive(Drop)]
 pub struct Watches {
-    watches: Listing<Watch>,
+    watches: Vec<Watch>,
 }
 
 impl Model for Watches {
@@ -74,7 +77,7 @@ impl Model for Watches {
 
     ghost Value = { List (ℕ × Bool) };
 
-    ghost view = { λ w. map (λ x. (x.number, x.enabled)) w.watches };
+    ghost view = { λ w. map (λ x. (x.number, x.enabled)) w.watches.items };
 }
 
 impl Watches {
@@ -85,15 +88,17 @@ impl Watches {
         ensures { result ≡ [] }
     {
         Watches {
-            watches: Listing::new(alloc),
+            watches: Vec::new(alloc),
         }
     }
 
     /// Adds a change behind the others. After a refusal for want of memory they are as before.
     pub fn add(&mut self, watch: Watch) -> Result<(), AllocError>
-        ensures { OnOk result (self.new ≡ self.old ++ (watch.number, watch.enabled) ∷ []) }
+        ensures added { OnOk result (self.new ≡ self.old ++ (watch.number, watch.enabled) ∷ []) }
+        ensures same { OnErr result (self.new ≡ self.old) }
     {
-        self.watches.push(watch)
+        self.watches.push(watch)?;
+        Ok(())
     }
 
     /// The changes.

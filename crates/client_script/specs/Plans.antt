@@ -5,16 +5,11 @@ use Rattle.mu_values.specs.Slots.{TypedValues}
 use Rattle.frames.specs.Activations.{Activation}
 use Rattle.typed_heap.specs.Places.{with_some}
 use Rattle.mu_model.specs.declared.lines.Note.{Note}
-use Rattle.mu_model.specs.Clients as clients
-use Rattle.mu_model.specs.Clients.{Argument, Action, Answer}
+use Rattle.mu_model.specs.Clients.{Argument, Action}
 use Rattle.mu_model.specs.Operands.{all_some}
 use Rattle.mu_model.specs.Answers.{argument_value, typed, notes_of}
-use Rattle.client_hooks.specs.Replies.{classed, way_of}
-use Rattle.client_script.specs.declared.plan.Refusal.{Refusal}
-use Rattle.client_script.specs.declared.plan.Refusal.TheVariants.{Misuse, Memory}
-use Rattle.client_script.specs.declared.plan.End.{End}
-use Rattle.client_script.specs.declared.plan.End.TheVariants as ends
-use Rattle.client_script.specs.declared.plan.Plan.{Plan}
+use Rattle.client_script.specs.declared.refusal.Refusal.{Refusal}
+use Rattle.client_script.specs.declared.refusal.Refusal.TheVariants.{Misuse, Memory}
 
 -- a part is made, as f sees it; it is misuse exactly where there is none
 abbrev pub Makes : {A B : Type 0} → (B → A) → Option A → Result B Refusal → Type 0
@@ -34,12 +29,3 @@ passed fs args = with_some (all_some (map (argument_value fs) args)) (λ vs. Som
 
 abbrev pub noted : List Activation → List Action → Option (List Note)
 noted fs actions = with_some (all_some (map (notes_of fs) actions)) (λ ns. Some (flat_map (λ n. n) ns))
-
-abbrev pub end_planned : End → clients.Reply TypedValues clients.Classed
-end_planned (ends.Resume w) = clients.Resume (way_of w)
-end_planned (ends.Rebind target w) = clients.Rebind (classed target) (way_of w)
-end_planned ends.Exit = clients.Exit
-end_planned ends.Stop = clients.Stop
-
-abbrev pub planned : Plan → Answer
-planned x = record { notes = x.notes; watches = x.watches; reply = end_planned x.end }

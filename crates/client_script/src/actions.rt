@@ -6,7 +6,7 @@ ghost use Rattle.mu_model.specs.Answers.{frame_notes, notes_of, watches_of};
 ghost use Rattle.client_script.specs.Meaning.{action_meant};
 ghost use Rattle.client_script.specs.Plans.{Makes, Adds, noted};
 
-use crate::plan::Refusal;
+use crate::refusal::Refusal;
 use crate::tree::Action;
 use client_hooks::{Notes, Watch, Watches, copy_values};
 use frames::Frames;

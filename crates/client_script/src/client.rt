@@ -4,16 +4,19 @@ ghost use Rattle.frames.specs.Chains.{frames_of};
 ghost use Rattle.mu_model.specs.Answers.{entry_answer, answer_of, advanced, plain_answer};
 ghost use Rattle.mu_model.specs.Clients as clients;
 ghost use Rattle.client_hooks.specs.Replies.{answer_in, stack_of};
+ghost use Rattle.client_hooks.specs.Plans.{planned};
 ghost use Rattle.client_script.specs.Meaning.{entry_meant};
 ghost use Rattle.client_script.specs.ScriptClients.{client_of, values_named};
-ghost use Rattle.client_script.specs.Plans.{Makes, planned};
+ghost use Rattle.client_script.specs.Plans.{Makes};
 
 use crate::actions::{notes, watches};
-use crate::plan::{Plan, Refusal};
+use crate::refusal::Refusal;
 use crate::script::Script;
 use crate::tree::Entry;
 use crate::values::end;
-use client_hooks::{Client, ClientFault, Notes, Reply, ReplyEnd, TrapView, Watches};
+use client_hooks::{
+    Client, ClientFault, Determined, Notes, Plan, Reply, ReplyEnd, TrapView, Watches,
+};
 use frames::Frames;
 use stacks::ReadyStack;
 use std::alloc::Global;
@@ -72,4 +75,12 @@ impl Client for Script {
     fn advance(&mut self) {
         self.skip();
     }
+}
+
+impl Determined for Script {
+    ghost stands_for = { client_of };
+
+    ghost answers = { λ _ _ _ _ h. h };
+
+    ghost goes_on = { λ _ _ h. h };
 }

@@ -5,13 +5,14 @@ ghost use Rattle.mu_model.specs.Clients.{KeptValue};
 ghost use Rattle.mu_model.specs.Answers.{typed_value_at, argument_value, with_of, reply_of};
 ghost use Rattle.client_hooks.specs.Replies.{classed, way_of};
 ghost use Rattle.client_script.specs.Meaning.{argument_meant, way_meant, reply_meant};
-ghost use Rattle.client_script.specs.Plans.{Makes, passed, end_planned};
+ghost use Rattle.client_hooks.specs.Plans.{end_planned};
+ghost use Rattle.client_script.specs.Plans.{Makes, passed};
 ghost use Rattle.client_script.specs.declared.tree.Reply.TheVariants as tree;
 
-use crate::plan::{End, Refusal};
+use crate::refusal::Refusal;
 use crate::told::copied;
 use crate::tree::{Argument, Reply, With};
-use client_hooks::{ClassedValue, TrapView, With as Way};
+use client_hooks::{ClassedValue, End, TrapView, With as Way};
 use frames::Frames;
 use mu_base::Types;
 use mu_values::{Passed, Slots};

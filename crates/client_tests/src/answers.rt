@@ -7,7 +7,7 @@ use bundle_check::{Checked, check};
 use bundle_facts::{constants_have_classes, widths_are_narrow};
 use bundle_names::resolve;
 use client_hooks::{Client, ClientFault, Hook, PassBlank, Reply, ReplyEnd, TrapView, Watch, With};
-use client_script::{Script, ScriptFault, read_script};
+use client_script::{RunClient, ScriptFault, read_script};
 use frames::{Frame, Frames};
 use ir_text::read_bundle;
 use mu_base::{Ids, Types};
@@ -156,7 +156,7 @@ fn records(rt: &impl Abort, alloc: Global, code: &Checked) -> Result<(), Fail> {
     let Some(reply) = answer(alloc, code, b"{ frames kept 2 kept 1 kept 0 exit }")? else {
         return panic!(rt; "misuse");
     };
-    let notes = reply.notes.into_list();
+    let notes = reply.notes.into_vec();
     assert_eq!(rt; notes.len(), 6);
     assert!(rt; is_frame(notes.get(0), 0, 9, 3));
     assert!(rt; is_frame(notes.get(1), 1, 8, 2));
@@ -253,6 +253,7 @@ enum Wanted {
     Passes(Scalar, Scalar),
     Throws,
     Rebinds { throw: bool },
+    Zero,
     Exits,
     Stops,
     Misuse,
@@ -265,6 +266,7 @@ fn is_wanted(reply: &Option<Reply>, wanted: &Wanted) -> bool {
             Wanted::Passes(first, second) => passes(&reply.end, *first, *second),
             Wanted::Throws => throws(&reply.end),
             Wanted::Rebinds { throw } => rebinds(&reply.end, *throw),
+            Wanted::Zero => is_zero(&reply.end),
             Wanted::Exits => exits(&reply.end),
             Wanted::Stops => stops(&reply.end),
             Wanted::Misuse => false,
@@ -320,14 +322,14 @@ fn misuses(rt: &impl Abort, alloc: Global, code: &Checked) -> Result<(), Fail> {
     )
 }
 
-fn asks(
+fn asks<C: Client>(
     rt: &impl Abort,
     alloc: Global,
     code: &Checked,
-    script: &Script,
+    client: &C,
     wanted: Wanted,
 ) -> Result<(), Fail> {
-    let reply = ask(alloc, code, script)?;
+    let reply = ask(alloc, code, client)?;
     assert!(rt; is_wanted(&reply, &wanted));
     Ok(())
 }
@@ -347,11 +349,53 @@ fn takes_entries_in_order(rt: &impl Abort, alloc: Global, code: &Checked) -> Res
 fn hooks(rt: &impl Abort, alloc: Global, code: &Checked) -> Result<(), Fail> {
     let mut hook = Hook::new(PassBlank);
     hook.advance();
-    let Some(reply) = ask(alloc, code, &hook)? else {
-        return panic!(rt; "misuse");
-    };
-    assert!(rt; is_zero(&reply.end));
-    Ok(())
+    asks(rt, alloc, code, &hook, Wanted::Zero)
+}
+
+// Zero is passed after the last entry, however often.
+fn passes_after_a_script(rt: &impl Abort, alloc: Global, code: &Checked) -> Result<(), Fail> {
+    let script = read_script(alloc, b"{ throw kept 2 0 }", code)?;
+    let mut client = RunClient::new(script, true);
+    asks(rt, alloc, code, &client, Wanted::Throws)?;
+    asks(rt, alloc, code, &client, Wanted::Throws)?;
+    client.advance();
+    asks(rt, alloc, code, &client, Wanted::Zero)?;
+    client.advance();
+    asks(rt, alloc, code, &client, Wanted::Zero)
+}
+
+// The run is stopped after the last entry.
+fn stops_after_a_script(rt: &impl Abort, alloc: Global, code: &Checked) -> Result<(), Fail> {
+    let script = read_script(alloc, b"{ throw kept 2 0 }", code)?;
+    let mut client = RunClient::new(script, false);
+    asks(rt, alloc, code, &client, Wanted::Throws)?;
+    client.advance();
+    asks(rt, alloc, code, &client, Wanted::Stops)?;
+    client.advance();
+    asks(rt, alloc, code, &client, Wanted::Stops)
+}
+
+// Zero is passed at once where there is no entry.
+fn passes_alone(rt: &impl Abort, alloc: Global, code: &Checked) -> Result<(), Fail> {
+    let script = read_script(alloc, b"", code)?;
+    let client = RunClient::new(script, true);
+    asks(rt, alloc, code, &client, Wanted::Zero)
+}
+
+// An entry that is misuse is so with a hook behind it too.
+fn misuses_before_the_hook(rt: &impl Abort, alloc: Global, code: &Checked) -> Result<(), Fail> {
+    let script = read_script(alloc, b"{ kept 3 exit }", code)?;
+    let mut client = RunClient::new(script, true);
+    asks(rt, alloc, code, &client, Wanted::Misuse)?;
+    client.advance();
+    asks(rt, alloc, code, &client, Wanted::Zero)
+}
+
+fn clients_of_runs(rt: &impl Abort, alloc: Global, code: &Checked) -> Result<(), Fail> {
+    passes_after_a_script(rt, alloc, code)?;
+    stops_after_a_script(rt, alloc, code)?;
+    passes_alone(rt, alloc, code)?;
+    misuses_before_the_hook(rt, alloc, code)
 }
 
 // Whether a fault stands at the end of a text, or at a token that reaches its end.
@@ -378,6 +422,7 @@ fn answers_all(rt: &impl Abort, alloc: Global, code: &Checked) -> Result<(), Fai
     misuses(rt, alloc, code)?;
     takes_entries_in_order(rt, alloc, code)?;
     hooks(rt, alloc, code)?;
+    clients_of_runs(rt, alloc, code)?;
     reads_prefixes(rt, alloc, code)
 }
 

@@ -1,0 +1,75 @@
+//! The client of a run.
+ghost use Rattle.std.specs.Prelude.{◌≡◌};
+ghost use Rattle.mu_model.specs.Answers.{answer_of, advanced};
+ghost use Rattle.client_script.specs.ScriptClients.{values_named};
+
+use crate::script::Script;
+use client_hooks::{Client, ClientFault, Determined, Hook, PassBlank, Reply, TrapView};
+use stacks::ReadyStack;
+use std::alloc::Global;
+use std::marker::Model;
+
+/// The client of a run: a script, and after its last entry a hook that passes zero and NULL, where there is one; else the run is stopped
+/// then. Contracts see it as the abstract machine does.
+#[derive(Drop)]
+pub struct RunClient {
+    script: Script,
+    auto: Option<Hook<PassBlank>>,
+}
+
+impl Model for RunClient {
+    ghost use Rattle.std.specs.Prelude.{is_some};
+    ghost use Rattle.mu_model.specs.Clients as clients;
+
+    ghost Value = { clients.Client };
+
+    ghost view = { λ k. record { entries = k.script; auto = is_some k.auto } };
+}
+
+impl RunClient {
+    /// A script, after which zero and NULL are passed or the run is stopped.
+    pub fn new(script: Script, auto: bool) -> RunClient
+        ensures { result ≡ record { entries = script; auto = auto } }
+    {
+        let auto = if auto {
+            Some(Hook::new(PassBlank))
+        } else {
+            None
+        };
+        RunClient { script, auto }
+    }
+}
+
+/// The answer is that of the next entry; after the last entry that of the hook, where there is one, and else it is to stop. It takes
+/// memory for the answer.
+impl Client for RunClient {
+    ghost holds = { λ k. values_named k.entries };
+
+    ghost may = { λ k p view answer. answer ≡ answer_of p view k };
+
+    ghost advances = { λ old new. new ≡ advanced old };
+
+    fn answer(
+        &self,
+        alloc: Global,
+        view: &TrapView,
+        stack: ReadyStack,
+    ) -> Result<Reply, ClientFault> {
+        match &self.auto {
+            Some(hook) if self.script.is_empty() => hook.answer(alloc, view, stack),
+            _ => self.script.answer(alloc, view, stack),
+        }
+    }
+
+    fn advance(&mut self) {
+        self.script.advance();
+    }
+}
+
+impl Determined for RunClient {
+    ghost stands_for = { λ k. k };
+
+    ghost answers = { λ _ _ _ _ h. h };
+
+    ghost goes_on = { λ _ _ h. h };
+}
