@@ -1,12 +1,11 @@
 -- How many cells are left behind some commands.
-use Rattle.std.proofs.Common.{◌≡◌, ℕ, zero, suc, ◌+◌, ◌-◌, ◌≤◌, Bool, true, false, nat_le, List, [], ◌∷◌, ◌++◌, length, drop, map, Option, Some, None, Ok, Err, slice_get, if◌then◌else◌, refl, sym, ◌∙◌, ap, subst, arith, inl, inr}
+use Rattle.std.proofs.Common.{◌≡◌, ℕ, zero, suc, ◌+◌, ◌≤◌, Bool, true, false, nat_le, List, [], ◌∷◌, ◌++◌, length, drop, map, Option, Some, None, Ok, Err, slice_get, if◌then◌else◌, refl, sym, ◌∙◌, ap, subst, arith, inl, inr}
 use Rattle.std.specs.Prelude.{slice_set, sum_by}
 use Rattle.std.proofs.lemmas.List.{drop-append-le}
 use Rattle.std.proofs.lemmas.List.Sums.{sum_by-append, sum_by-cons}
 use Rattle.std.proofs.lemmas.Bool.Decides.{leb_tells}
 use Rattle.demands.specs.declared.fault.Fault.TheVariants.{At}
 use Rattle.demands.specs.Names.{found}
-use Rattle.ir_tree.specs.declared.items.Item.{Item}
 use Rattle.mu_values.specs.declared.scalars.Scalar.{Scalar}
 use Rattle.ir_lex.specs.declared.name.Name.{Name}
 use Rattle.check_tables.specs.TypeTests.{is_hybrid, is_no_hybrid}

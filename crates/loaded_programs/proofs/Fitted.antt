@@ -1,5 +1,5 @@
 -- What a script makes of an accepted text is what a run may begin with.
-use Rattle.std.proofs.Common.{◌≡◌, ℕ, List, [], None, slice_get, refl, sym, subst}
+use Rattle.std.proofs.Common.{◌≡◌, ℕ, false, List, [], None, slice_get, refl, sym, subst}
 use Rattle.std.specs.List.{All}
 use Rattle.demands.specs.Demands.{first_unmet}
 use Rattle.ir_tree.specs.declared.items.Item.{Item}
@@ -14,10 +14,11 @@ use Rattle.typed_heap.proofs.Fitted.{some_and, scalar_grows}
 use Rattle.hail_load.specs.Code.{Code, code_of}
 use Rattle.hail_load.proofs.Knowing.{is_known}
 use Rattle.mu_model.specs.Types.{type_graph}
-use Rattle.mu_model.specs.Run.{global_objects}
+use Rattle.mu_model.specs.Run.{Setting, global_objects}
 use Rattle.typed_programs.specs.Laws.{SettingFits}
 use Rattle.typed_programs.proofs.Running.{plain_fits}
 use Rattle.loaded_programs.specs.Laws.{LoadedSettingFits, ScriptsBeginWithGlobals, LoadedSettingsFit}
+use Rattle.loaded_programs.proofs.Scripts.{scripted_fits}
 use Rattle.loaded_programs.proofs.Globals.{begins_with_globals}
 use Rattle.loaded_programs.proofs.Sources.{Lawful, world_of}
 use Rattle.loaded_programs.proofs.Loading.{IsSound, grown, load_sound}
@@ -36,11 +37,12 @@ first_sound : (c : Code) (os : List HeapObject) (cells : ℕ) → All (ObjectFit
 first_sound c os cells fit = record { objects = fit; keeps = keeps_all os; made = λ name m e. cc }
 
 pub loaded_setting_fits : (bundle : List Item) → first_unmet (name_demands bundle) ≡ None → first_unmet (check_demands bundle) ≡ None → LoadedSettingFits bundle
-loaded_setting_fits bundle names checked s commands cells same none =
+loaded_setting_fits bundle names checked s commands cells same scripted =
     let c = code_of bundle in
     let p = bundle_tables bundle in
     let base : List HeapObject = global_objects p in
-    let plain : SettingFits bundle (record s { objects = base }) = plain_fits bundle names checked (record s { objects = base }) (record { objects = refl; entries = none }) in
+    let alone : Setting = record s { objects = base; client = record { entries = []; auto = false } } in
+    let plain : SettingFits bundle alone = plain_fits bundle names checked alone (record { objects = refl; entries = refl }) in
     let sound = load_sound c (lawful bundle names checked) (is_known bundle checked) base (begins_with_globals bundle names checked) (record { objects = base; left = cells; made = [] }) commands
     (first_sound c base cells plain.objects) in
     let keeps : KeepsLeaves base s.objects = subst (KeepsLeaves base) (sym same) sound.keeps in
@@ -50,7 +52,7 @@ loaded_setting_fits bundle names checked s commands cells same none =
         places = λ n d e. scalar_grows (type_graph p) (world_of c base) (world_of c s.objects) d (Place n 0) (grown c base s.objects keeps) (plain.globals.places n d e);
       };
       objects = subst (λ (os : List HeapObject). All (ObjectFits (type_graph p) (world_of c os)) os) (sym same) sound.objects;
-      client = plain.client;
+      client = scripted_fits bundle names checked s.client scripted;
     }
 
 pub scripts_begin_with_globals : ScriptsBeginWithGlobals

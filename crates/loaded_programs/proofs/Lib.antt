@@ -4,5 +4,7 @@ pub mod Sources
 pub mod Judging
 pub mod Globals
 pub mod Loading
+pub mod Told
+pub mod Scripts
 pub mod Fitted
 pub mod Counting

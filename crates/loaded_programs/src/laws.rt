@@ -1,4 +1,4 @@
-// What holds of scripts for the heap of every text that is read and accepted.
+// What holds of scripts for the heap and for the client of every text that is read and accepted.
 ghost use Rattle.loaded_programs.specs.Laws.{ScriptsBeginWithGlobals, LoadedSettingsFit, CellsAreCounted};
 
 /// The objects of the globals that a run begins with are those that a script begins with.
@@ -6,7 +6,8 @@ pub fn scripts_begin_with_globals()
     ensures { ScriptsBeginWithGlobals }
 {}
 
-/// A setting whose objects are those behind some commands, up to the first that is refused, and whose client has no entries fits.
+/// A setting whose objects are those behind some commands, up to the first that is refused, and whose client has the entries of a script
+/// that is accepted fits.
 pub fn loaded_settings_fit()
     ensures { LoadedSettingsFit }
 {}

@@ -1,5 +1,5 @@
-//! What a script for the heap makes of an accepted bundle is what a run may begin with. This crate has no code; each of its functions does
-//! nothing, and its contract is a law.
+//! What a script for the heap makes of an accepted bundle, and the entries of a client's script, are what a run may begin with. This
+//! crate has no code; each of its functions does nothing, and its contract is a law.
 #![tactic(auto)]
 
 mod laws;
