@@ -1,5 +1,5 @@
 -- Lemmas of stacks that are entered, over the view of a state and its parts.
-use Rattle.std.proofs.Common.{◌≡◌, ◌≢◌, ℕ, suc, ◌+◌, ◌*◌, ◌<◌, ◌≤◌, true, false, List, [], ◌∷◌, Option, Some, None, IsSome, IfSome, IsSomeAnd, Result, Ok, Err, IfOk, length, slice_get, option_map, take, drop, refl, sym, ◌∙◌, ap, subst, arith}
+use Rattle.std.proofs.Common.{◌≡◌, ◌≢◌, ℕ, suc, ◌+◌, ◌*◌, ◌<◌, ◌≤◌, true, false, List, [], ◌∷◌, Option, Some, None, IsSome, IfSome, IsSomeAnd, Result, Ok, Err, IfOk, length, reverse, slice_get, option_map, take, drop, refl, sym, ◌∙◌, ap, subst, arith}
 use Rattle.ir_tree.specs.declared.items.Item.{Item}
 use Rattle.mu_values.specs.declared.scalars.Scalar.{Scalar}
 use Rattle.mu_values.specs.declared.scalars.Scalar.TheVariants as scalars
@@ -31,11 +31,11 @@ use Rattle.step_forms.specs.declared.entering.Entering.TheVariants as asked_to
 use Rattle.mu_step.specs.declared.arriving.Arrival.{Arrival}
 use Rattle.mu_step.specs.Held.{Held}
 use Rattle.mu_step.specs.Acting.{answers, acting, goes_on, gets, Awaited, with_awaited, awaits, objects_end}
-use Rattle.mu_step.specs.Entering.{entered_by, landed, arrives, handed, frames_at, IsMoved, swapped, left_dead}
+use Rattle.mu_step.specs.Entering.{entered_by, landed, arrives, handed, frames_at, IsMoved, swapped, swapped_with, left_dead}
 use Rattle.mu_step.specs.StepLaws.{some_of, some_there, with_there, get_below}
 use Rattle.mu_step.specs.ActLaws.{gets_there}
 use Rattle.mu_step.specs.EnteringLaws.{values_there, values_enter, thrown_there, thrown_enters, misfits, takes_so}
-use Rattle.mu_step.specs.SwapLaws.{at_stack, entry, leaves, frames_objects, one_told, two_told, Moved, ready_frames, frames_are, swap_awaits, swap_looks, swap_goes, swapped_is, leave_looks, leave_goes, left_is}
+use Rattle.mu_step.specs.SwapLaws.{at_stack, entry, leaves, frames_objects, one_told, Moved, ready_frames, frames_are, swap_awaits, swap_looks, swap_goes, swapped_with_is, swapped_lines, leave_looks, leave_goes, left_is}
 use Rattle.mu_step.proofs.Passing.{handled}
 
 -- ---- values that a stack is entered with
@@ -84,7 +84,7 @@ pub lands_by : (o : Option (Result EnteredFrames Case)) (r : Option EnteredFrame
 lands_by o None e h = let no : o ≡ None = e in cc
 lands_by o (Some w) e h = (w, refl, e)
 
-landed_low : (fs : List Activation) (n block at : ℕ) (vs : List Value) → IsSome (landed fs n block at vs) → n < length fs
+pub landed_low : (fs : List Activation) (n block at : ℕ) (vs : List Value) → IsSome (landed fs n block at vs) → n < length fs
 landed_low fs n block at vs h =
     let go : Activation → Option EnteredFrames = λ f. Some (record { frames = stands f block at vs ∷ drop (suc n) fs; ended = take n fs }) in
     let r = some_of (landed fs n block at vs) h in
@@ -140,16 +140,16 @@ steps_low s v view h =
 
 -- ---- a thread that swaps
 
-pub swaps_so : (s v : Held) (w : Awaited) (to : ℕ) (a : Arrival) (vs : List Value) (f1 f2 f3 : Chain) (seats : Seats) (os : List HeapObject) (cells number : ℕ) (lg after : List Event) (rl kept : Rule) (ls : List Line)
+pub swaps_so : (s v : Held) (w : Awaited) (to : ℕ) (a : Arrival) (vs : List Value) (f1 f2 f3 : Chain) (seats : Seats) (os : List HeapObject) (cells : ℕ) (lg after : List Event) (rl kept : Rule) (ls : List Line)
     → v ≡ s → s.left ≡ true → f1 ≡ record v.frames { top = with_awaited v.frames.top w } → slice_get v.seats.stacks to ≡ Some (Ready (frames_of f2)) → IsMoved v.seats seats v.thread v.stack to (Ready (frames_of f1))
     → arrives a (frames_of f2) vs ≡ Some (record { frames = frames_of f3; ended = take a.above (frames_of f2) }) → os ≡ objects_end v.objects (frames_objects (take a.above (frames_of f2))) → cells ≡ v.cells
-    → lg ≡ v.log → rl ≡ v.rule → after ≡ entry v to ∷ leaves v ∷ lg → kept ≡ rl → number ≡ length v.log → ls ≡ lines.Event number (leaves v) ∷ lines.Event (number + 1) (entry v to) ∷ []
-    → IfSome (arrives a (frames_at (slice_get s.seats.stacks to)) vs) (λ r. answers (Went ls) (at_stack v to f3 seats os cells after kept) ≡ swapped s (with_awaited s.frames.top w) to r)
-swaps_so s v w to a vs f1 f2 f3 seats os cells number lg after rl kept ls view left waits ready seated arrived objects same log rule added still count told =
+    → lg ≡ v.log → rl ≡ v.rule → after ≡ entry v to ∷ leaves v ∷ lg → kept ≡ rl
+    → IfSome (arrives a (frames_at (slice_get s.seats.stacks to)) vs) (λ r. answers (Went ls) (at_stack v to f3 seats os cells after kept) ≡ swapped_with s (with_awaited s.frames.top w) to r ls)
+swaps_so s v w to a vs f1 f2 f3 seats os cells lg after rl kept ls view left waits ready seated arrived objects same log rule added still =
     let r : EnteredFrames = record { frames = frames_of f3; ended = take a.above (frames_of f2) } in
     let f = with_awaited v.frames.top w in
     let on : v.left ≡ true = ap (λ (s : Held). s.left) view ∙ left in
-    let q : Moved v (Ready (f ∷ v.frames.below)) to r (objects_end v.objects (frames_objects r.ended)) (entry v to ∷ leaves v ∷ v.log) (lines.Event (suc (length v.log)) (entry v to) ∷ lines.Event (length v.log) (leaves v) ∷ []) f3 seats os cells after kept ls = record {
+    let q : Moved v (Ready (f ∷ v.frames.below)) to r (objects_end v.objects (frames_objects r.ended)) (entry v to ∷ leaves v ∷ v.log) (reverse ls) f3 seats os cells after kept ls = record {
       left = on;
       seated = subst (λ fr. IsMoved v.seats seats v.thread v.stack to (Ready (frames_of fr))) waits seated;
       frames = refl;
@@ -157,32 +157,35 @@ swaps_so s v w to a vs f1 f2 f3 seats os cells number lg after rl kept ls view l
       cells_same = same;
       logged = added ∙ ap (λ lg. entry v to ∷ leaves v ∷ lg) log;
       rule = still ∙ rule;
-      lines = two_told (leaves v) (entry v to) number (length v.log) ls count told;
+      lines = refl;
     } in
-    let is = swapped_is v f to r f3 seats os cells after kept ls q in
+    let is = swapped_with_is v f to r f3 seats os cells after kept ls q in
     let found : arrives a (frames_at (slice_get v.seats.stacks to)) vs ≡ Some r = ap (λ fs. arrives a fs vs) (frames_are (slice_get v.seats.stacks to) (frames_of f2) ready) ∙ arrived in
-    let main : IfSome (arrives a (frames_at (slice_get v.seats.stacks to)) vs) (λ r. answers (Went ls) (at_stack v to f3 seats os cells after kept) ≡ swapped v (with_awaited v.frames.top w) to r) =
-    subst (λ o. IfSome o (λ r. answers (Went ls) (at_stack v to f3 seats os cells after kept) ≡ swapped v (with_awaited v.frames.top w) to r)) (sym found) is in
-    subst (λ (s : Held). IfSome (arrives a (frames_at (slice_get s.seats.stacks to)) vs) (λ r. answers (Went ls) (at_stack v to f3 seats os cells after kept) ≡ swapped s (with_awaited s.frames.top w) to r)) view main
+    let main : IfSome (arrives a (frames_at (slice_get v.seats.stacks to)) vs) (λ r. answers (Went ls) (at_stack v to f3 seats os cells after kept) ≡ swapped_with v (with_awaited v.frames.top w) to r ls) =
+    subst (λ o. IfSome o (λ r. answers (Went ls) (at_stack v to f3 seats os cells after kept) ≡ swapped_with v (with_awaited v.frames.top w) to r ls)) (sym found) is in
+    subst (λ (s : Held). IfSome (arrives a (frames_at (slice_get s.seats.stacks to)) vs) (λ r. answers (Went ls) (at_stack v to f3 seats os cells after kept) ≡ swapped_with s (with_awaited s.frames.top w) to r ls)) view main
 
 pub awaits_at : (bundle : List Item) (s v : Held) (sc : Scalar) (cs ds : List ℕ) (e : Entering) (f : Activation) → v ≡ s → acting bundle s (Swaps sc cs e) ≢ Stuck → f ≡ v.frames.top → ds ≡ cs → IsSome (awaits bundle f ds)
 awaits_at bundle s v sc cs ds e f view h top same =
     let at : f ≡ s.frames.top = top ∙ ap (λ (x : Held). x.frames.top) view in
     subst (λ f. IsSome (awaits bundle f ds)) (sym at) (subst (λ ds. IsSome (awaits bundle s.frames.top ds)) (sym same) (swap_awaits bundle s sc cs e h))
 
-pub swap_answered : {E : Type 0} (bundle : List Item) (s v t : Held) (to : ℕ) (cs ds : List ℕ) (e : Entering) (a : Arrival) (ws : List Value) (f : Activation) (w : Awaited) (r : Result StepEnd E) → v ≡ s → acting bundle s (Swaps (scalars.Stack to) cs e) ≢ Stuck
+pub swap_answered : {E : Type 0} (bundle : List Item) (s v t : Held) (to : ℕ) (cs ds : List ℕ) (e : Entering) (a : Arrival) (ws : List Value) (f : Activation) (w : Awaited) (number : ℕ) (ls : List Line) (r : Result StepEnd E) → v ≡ s → acting bundle s (Swaps (scalars.Stack to) cs e) ≢ Stuck
     → to ≢ s.stack → IsReady (slice_get s.seats.stacks to) → entered_by bundle (frames_at (slice_get s.seats.stacks to)) e ≡ option_map Ok (arrives a (frames_at (slice_get s.seats.stacks to)) ws)
     → f ≡ v.frames.top → ds ≡ cs → awaits bundle f ds ≡ Some w
-    → IfOk r (λ end. IfSome (arrives a (frames_at (slice_get s.seats.stacks to)) ws) (λ r. answers end t ≡ swapped s (with_awaited s.frames.top w) to r))
+    → number ≡ length v.log → ls ≡ lines.Event number (leaves v) ∷ lines.Event (number + 1) (entry v to) ∷ []
+    → IfOk r (λ end. IfSome (arrives a (frames_at (slice_get s.seats.stacks to)) ws) (λ r. answers end t ≡ swapped_with s (with_awaited s.frames.top w) to r ls))
     → IfOk r (λ end. answers end t ≡ acting bundle s (Swaps (scalars.Stack to) cs e))
-swap_answered bundle s v t to cs ds e a ws f w (Err q) view h other ready lands top same await so = tt
-swap_answered bundle s v t to cs ds e a ws f w (Ok end) view h other ready lands top same await so =
+swap_answered bundle s v t to cs ds e a ws f w number ls (Err q) view h other ready lands top same await count told so = tt
+swap_answered bundle s v t to cs ds e a ws f w number ls (Ok end) view h other ready lands top same await count told so =
     let fs = frames_at (slice_get s.seats.stacks to) in
     let at : f ≡ s.frames.top = top ∙ ap (λ (x : Held). x.frames.top) view in
     let awaited : awaits bundle s.frames.top cs ≡ Some w = ap (λ f. awaits bundle f cs) (sym at) ∙ ap (awaits bundle f) (sym same) ∙ await in
     let l = lands_by (entered_by bundle fs e) (arrives a fs ws) lands (swap_looks bundle s (scalars.Stack to) cs e h to refl other ready) in
-    let is : answers end t ≡ swapped s (with_awaited s.frames.top w) to l.0 = subst (λ o. IfSome o (λ r. answers end t ≡ swapped s (with_awaited s.frames.top w) to r)) l.1 so in
-    is ∙ sym (swap_goes bundle s (scalars.Stack to) cs e h to l.0 w refl other ready l.2 awaited)
+    let is : answers end t ≡ swapped_with s (with_awaited s.frames.top w) to l.0 ls = subst (λ o. IfSome o (λ r. answers end t ≡ swapped_with s (with_awaited s.frames.top w) to r ls)) l.1 so in
+    let counted : number ≡ length s.log = count ∙ ap (λ (s : Held). length s.log) view in
+    let lined : ls ≡ lines.Event number (leaves s) ∷ lines.Event (number + 1) (entry s to) ∷ [] = told ∙ ap (λ (s : Held). lines.Event number (leaves s) ∷ lines.Event (number + 1) (entry s to) ∷ []) view in
+    is ∙ swapped_lines s (with_awaited s.frames.top w) to l.0 number ls counted lined ∙ sym (swap_goes bundle s (scalars.Stack to) cs e h to l.0 w refl other ready l.2 awaited)
 
 -- ---- a thread that leaves its stack for good
 

@@ -16,6 +16,7 @@ use Rattle.mem_axioms.specs.declared.types.Rule.{Rule}
 use Rattle.mem_axioms.specs.declared.types.Event.{Event}
 use Rattle.mu_model.specs.declared.endings.StepEnd.{StepEnd}
 use Rattle.mu_model.specs.declared.endings.Ending.TheVariants.{HeapFull}
+use Rattle.mu_model.specs.Clients.{Client}
 use Rattle.mu_model.specs.Acts.{Gives, Finds, Casts}
 use Rattle.mu_model.specs.Objects.{cast_any}
 use Rattle.mu_model.specs.Outcomes.{Outcome, Stuck}
@@ -35,11 +36,11 @@ pub casts_at : (bundle : List Item) (s v : Held) (class : ℕ) (x : Scalar) → 
 casts_at bundle s v class x view h = subst (λ (s : Held). IsSome (cast_any (bundle_tables bundle) s.objects (class_definition (bundle_tables bundle) class) x)) (sym view) (casts_there bundle s class x h)
 
 -- a heap that is as before
-pub heap_same : (i k : ℕ) (fr : Chain) (left : Bool) (seats : Seats) (skip : ℕ) (lg : List Event) (ps : List ℕ) (rl : Rule) (steps budget : ℕ) (h j : HeapContents) (s : Held) → h ≡ j
-    → record { thread = i; stack = k; frames = fr; left = left; seats = seats; objects = j.objects; log = lg; picks = ps; skip = skip; rule = rl; cells = j.left; steps = steps; budget = budget } ≡ s
-    → record { thread = i; stack = k; frames = fr; left = left; seats = seats; objects = h.objects; log = lg; picks = ps; skip = skip; rule = rl; cells = h.left; steps = steps; budget = budget } ≡ s
-heap_same i k fr left seats skip lg ps rl steps budget h j s e view =
-    ap (λ (h : HeapContents). record { thread = i; stack = k; frames = fr; left = left; seats = seats; objects = h.objects; log = lg; picks = ps; skip = skip; rule = rl; cells = h.left; steps = steps; budget = budget }) e ∙ view
+pub heap_same : (i k : ℕ) (fr : Chain) (left : Bool) (seats : Seats) (skip : ℕ) (lg : List Event) (ws : List ℕ) (cl : Client) (ps : List ℕ) (rl : Rule) (steps budget : ℕ) (h j : HeapContents) (s : Held) → h ≡ j
+    → record { thread = i; stack = k; frames = fr; left = left; seats = seats; objects = j.objects; log = lg; watched = ws; client = cl; picks = ps; skip = skip; rule = rl; cells = j.left; steps = steps; budget = budget } ≡ s
+    → record { thread = i; stack = k; frames = fr; left = left; seats = seats; objects = h.objects; log = lg; watched = ws; client = cl; picks = ps; skip = skip; rule = rl; cells = h.left; steps = steps; budget = budget } ≡ s
+heap_same i k fr left seats skip lg ws cl ps rl steps budget h j s e view =
+    ap (λ (h : HeapContents). record { thread = i; stack = k; frames = fr; left = left; seats = seats; objects = h.objects; log = lg; watched = ws; client = cl; picks = ps; skip = skip; rule = rl; cells = h.left; steps = steps; budget = budget }) e ∙ view
 
 -- so many cells were left
 pub full_here : (s v : Held) (f : HeapFault) (n : ℕ) → v ≡ s → IsFull f n v.cells → IsFull f n s.cells

@@ -15,6 +15,7 @@ use Rattle.mu_model.specs.declared.endings.Case.TheVariants as cases
 use Rattle.mu_model.specs.declared.endings.Ending.{Ending}
 use Rattle.mu_model.specs.declared.endings.Ending.TheVariants.{Undefined}
 use Rattle.mu_model.specs.Types.{classes_given}
+use Rattle.mu_model.specs.Clients.{Client}
 use Rattle.mu_model.specs.Configuration.{Dead, Configuration}
 use Rattle.mu_model.specs.Acts.{Act, Doing, Program}
 use Rattle.mu_model.specs.Turns.{Turn}
@@ -22,6 +23,7 @@ use Rattle.mu_model.specs.Frames.{passed, caught}
 use Rattle.mu_model.specs.Changes.{changed}
 use Rattle.mu_model.specs.Outcomes.{Outcome, Next, on, faulted}
 use Rattle.mu_model.specs.Run.{client_answers}
+use Rattle.mu_model.specs.Traps.{trapped}
 use Rattle.mu_model.specs.Step.{performed, turned}
 use Rattle.mu_model.specs.Waiting.{is_of}
 use Rattle.model_numbers.specs.Numbered.{numbered}
@@ -49,9 +51,9 @@ doing_of p s = p.doing s.frames.top.block s.frames.top.at s.frames.top.vars
 unfoldable pub stepping : List Item → Held → Outcome
 stepping bundle s = on (doing_of (numbered bundle) s) (λ d. turned (numbered bundle) (begun s) (find (is_of s.thread) s.seats.waiters) (turn s d))
 
--- what comes of an outcome where there is no client: a trap stops the run
-abbrev pub told : List Item → Outcome → Outcome
-told bundle o = client_answers (numbered bundle) (record { entries = []; auto = false }) o
+-- what comes of an outcome where this client answers
+abbrev pub told : List Item → Client → Outcome → Outcome
+told bundle k o = client_answers (numbered bundle) k o
 
 -- what an answer says, with the thread as it is left
 unfoldable pub answers : StepEnd → Held → Outcome
@@ -64,6 +66,10 @@ went_on s = Next (begun s)
 -- the same of a step that wrote these lines
 unfoldable pub went_with : Held → List Line → Outcome
 went_with s ls = Next (record (begun s) { lines = ls })
+
+-- the client is asked for values of these classes, at this watchpoint where there is one
+unfoldable pub trapping : List Item → Held → Option ℕ → List ℕ → Outcome
+trapping bundle s watchpoint cs = on (doing_of (numbered bundle) s) (λ d. trapped (numbered bundle) (begun s) (turn s d) watchpoint cs)
 
 -- the thread does an act
 unfoldable pub acting : List Item → Held → Act → Outcome

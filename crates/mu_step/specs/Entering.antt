@@ -1,5 +1,5 @@
 -- Inner: nothing that a reader believes of a run rests on this. It is how a thread leaves its stack and enters another one, in parts.
-use Rattle.std.specs.Prelude.{◌≡◌, ℕ, suc, ◌<◌, false, List, [], ◌∷◌, ◌++◌, Option, Some, None, Result, Ok, Err, length, option_map, slice_get, slice_set, take, drop}
+use Rattle.std.specs.Prelude.{◌≡◌, ℕ, suc, ◌<◌, false, List, [], ◌∷◌, ◌++◌, Option, Some, None, Result, Ok, Err, length, reverse, option_map, slice_get, slice_set, take, drop}
 use Rattle.ir_tree.specs.declared.items.Item.{Item}
 use Rattle.mu_values.specs.declared.scalars.Scalar.{Scalar}
 use Rattle.typed_heap.specs.Places.{with_some}
@@ -7,6 +7,7 @@ use Rattle.frames.specs.Activations.{Value, Activation}
 use Rattle.frames.specs.Chains.{frames_of, stands}
 use Rattle.stacks.specs.declared.entered.Entered.{Entered}
 use Rattle.stacks.specs.declared.entered.Entered.TheVariants.{Values, Thrown}
+use Rattle.mu_model.specs.declared.lines.Line.{Line}
 use Rattle.mu_model.specs.declared.endings.Case.{Case}
 use Rattle.mu_model.specs.Configuration.{Stack, Ready, Active, Dead}
 use Rattle.mu_model.specs.Acts.{Entering, Passes, ThrowsInto, Doing}
@@ -82,6 +83,10 @@ nothing = record { act = None; exceptional = None; kept = None }
 -- its stack is left, with this frame on top, and stack k is entered
 unfoldable pub swapped : Held → Activation → ℕ → EnteredFrames → Outcome
 swapped s f k r = Next (enters s.thread k r (leaving (turn s nothing) f (begun s)))
+
+-- the same with these lines
+unfoldable pub swapped_with : Held → Activation → ℕ → EnteredFrames → List Line → Outcome
+swapped_with s f k r ls = Next (record (enters s.thread k r (leaving (turn s nothing) f (begun s))) { lines = reverse ls })
 
 -- its stack dies with all of its frames, and stack k is entered
 unfoldable pub left_dead : Held → ℕ → EnteredFrames → Outcome

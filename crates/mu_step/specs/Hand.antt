@@ -14,12 +14,13 @@ use Rattle.mu_model.specs.declared.endings.StepEnd.{StepEnd}
 use Rattle.mu_model.specs.declared.endings.StepEnd.TheVariants.{Went, Ended}
 use Rattle.mu_model.specs.declared.endings.Ending.TheVariants.{Done, AllWaiting, Budget}
 use Rattle.heap_cells.specs.declared.cells.CellId.{CellId}
+use Rattle.mu_model.specs.Clients.{Client}
 use Rattle.mu_model.specs.Configuration.{Stack, Active, Thread, Waiter, Configuration}
 use Rattle.mu_model.specs.Acts.{Doing, Program}
 use Rattle.mu_model.specs.Turns.{Turn, active_on, turn_at, turn_of}
 use Rattle.mu_model.specs.Changes.{picked_from, pick}
 use Rattle.mu_model.specs.Waiting.{is_of}
-use Rattle.mu_model.specs.Outcomes.{Outcome, End, on}
+use Rattle.mu_model.specs.Outcomes.{Outcome, End, Stuck, on}
 use Rattle.mu_model.specs.Step.{threads_from, is_blocked, turned, turns, picked, picking_thread, ends_or_picks, step}
 use Rattle.model_numbers.specs.Numbered.{numbered}
 use Rattle.mu_threads.specs.Picks.{pick as pick_of}
@@ -81,11 +82,12 @@ pub record IsTakenUp (s t : Held) (i : ℕ) : Type 0 where
   pub left : t.left ≡ true
   pub thread : t.thread ≡ i
   pub same : configuration t ≡ configuration s
+  pub client : t.client ≡ s.client
   pub picks : t.picks ≡ s.picks
   pub skip : t.skip ≡ s.skip
 
 pub taken_already : (s : Held) (i : ℕ) → s.left ≡ true → s.thread ≡ i → IsTakenUp s s i
-taken_already s i left thread = record { left = left; thread = thread; same = refl; picks = refl; skip = refl }
+taken_already s i left thread = record { left = left; thread = thread; same = refl; client = refl; picks = refl; skip = refl }
 
 -- another thread's frames are in hand now, and what was in hand stands in their place
 abbrev pub lifted : Held → ℕ → ℕ → Chain → Held
@@ -100,6 +102,7 @@ lifted_up s i k frames empty there =
       left = refl;
       thread = refl;
       same = ap (configured s) stacks ∙ ap (λ (left : Bool). configured s (if left then held_stacks s else s.seats.stacks)) (sym empty);
+      client = refl;
       picks = refl;
       skip = refl;
     }
@@ -122,6 +125,7 @@ taken_then s t u rest i left down up =
       left = up.left;
       thread = up.thread;
       same = up.same ∙ ap configuration down ∙ put_down_same s rest left;
+      client = up.client ∙ ap (λ (s : Held). s.client) down;
       picks = up.picks ∙ ap (λ (s : Held). s.picks) down;
       skip = up.skip ∙ ap (λ (s : Held). s.skip) down;
     }
@@ -278,20 +282,24 @@ pub step_over : (bundle : List Item) (s : Held) → length (runnable_of s.seats)
 step_over bundle s some over =
     over_by bundle (configuration s) (threads_from 0 s.seats.threads) (runnable_of s.seats) some (none_filtered (λ i. not (is_blocked s.seats.waiters i)) (threads_from 0 s.seats.threads)) over
 
-pub done_so : (bundle : List Item) (s : Held) (left : List ℕ) (end : StepEnd) → length (runnable_of s.seats) ≡ 0 → left ≡ threads_from 0 s.seats.threads → length left ≡ 0 → answers end s ≡ End [] Done
-    → outcome_of end (configuration s) ≡ told bundle (step (numbered bundle) (configuration s))
+pub done_so : (bundle : List Item) (k : Client) (s : Held) (left : List ℕ) (end : StepEnd) → length (runnable_of s.seats) ≡ 0 → left ≡ threads_from 0 s.seats.threads → length left ≡ 0 → answers end s ≡ End [] Done
+    → outcome_of end (configuration s) ≡ told bundle k (step (numbered bundle) (configuration s))
 unfolding answers
-done_so bundle s left end none same empty is = is ∙ sym (ap (told bundle) (step_done bundle s left none same empty))
+done_so bundle k s left end none same empty is = is ∙ sym (ap (told bundle k) (step_done bundle s left none same empty))
 
-pub waits_so : (bundle : List Item) (s : Held) (left : List ℕ) (end : StepEnd) → length (runnable_of s.seats) ≡ 0 → left ≡ threads_from 0 s.seats.threads → length left ≢ 0 → answers end s ≡ End [] (AllWaiting left)
-    → outcome_of end (configuration s) ≡ told bundle (step (numbered bundle) (configuration s))
+pub waits_so : (bundle : List Item) (k : Client) (s : Held) (left : List ℕ) (end : StepEnd) → length (runnable_of s.seats) ≡ 0 → left ≡ threads_from 0 s.seats.threads → length left ≢ 0 → answers end s ≡ End [] (AllWaiting left)
+    → outcome_of end (configuration s) ≡ told bundle k (step (numbered bundle) (configuration s))
 unfolding answers
-waits_so bundle s left end none same some is = is ∙ sym (ap (told bundle) (step_waits bundle s left none same some))
+waits_so bundle k s left end none same some is = is ∙ sym (ap (told bundle k) (step_waits bundle s left none same some))
 
-pub over_so : (bundle : List Item) (s : Held) (end : StepEnd) → length (runnable_of s.seats) ≢ 0 → s.steps ≡ s.budget → answers end s ≡ End [] (Budget s.steps)
-    → outcome_of end (configuration s) ≡ told bundle (step (numbered bundle) (configuration s))
+pub over_so : (bundle : List Item) (k : Client) (s : Held) (end : StepEnd) → length (runnable_of s.seats) ≢ 0 → s.steps ≡ s.budget → answers end s ≡ End [] (Budget s.steps)
+    → outcome_of end (configuration s) ≡ told bundle k (step (numbered bundle) (configuration s))
 unfolding answers
-over_so bundle s end some over is = is ∙ sym (ap (told bundle) (step_over bundle s some over))
+over_so bundle k s end some over is = is ∙ sym (ap (told bundle k) (step_over bundle s some over))
+
+-- a step that has a rule with the client's answer has one
+pub told_there : (bundle : List Item) (k : Client) (o : Outcome) → told bundle k o ≢ Stuck → o ≢ Stuck
+told_there bundle k o h = λ e. h (ap (told bundle k) e)
 
 -- ---- what an answer says once the picks are taken, or left
 
@@ -300,12 +308,12 @@ is_went (Ok (Went ls)) = true
 is_went (Ok (Ended ls e)) = false
 is_went (Err e) = false
 
-pub settled : {E : Type 0} (bundle : List Item) (r : Result StepEnd E) (s t u v : Held) → step (numbered bundle) (configuration s) ≡ stepping bundle t → IfOk r (λ end. answers end u ≡ told bundle (stepping bundle t))
-    → (is_went r ≡ true → configuration v ≡ configuration u) → IfOk r (λ end. outcome_of end (configuration v) ≡ told bundle (step (numbered bundle) (configuration s)))
+pub settled : {E : Type 0} (bundle : List Item) (k : Client) (r : Result StepEnd E) (s t u v : Held) → step (numbered bundle) (configuration s) ≡ stepping bundle t → IfOk r (λ end. answers end u ≡ told bundle k (stepping bundle t))
+    → (is_went r ≡ true → configuration v ≡ configuration u) → IfOk r (λ end. outcome_of end (configuration v) ≡ told bundle k (step (numbered bundle) (configuration s)))
 unfolding answers
-settled bundle (Ok (Went ls)) s t u v same is taken = ap (outcome_of (Went ls)) (taken refl) ∙ is ∙ ap (told bundle) (sym same)
-settled bundle (Ok (Ended ls e)) s t u v same is taken = is ∙ ap (told bundle) (sym same)
-settled bundle (Err e) s t u v same is taken = tt
+settled bundle k (Ok (Went ls)) s t u v same is taken = ap (outcome_of (Went ls)) (taken refl) ∙ is ∙ ap (told bundle k) (sym same)
+settled bundle k (Ok (Ended ls e)) s t u v same is taken = is ∙ ap (told bundle k) (sym same)
+settled bundle k (Err e) s t u v same is taken = tt
 
 -- ---- the end of a thread
 

@@ -5,6 +5,7 @@ use Rattle.typed_heap.specs.Objects.{HeapObject}
 use Rattle.frames.specs.Chains.{Chain, frames_of}
 use Rattle.mem_axioms.specs.declared.types.Rule.{Rule}
 use Rattle.mem_axioms.specs.declared.types.Event.{Event}
+use Rattle.mu_model.specs.Clients.{Client}
 use Rattle.mu_model.specs.Configuration.{Stack, Active, Configuration}
 use Rattle.seats.specs.Seats.{Seats}
 
@@ -18,6 +19,9 @@ pub record Held : Type 0 where
   pub seats : Seats
   pub objects : List HeapObject
   pub log : List Event
+  -- the watchpoints that are enabled, and the client
+  pub watched : List ℕ
+  pub client : Client
   -- the schedule, and how many numbers of it this step has looked at
   pub picks : List ℕ
   pub skip : ℕ
@@ -43,9 +47,9 @@ configured s stacks =
       stacks = stacks;
       objects = s.objects;
       log = s.log;
-      watched = [];
+      watched = s.watched;
       waiters = s.seats.waiters;
-      client = record { entries = []; auto = false };
+      client = s.client;
       picks = ahead s;
       cells = s.cells;
       steps = s.steps;

@@ -13,7 +13,7 @@ pub mod Machines
 pub mod Making
 pub mod ObjectLaws
 pub mod Outcome
-pub mod Plain
+pub mod Running
 pub mod Rare
 pub mod Remembering
 pub mod StackLaws
@@ -21,6 +21,7 @@ pub mod StartLaws
 pub mod Starting
 pub mod StepLaws
 pub mod SwapLaws
+pub mod Trapping
 pub mod TrapLaws
 pub mod Unwinding
 pub mod WakeLaws

@@ -18,14 +18,12 @@ use Rattle.mu_step.specs.Held.{Held, configuration}
 use Rattle.mu_step.specs.Acting.{told}
 
 -- a step by numbers is one by names
-pub steps_so : (bundle : List Item) (c : Configuration) → ProgramsAreSame → first_unmet (name_demands bundle) ≡ None → first_unmet (check_demands bundle) ≡ None → step (numbered bundle) c ≡ step (named bundle) c
-steps_so bundle c same are met = ap (λ p. step p c) (sym (same bundle are met))
-
-pub steps_there : (bundle : List Item) (c : Configuration) → ProgramsAreSame → first_unmet (name_demands bundle) ≡ None → first_unmet (check_demands bundle) ≡ None → step (named bundle) c ≢ Stuck → step (numbered bundle) c ≢ Stuck
-steps_there bundle c same are met h = λ e. h (sym (steps_so bundle c same are met) ∙ e)
+pub steps_there : (bundle : List Item) (c : Configuration) → ProgramsAreSame → first_unmet (name_demands bundle) ≡ None → first_unmet (check_demands bundle) ≡ None
+    → client_answers (named bundle) c.client (step (named bundle) c) ≢ Stuck → told bundle c.client (step (numbered bundle) c) ≢ Stuck
+steps_there bundle c same are met h = λ e. h (ap (λ p. client_answers p c.client (step p c)) (same bundle are met) ∙ e)
 
 pub steps_answer : (bundle : List Item) (s t : Held) (end : StepEnd) → ProgramsAreSame → first_unmet (name_demands bundle) ≡ None → first_unmet (check_demands bundle) ≡ None
-    → outcome_of end (configuration t) ≡ told bundle (step (numbered bundle) (configuration s))
+    → outcome_of end (configuration t) ≡ told bundle (configuration s).client (step (numbered bundle) (configuration s))
     → outcome_of end (configuration t) ≡ client_answers (named bundle) (configuration s).client (step (named bundle) (configuration s))
 steps_answer bundle s t end same are met h = h ∙ ap (λ p. client_answers p (configuration s).client (step p (configuration s))) (sym (same bundle are met))
 

@@ -21,6 +21,7 @@ use Rattle.typed_heap.specs.Places.{with_some}
 use Rattle.frames.specs.Chains.{Chain, frames_of}
 use Rattle.mem_axioms.specs.declared.types.Rule.{Rule}
 use Rattle.mem_axioms.specs.declared.types.Event.{Event}
+use Rattle.mu_model.specs.Clients.{Client}
 use Rattle.mu_model.specs.Configuration.{Active, Configuration}
 use Rattle.mem_axioms.specs.EventFits.{is_thread}
 use Rattle.mu_values.specs.declared.scalars.Scalar.TheVariants.{Null}
@@ -32,7 +33,6 @@ use Rattle.mu_model.specs.Acts.{Program}
 use Rattle.mu_model.specs.Run.{Setting, target_leaves, global_objects, cells_taken, begins_in, first_configuration}
 use Rattle.model_numbers.specs.Laws.{ProgramsAreSame}
 use Rattle.model_numbers.specs.Numbered.{numbered}
-use Rattle.mu_step.specs.Plain.{plain_setting}
 use Rattle.mu_step.specs.Held.{Held, configuration}
 use Rattle.mu_step.specs.Acting.{entered}
 use Rattle.mu_step.specs.StepLaws.{some_of, with_is, get_below}
@@ -149,8 +149,8 @@ first_made zero = refl
 first_made (suc i) = ap (λ b. b || false) (not_zero i) ∙ sym (not_first i)
 
 -- no thread is in hand yet
-abbrev pub first_state : Chain → List HeapObject → List ℕ → Rule → ℕ → ℕ → ℕ → Held
-first_state fr os picks rule cells budget block =
+abbrev pub first_state : Chain → List HeapObject → Client → List ℕ → Rule → ℕ → ℕ → ℕ → Held
+first_state fr os k picks rule cells budget block =
     record {
       thread = 0;
       stack = 0;
@@ -159,6 +159,8 @@ first_state fr os picks rule cells budget block =
       seats = record { threads = Some (record { stack = 0; own = Null }) ∷ []; stacks = Active 0 (entered block [] ∷ []) ∷ []; waiters = [] };
       objects = os;
       log = [];
+      watched = [];
+      client = k;
       picks = picks;
       skip = 0;
       rule = rule;
@@ -167,30 +169,31 @@ first_state fr os picks rule cells budget block =
       budget = budget;
     }
 
-abbrev pub state_of : Chain → Seats → List HeapObject → List Event → List ℕ → Rule → ℕ → ℕ → Held
-state_of fr seats os lg picks rule cells budget =
-    record { thread = 0; stack = 0; frames = fr; left = false; seats = seats; objects = os; log = lg; picks = picks; skip = 0; rule = rule; cells = cells; steps = 0; budget = budget }
+abbrev pub state_of : Chain → Seats → List HeapObject → List Event → List ℕ → Client → List ℕ → Rule → ℕ → ℕ → Held
+state_of fr seats os lg ws k picks rule cells budget =
+    record { thread = 0; stack = 0; frames = fr; left = false; seats = seats; objects = os; log = lg; watched = ws; client = k; picks = picks; skip = 0; rule = rule; cells = cells; steps = 0; budget = budget }
 
 seats_by : Chain → Seats
 seats_by c = record { threads = Some (record { stack = 0; own = Null }) ∷ []; stacks = Active 0 (frames_of c) ∷ []; waiters = [] }
 
-pub state_first : (os : List HeapObject) (picks : List ℕ) (rule r : Rule) (cells budget block : ℕ) (fr c : Chain) (seats : Seats) (lg : List Event) → c.top ≡ entered block [] → c.below ≡ []
-    → seats ≡ record { threads = Some (record { stack = 0; own = Null }) ∷ []; stacks = Active 0 (frames_of c) ∷ []; waiters = [] } → lg ≡ [] → r ≡ rule
-    → state_of fr seats os lg picks r cells budget ≡ first_state fr os picks rule cells budget block
+pub state_first : (os : List HeapObject) (k : Client) (picks : List ℕ) (rule r : Rule) (cells budget block : ℕ) (fr c : Chain) (seats : Seats) (lg : List Event) (ws : List ℕ) → c.top ≡ entered block [] → c.below ≡ []
+    → seats ≡ record { threads = Some (record { stack = 0; own = Null }) ∷ []; stacks = Active 0 (frames_of c) ∷ []; waiters = [] } → lg ≡ [] → ws ≡ [] → r ≡ rule
+    → state_of fr seats os lg ws k picks r cells budget ≡ first_state fr os k picks rule cells budget block
 unfolding seats_by
-state_first os picks rule r cells budget block fr c seats lg top below seated none same =
-    ap (λ seats. state_of fr seats os lg picks r cells budget) seated ∙ ap (λ t. state_of fr (seats_by (record { top = t; below = c.below })) os lg picks r cells budget) top
-    ∙ ap (λ bs. state_of fr (seats_by (record { top = entered block []; below = bs })) os lg picks r cells budget) below
-    ∙ ap (λ lg. state_of fr (seats_by (record { top = entered block []; below = [] })) os lg picks r cells budget) none ∙ ap (λ r. first_state fr os picks r cells budget block) same
+state_first os k picks rule r cells budget block fr c seats lg ws top below seated none idle same =
+    ap (λ seats. state_of fr seats os lg ws k picks r cells budget) seated ∙ ap (λ t. state_of fr (seats_by (record { top = t; below = c.below })) os lg ws k picks r cells budget) top
+    ∙ ap (λ bs. state_of fr (seats_by (record { top = entered block []; below = bs })) os lg ws k picks r cells budget) below
+    ∙ ap (λ lg. state_of fr (seats_by (record { top = entered block []; below = [] })) os lg ws k picks r cells budget) none
+    ∙ ap (λ ws. state_of fr (seats_by (record { top = entered block []; below = [] })) os [] ws k picks r cells budget) idle ∙ ap (λ r. first_state fr os k picks r cells budget block) same
 
-pub start_is : (bundle : List Item) (fr : Chain) (os : List HeapObject) (picks : List ℕ) (rule : Rule) (left budget f block cells : ℕ) (function : Function) (s : Held) → slice_get (bundle_functions bundle) f ≡ Some function → function.first ≡ Some block
-    → s ≡ first_state fr os picks rule left budget block → left ≡ cells - cells_taken (bundle_tables bundle) os → starting bundle (plain_setting os picks rule cells budget) f ≡ Some (configuration s)
+pub start_is : (bundle : List Item) (fr : Chain) (os : List HeapObject) (k : Client) (picks : List ℕ) (rule : Rule) (left budget f block cells : ℕ) (function : Function) (s : Held) → slice_get (bundle_functions bundle) f ≡ Some function → function.first ≡ Some block
+    → s ≡ first_state fr os k picks rule left budget block → left ≡ cells - cells_taken (bundle_tables bundle) os → starting bundle (record { objects = os; client = k; picks = picks; cells = cells; budget = budget; rule = rule }) f ≡ Some (configuration s)
 unfolding starting
-start_is bundle fr os picks rule left budget f block cells function s there first same enough =
-    let set = plain_setting os picks rule cells budget in
+start_is bundle fr os k picks rule left budget f block cells function s there first same enough =
+    let set : Setting = record { objects = os; client = k; picks = picks; cells = cells; budget = budget; rule = rule } in
     let go : Option ℕ → Option Configuration = λ b. with_some b (λ block. Some (begins_in (numbered bundle) set f block)) in
     ap (λ o. with_some o go) (with_is (slice_get (bundle_functions bundle) f) function (λ (f : Function). Some f.first) there) ∙ ap go first
-    ∙ ap (λ n. Some (configuration (first_state fr os picks rule n budget block))) (sym enough) ∙ ap (λ s. Some (configuration s)) (sym same)
+    ∙ ap (λ n. Some (configuration (first_state fr os k picks rule n budget block))) (sym enough) ∙ ap (λ s. Some (configuration s)) (sym same)
 
 -- the one thread is there from the start
 pub first_sound : (seats : Seats) (log : List Event) → log ≡ [] → length seats.threads ≡ 1 → IsSound false 0 0 seats log

@@ -13,6 +13,7 @@ use Rattle.mu_model.specs.declared.lines.Line.{Line}
 use Rattle.mu_model.specs.declared.endings.StepEnd.{StepEnd}
 use Rattle.mu_model.specs.declared.endings.StepEnd.TheVariants.{Went, Ended}
 use Rattle.mu_model.specs.declared.endings.Ending.{Ending}
+use Rattle.mu_model.specs.Clients.{Client}
 use Rattle.mu_model.specs.Configuration.{Configuration}
 use Rattle.mu_model.specs.Acts.{Act, Doing, Program}
 use Rattle.mu_model.specs.Outcomes.{Outcome, Next, End, Stuck, on}
@@ -98,14 +99,14 @@ unfolding answers
 ends_with c s end e h same = ap (outcome_of end) (sym same) ∙ h
 
 -- what an answer says is no question
-pub told_so : (bundle : List Item) (end : StepEnd) (s : Held) (o : Outcome) → answers end s ≡ o → answers end s ≡ told bundle o
+pub told_so : (bundle : List Item) (k : Client) (end : StepEnd) (s : Held) (o : Outcome) → answers end s ≡ o → answers end s ≡ told bundle k o
 unfolding answers
-told_so bundle (Went ls) s o h = ap (told bundle) h
-told_so bundle (Ended ls e) s o h = ap (told bundle) h
+told_so bundle k (Went ls) s o h = ap (told bundle k) h
+told_so bundle k (Ended ls e) s o h = ap (told bundle k) h
 
-pub told_plain : {E : Type 0} (bundle : List Item) (r : Result StepEnd E) (s : Held) (o : Outcome) → IfOk r (λ end. answers end s ≡ o) → IfOk r (λ end. answers end s ≡ told bundle o)
-told_plain bundle (Ok end) s o h = told_so bundle end s o h
-told_plain bundle (Err e) s o h = tt
+pub told_plain : {E : Type 0} (bundle : List Item) (k : Client) (r : Result StepEnd E) (s : Held) (o : Outcome) → IfOk r (λ end. answers end s ≡ o) → IfOk r (λ end. answers end s ≡ told bundle k o)
+told_plain bundle k (Ok end) s o h = told_so bundle k end s o h
+told_plain bundle k (Err e) s o h = tt
 
 -- ---- steps
 

@@ -28,7 +28,7 @@ use Rattle.seats.specs.Seats.{Seats, IsReady, IsActiveOrDead}
 use Rattle.mu_step.specs.Outcome.{outcome_of}
 use Rattle.mu_step.specs.Held.{Held, ahead, held_stacks, configuration}
 use Rattle.mu_step.specs.Acting.{left_configuration, begun, turn, doing_of, answers, acting, is_fault, undefined_at, Awaited, with_awaited, awaited_by, awaits, objects_end}
-use Rattle.mu_step.specs.Entering.{entered_by, frames_at, IsMoved, swapped, left_dead}
+use Rattle.mu_step.specs.Entering.{nothing, entered_by, frames_at, IsMoved, swapped, swapped_with, left_dead}
 use Rattle.mu_step.specs.EnteringLaws.{set_other}
 use Rattle.mu_step.specs.StepLaws.{on_there, on_is, some_there, some_of, with_is, set_again, set_there, get_below, configuration_left, acting_there, acting_is}
 use Rattle.mu_step.specs.ActLaws.{refused_plainly, tried_there, tried_is, waits_by, waits_there}
@@ -219,9 +219,9 @@ parts s ts ss ws os lg rl cells steps ls =
       stacks = ss;
       objects = os;
       log = lg;
-      watched = [];
+      watched = s.watched;
       waiters = ws;
-      client = record { entries = []; auto = false };
+      client = s.client;
       picks = ahead s;
       cells = cells;
       steps = steps;
@@ -294,13 +294,18 @@ two_told first second number count ls same told =
 pub one_told : (first : Event) (number count : ℕ) (ls : List Line) → number ≡ count → ls ≡ lines.Event number first ∷ [] → reverse ls ≡ lines.Event count first ∷ []
 one_told first number count ls same told = ap reverse told ∙ ap (λ n. lines.Event n first ∷ []) same
 
--- a thread that swaps
-pub swapped_is : (s : Held) (f : Activation) (k : ℕ) (r : EnteredFrames) (fr : Chain) (seats : Seats) (os : List HeapObject) (cells : ℕ) (lg : List Event) (rl : Rule) (ls : List Line)
-    → Moved s (Ready (f ∷ s.frames.below)) k r (objects_end s.objects (frames_objects r.ended)) (entry s k ∷ leaves s ∷ s.log) (lines.Event (suc (length s.log)) (entry s k) ∷ lines.Event (length s.log) (leaves s) ∷ []) fr seats os cells lg rl ls
-    → answers (Went ls) (at_stack s k fr seats os cells lg rl) ≡ swapped s f k r
-unfolding swapped objects_end
-swapped_is s f k r fr seats os cells lg rl ls q =
-    moved_is s (Ready (f ∷ s.frames.below)) k r (objects_end s.objects (frames_objects r.ended)) (entry s k ∷ leaves s ∷ s.log) (lines.Event (suc (length s.log)) (entry s k) ∷ lines.Event (length s.log) (leaves s) ∷ []) fr seats os cells lg rl ls q
+-- a thread that moves to another stack, which is ready from then on
+pub swapped_with_is : (s : Held) (f : Activation) (k : ℕ) (r : EnteredFrames) (fr : Chain) (seats : Seats) (os : List HeapObject) (cells : ℕ) (lg : List Event) (rl : Rule) (ls : List Line)
+    → Moved s (Ready (f ∷ s.frames.below)) k r (objects_end s.objects (frames_objects r.ended)) (entry s k ∷ leaves s ∷ s.log) (reverse ls) fr seats os cells lg rl ls
+    → answers (Went ls) (at_stack s k fr seats os cells lg rl) ≡ swapped_with s f k r ls
+unfolding swapped_with objects_end
+swapped_with_is s f k r fr seats os cells lg rl ls q = moved_is s (Ready (f ∷ s.frames.below)) k r (objects_end s.objects (frames_objects r.ended)) (entry s k ∷ leaves s ∷ s.log) (reverse ls) fr seats os cells lg rl ls q
+
+-- with the lines of a swap
+pub swapped_lines : (s : Held) (f : Activation) (k : ℕ) (r : EnteredFrames) (number : ℕ) (ls : List Line) → number ≡ length s.log → ls ≡ lines.Event number (leaves s) ∷ lines.Event (number + 1) (entry s k) ∷ [] → swapped_with s f k r ls ≡ swapped s f k r
+unfolding swapped swapped_with
+swapped_lines s f k r number ls count told =
+    ap (λ l. Next (record (enters s.thread k r (leaving (turn s nothing) f (begun s))) { lines = l })) (two_told (leaves s) (entry s k) number (length s.log) ls count told)
 
 -- ---- a stack that is left for good
 

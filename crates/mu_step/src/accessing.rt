@@ -27,6 +27,7 @@ use crate::finding::case_of;
 use crate::flow::{Place, passing, stand};
 use crate::state::{State, ended};
 use bundle_check::Checked;
+use client_hooks::Determined;
 use heap_cells::CellId;
 use mem_axioms::{Chosen, Event, Kind, Memory, Mode, Race, Wanted};
 use mu_base::{Order, Steps};
@@ -239,7 +240,7 @@ fn take_picks(picks: &mut Schedule, skip: u32, options: u32)
     picks.pick(options);
 }
 
-impl<M: Memory> State<M> {
+impl<M: Memory, C: Determined> State<M, C> {
     /// The thread accesses a cell.
     #[tactic(auto, using(crate::specs::AccessLaws::accessing))]
     pub(crate) fn access(

@@ -1,5 +1,5 @@
 // What the thread in hand does.
-ghost use Rattle.std.specs.Prelude.{◌≡◌, ◌≢◌, ◌+◌, ◌<◌, [], ◌∷◌, ◌++◌, IsSome, Some, IfOk, OnErr, true};
+ghost use Rattle.std.specs.Prelude.{◌≡◌, ◌≢◌, ◌+◌, ◌<◌, [], ◌∷◌, ◌++◌, IsSome, Some, IfOk, OnErr, true, false};
 ghost use Rattle.typed_heap.specs.Heap.{AreNarrow};
 ghost use Rattle.frames.specs.Activations.{Value};
 ghost use Rattle.frames.specs.Chains.{stands};
@@ -12,20 +12,21 @@ ghost use Rattle.mu_step.specs.Outcome.{Stays};
 ghost use Rattle.mu_step.specs.Acting.{answers, went_on, acting, stepping, told};
 ghost use Rattle.mu_step.specs.Making.{graph_of};
 ghost use Rattle.mu_step.specs.StepLaws.{GoesOn};
-ghost use Rattle.mu_step.specs.Rare.{is_rare};
+ghost use Rattle.mu_step.specs.Rare.{is_rare, may_ask};
 
 use crate::flow::{passing, push_on_top, stand};
 use crate::making::Making;
 use crate::state::State;
 use bundle_check::Checked;
 use bundle_facts::widths_are_narrow;
+use client_hooks::Determined;
 use mem_axioms::Memory;
 use mu_model::StepEnd;
 use mu_values::{Scalar, Slots};
 use std::alloc::{AllocError, Global};
 use step_forms::{Act, Room, Variables, decide, forms_are_there};
 
-impl<M: Memory> State<M> {
+impl<M: Memory, C: Determined> State<M, C> {
     /// The thread's instruction has these results.
     #[tactic(auto, using(crate::specs::ActLaws::giving))]
     pub(crate) fn give(
@@ -118,8 +119,8 @@ impl<M: Memory> State<M> {
         self.went(alloc)
     }
 
-    /// The thread does an act, whose values and classes stand in the room, and which is no trap. No watchpoint is enabled.
-    #[tactic(auto, using(crate::specs::ActLaws::goes_is, crate::specs::TrapLaws::watching))]
+    /// The thread does an act, whose values and classes stand in the room, and by which the client is not asked.
+    #[tactic(auto, using(crate::specs::ActLaws::goes_is))]
     fn perform(
         &mut self,
         alloc: Global,
@@ -131,7 +132,7 @@ impl<M: Memory> State<M> {
         requires left { self.old.left ≡ true }
         requires room { self.old.steps < self.old.budget }
         requires narrow { AreNarrow (graph_of code.now) }
-        requires plain { act ≢ Act.Traps }
+        requires plain { may_ask act ≡ false }
         requires waits { GoesOn self.old }
         requires classes { ActIsThere (graph_of code.now) (lists_of room.old) act }
         requires there { acting code.now self.old (asked act (lists_of room.old)) ≢ Stuck }
@@ -158,9 +159,12 @@ impl<M: Memory> State<M> {
             Act::MakesOwn { class } => self.make(alloc, code, class, Making::Own, values, out),
             Act::Accesses { access, cell } => self.access(alloc, code, access, cell, values, out),
             Act::Fences(order) => self.fence(alloc, code, order, values, out),
-            Act::Watches { block, .. } => Ok(self.go(alloc, block, values)),
-            Act::Chooses { disabled, .. } => Ok(self.go(alloc, disabled, values)),
-            Act::Traps => unreachable!(),
+            Act::Chooses {
+                watchpoint,
+                disabled,
+                enabled,
+            } => Ok(self.choose(alloc, code, watchpoint, disabled, enabled, room)),
+            Act::Traps | Act::Watches { .. } => unreachable!(),
             Act::Swaps { .. }
             | Act::Leaves { .. }
             | Act::Starts { .. }
@@ -246,7 +250,7 @@ impl<M: Memory> State<M> {
     }
 
     /// The thread does its next instruction.
-    #[tactic(auto, using(crate::specs::StepLaws::told_plain))]
+    #[tactic(auto, using(crate::specs::StepLaws::told_plain, crate::specs::Hand::told_there, crate::specs::TrapLaws::trapped_asks, crate::specs::TrapLaws::trap_asks))]
     pub(crate) fn run(
         &mut self,
         alloc: Global,
@@ -257,15 +261,18 @@ impl<M: Memory> State<M> {
         requires left { self.old.left ≡ true }
         requires room { self.old.steps < self.old.budget }
         requires waits { GoesOn self.old }
-        requires there { stepping code.now self.old ≢ Stuck }
-        ensures ok { IfOk result (λ end. answers end self.new ≡ told code.now (stepping code.now self.old)) }
+        requires there { told code.now self.old.client (stepping code.now self.old) ≢ Stuck }
+        ensures ok { IfOk result (λ end. answers end self.new ≡ told code.now self.old.client (stepping code.now self.old)) }
         ensures err { OnErr result (self.new ≡ self.old) }
         ensures stays { IfOk result (λ end. Stays end self.old self.new) }
     {
         let _items = code.items();
         widths_are_narrow();
         match self.asks(code, room)? {
-            Act::Traps => self.trap(alloc, code),
+            Act::Traps => self.trap(alloc, code, None, room, out),
+            Act::Watches { watchpoint, block } => {
+                self.meet(alloc, code, watchpoint, block, room, out)
+            }
             act => self.perform(alloc, code, act, room, out),
         }
     }

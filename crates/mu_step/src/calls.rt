@@ -10,6 +10,7 @@ use crate::objects::end_objects;
 use crate::state::State;
 use crate::waiting::{enter, entered, waiting};
 use bundle_check::Checked;
+use client_hooks::Determined;
 use frames::Frames;
 use mem_axioms::Memory;
 use mu_model::{Case, StepEnd};
@@ -25,7 +26,7 @@ fn replace_top(frames: &mut Frames, block: u32, values: &mut Slots)
     frames.top_mut().cells.clear();
 }
 
-impl<M: Memory> State<M> {
+impl<M: Memory, C: Determined> State<M, C> {
     /// The thread calls a function.
     #[tactic(auto, using(crate::specs::ActLaws::calling))]
     pub(crate) fn call(

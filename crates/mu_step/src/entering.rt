@@ -2,7 +2,9 @@
 ghost use Rattle.std.specs.Prelude.{◌≡◌, ◌≢◌, ◌<◌, IsSome, Some, IfOk, IfSome, IfNone, OnErr, Err, slice_get, true};
 ghost use Rattle.mu_values.specs.declared.scalars.Scalar.TheVariants as scalars;
 ghost use Rattle.mu_model.specs.declared.endings.Case.TheVariants as cases;
+ghost use Rattle.mem_axioms.specs.declared.types.Kind.TheVariants as kinds;
 ghost use Rattle.mu_model.specs.Acts as acts;
+ghost use Rattle.mu_model.specs.Changes.{event};
 ghost use Rattle.mu_model.specs.EnteringStacks.{ready};
 ghost use Rattle.mu_model.specs.Outcomes.{Stuck};
 ghost use Rattle.seats.specs.Seats.{IsReady, IsReadyFor};
@@ -10,7 +12,7 @@ ghost use Rattle.step_forms.specs.Asked.{entering_of};
 ghost use Rattle.mu_step.specs.Outcome.{Stays};
 ghost use Rattle.mu_step.specs.Held.{held_stacks};
 ghost use Rattle.mu_step.specs.Acting.{answers, acting, with_awaited};
-ghost use Rattle.mu_step.specs.Entering.{entered_by, arrives, frames_at, found, IsPlain, swapped, left_dead};
+ghost use Rattle.mu_step.specs.Entering.{entered_by, arrives, frames_at, found, IsPlain, swapped_with, left_dead};
 
 use crate::accessing::{commit_other, line_of};
 use crate::arriving::{Arrival, Found, arrive, prepare};
@@ -19,9 +21,10 @@ use crate::objects::end_frames;
 use crate::state::State;
 use crate::waiting::{Wait, exchange_on_top, waiting_for};
 use bundle_check::Checked;
+use client_hooks::Determined;
 use mem_axioms::{Event, Kind, Memory};
 use mu_base::Types;
-use mu_model::{Case, StepEnd};
+use mu_model::{Case, Lines, StepEnd};
 use mu_values::{Scalar, Slots};
 use seats::Seats;
 use stacks::Entered;
@@ -51,36 +54,7 @@ pub(crate) fn look(
     }
 }
 
-impl<M: Memory> State<M> {
-    /// The number of another stack that is ready, where the scalar is one.
-    #[tactic(auto, using(crate::specs::SwapLaws::targets))]
-    pub(crate) fn target(&self, scalar: Scalar) -> Option<u32>
-        requires left { self.now.left ≡ true }
-        requires there { IsSome (ready (held_stacks self.now) scalar) }
-        ensures some { IfSome result (λ k. scalar ≡ scalars.Stack k) }
-        ensures other { IfSome result (λ k. k ≢ self.now.stack) }
-        ensures ready { IfSome result (λ k. IsReady (slice_get self.now.seats.stacks k)) }
-        ensures none { IfNone result (ready (held_stacks self.now) scalar ≡ Some (Err cases.StackNotReady)) }
-    {
-        match scalar {
-            Scalar::Stack(k) => {
-                if k == self.stack {
-                    return None;
-                }
-                match self.seats.ready(k) {
-                    Some(_stack) => Some(k),
-                    None => None,
-                }
-            }
-            Scalar::Int { .. }
-            | Scalar::Null
-            | Scalar::Object(_)
-            | Scalar::Place { .. }
-            | Scalar::Func(_)
-            | Scalar::Thread(_) => None,
-        }
-    }
-
+impl<M: Memory, C: Determined> State<M, C> {
     /// The thread leaves its stack, which waits for values of the classes in the room, and enters another one.
     #[tactic(auto, using(crate::specs::SwapLaws::swapping))]
     pub(crate) fn swap(
@@ -99,7 +73,7 @@ impl<M: Memory> State<M> {
         ensures err { OnErr result (self.new ≡ self.old) }
         ensures stays { IfOk result (λ end. Stays end self.old self.new) }
     {
-        let Some(to) = self.target(stack) else {
+        let Some(to) = self.ready_stack(stack) else {
             return Ok(self.undefined(alloc, Case::StackNotReady));
         };
         match look(&self.seats, to, code, entering, room, out)? {
@@ -133,14 +107,23 @@ impl<M: Memory> State<M> {
         let again = copied(alloc, &room.waits)?;
         let wait = waiting_for(alloc, code, self.frames.top(), again)?;
         let handing = hand_over(alloc, entering, room)?;
-        self.move_to(alloc, to, arrival, wait, waits, handing, room, out)
+        let leave = Event {
+            thread: self.thread,
+            kind: Kind::Leave { stack: self.stack },
+        };
+        let enter = Event {
+            thread: self.thread,
+            kind: Kind::Enter { stack: to },
+        };
+        let lines = lines_of(alloc, self.events, leave, enter)?;
+        self.move_to(lines, to, arrival, wait, waits, handing, room, out)
     }
 
     /// The thread's top frame waits so, and the thread moves to another stack, which goes on so, with the values in the list. What is
-    /// handed to that comes back to the room.
-    fn move_to(
+    /// handed to that comes back to the room. These are all lines of the step.
+    pub(crate) fn move_to(
         &mut self,
-        alloc: Global,
+        lines: Lines,
         to: u32,
         arrival: Arrival,
         mut wait: Wait,
@@ -155,7 +138,7 @@ impl<M: Memory> State<M> {
         requires waits { wait.waits ≡ waits.members }
         requires takes { IsReadyFor (slice_get self.old.seats.stacks to) handing }
         requires lands { IsSome (arrives arrival (frames_at (slice_get self.old.seats.stacks to)) out.old.values) }
-        ensures ok { IfOk result (λ end. IfSome (arrives arrival (frames_at (slice_get self.old.seats.stacks to)) out.old.values) (λ r. answers end self.new ≡ swapped self.old (with_awaited self.old.frames.top wait) to r)) }
+        ensures ok { IfOk result (λ end. IfSome (arrives arrival (frames_at (slice_get self.old.seats.stacks to)) out.old.values) (λ r. answers end self.new ≡ swapped_with self.old (with_awaited self.old.frames.top wait) to r lines)) }
         ensures err { OnErr result (self.new ≡ self.old) }
         ensures stays { IfOk result (λ end. Stays end self.old self.new) }
     {
@@ -167,7 +150,6 @@ impl<M: Memory> State<M> {
             thread: self.thread,
             kind: Kind::Enter { stack: to },
         };
-        let lines = lines_of(alloc, self.events, leave, enter)?;
         self.memory.reserve(self.thread, None, 2)?;
         exchange_on_top(&mut self.frames, &mut wait);
         let passed = switch(
@@ -206,7 +188,7 @@ impl<M: Memory> State<M> {
         ensures err { OnErr result (self.new ≡ self.old) }
         ensures stays { IfOk result (λ end. Stays end self.old self.new) }
     {
-        let Some(to) = self.target(stack) else {
+        let Some(to) = self.ready_stack(stack) else {
             return Ok(self.undefined(alloc, Case::StackNotReady));
         };
         match look(&self.seats, to, code, entering, room, out)? {

@@ -14,6 +14,7 @@ use crate::flow::copy;
 use crate::objects::leave_frames;
 use crate::state::{State, ended};
 use bundle_check::Checked;
+use client_hooks::Determined;
 use frames::{Frame, Unwound};
 use mem_axioms::Memory;
 use mu_model::{Case, Ending, StepEnd};
@@ -71,7 +72,7 @@ pub(crate) fn handler_goal(frame: &Frame, out: &mut Slots) -> Result<u32, AllocE
     }
 }
 
-impl<M: Memory> State<M> {
+impl<M: Memory, C: Determined> State<M, C> {
     /// The thread's instruction meets an undefined case.
     #[tactic(auto, using(crate::specs::ActLaws::refusals))]
     pub(crate) fn refuse(

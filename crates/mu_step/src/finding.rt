@@ -15,6 +15,7 @@ ghost use Rattle.mu_step.specs.Making.{graph_of, tells};
 use crate::state::State;
 use bundle_check::Checked;
 use check_tables::Tables;
+use client_hooks::Determined;
 use mem_axioms::Memory;
 use mu_model::{Case, StepEnd};
 use mu_types::TypeDef;
@@ -82,7 +83,7 @@ fn cast(heap: &Heap, code: &Checked, class: u32, scalar: Scalar) -> Result<Scala
     }
 }
 
-impl<M: Memory> State<M> {
+impl<M: Memory, C: Determined> State<M, C> {
     /// The thread's instruction has what was found for its result, or meets the case of the fault.
     fn tell(
         &mut self,

@@ -23,6 +23,7 @@ use crate::flow::{passing, stand};
 use crate::results::line;
 use crate::state::{State, ended};
 use bundle_check::Checked;
+use client_hooks::Determined;
 use heap_cells::CellId;
 use mem_axioms::event_facts::is_same_scalar;
 use mem_axioms::{Chosen, Event, Memory, Wanted};
@@ -66,7 +67,7 @@ fn newest<M: Memory, L: Ledger>(memory: &M, thread: u32, cell: CellId, blank: Bl
     memory.choose(thread, cell, &wanted, 0, &mut counter)
 }
 
-impl<M: Memory> State<M> {
+impl<M: Memory, C: Determined> State<M, C> {
     /// The thread's wait with a limit at this cell is over.
     #[tactic(auto, using(crate::specs::FutexLaws::fewer_sound))]
     pub(crate) fn time_out(

@@ -8,7 +8,6 @@ ghost use Rattle.mu_model.specs.Run.{global_objects, cells_taken};
 ghost use Rattle.model_numbers.specs.Numbered.{numbered};
 ghost use Rattle.mu_step.specs.Acting.{entered};
 ghost use Rattle.mu_step.specs.Held.{configuration};
-ghost use Rattle.mu_step.specs.Plain.{plain_setting};
 ghost use Rattle.mu_step.specs.Starting.{global_object, starting};
 
 use crate::making::remember_all;
@@ -17,6 +16,7 @@ use crate::state::State;
 use crate::waiting::entered;
 use bundle_check::Checked;
 use bundle_facts::{globals_are_types, widths_are_narrow};
+use client_hooks::Determined;
 use frames::Frames;
 use mem_axioms::Memory;
 use mu_threads::Schedule;
@@ -24,6 +24,7 @@ use mu_types::{Classes, TypeDef};
 use mu_values::Slots;
 use seats::Seats;
 use std::alloc::{AllocError, Global};
+use trap_answers::Watched;
 use typed_heap::Heap;
 
 /// Adds the object of a global with the leaves of that type.
@@ -84,7 +85,7 @@ fn first_frames(alloc: Global, block: u32) -> Result<Frames, AllocError>
     }
 }
 
-impl<M: Memory + Drop> State<M> {
+impl<M: Memory + Drop, C: Determined + Drop> State<M, C> {
     /// Thread 0 on stack 0, in that function, with the objects of a heap, of which the memory is told.
     #[tactic(auto, using(crate::specs::Starting::starts, crate::specs::Starting::first_sound))]
     pub(crate) fn start(
@@ -93,15 +94,16 @@ impl<M: Memory + Drop> State<M> {
         entry: u32,
         heap: Heap,
         mut memory: M,
+        client: C,
         picks: Schedule,
         budget: u32,
-    ) -> Result<State<M>, AllocError>
+    ) -> Result<State<M, C>, AllocError>
         requires log { M.log memory ≡ [] }
         requires objects { M.objects memory ≡ [] }
         requires budget { budget ≤ 1000000 }
         requires there { IsSomeAnd ((numbered code.now).body entry) IsSome }
         ensures whole { IfOk result (λ state. state.skip ≡ 0) }
-        ensures first { IfOk result (λ state. (cells : ℕ) → heap.left ≡ cells - cells_taken (bundle_tables code.now) heap.objects → starting code.now (plain_setting heap.objects picks (M.rule memory) cells budget) entry ≡ Some (configuration state)) }
+        ensures first { IfOk result (λ state. (cells : ℕ) → heap.left ≡ cells - cells_taken (bundle_tables code.now) heap.objects → starting code.now (record { objects = heap.objects; client = C.stands_for client; picks = picks; cells = cells; budget = budget; rule = M.rule memory }) entry ≡ Some (configuration state)) }
     {
         match code.function(entry).first {
             None => unreachable!(),
@@ -110,6 +112,7 @@ impl<M: Memory + Drop> State<M> {
                 let hand = first_frames(alloc, block)?;
                 let first = first_frames(alloc, block)?;
                 let seats = Seats::new(alloc, first)?;
+                let watched = Watched::new(alloc);
                 Ok(State {
                     thread: 0,
                     stack: 0,
@@ -118,6 +121,8 @@ impl<M: Memory + Drop> State<M> {
                     seats,
                     heap,
                     memory,
+                    watched,
+                    client,
                     picks,
                     skip: 0,
                     events: 0,

@@ -5,11 +5,11 @@ ghost use Rattle.mu_model.specs.Programs.{named};
 ghost use Rattle.mu_model.specs.Outcomes.{Stuck};
 ghost use Rattle.mu_model.specs.Step.{step};
 ghost use Rattle.mu_model.specs.Run.{cells_taken, first_configuration, client_answers};
-ghost use Rattle.mu_step.specs.Plain.{plain_setting};
 ghost use Rattle.mu_step.specs.Outcome.{outcome_of, Stays};
 
 use crate::state::State;
 use bundle_check::Checked;
+use client_hooks::Determined;
 use mem_axioms::Memory;
 use model_numbers::programs_are_same;
 use mu_model::StepEnd;
@@ -20,21 +20,21 @@ use std::marker::Model;
 use step_forms::Room;
 use typed_heap::Heap;
 
-/// A machine that runs checked code, over any memory. Contracts see the bundle and the configuration that its run has
+/// A machine that runs checked code, over any memory and any client whose answers are a function of what it is shown. Contracts see the bundle and the configuration that its run has
 /// come to.
 #[derive(Drop)]
-pub struct Machine<'a, M: Memory> {
+pub struct Machine<'a, M: Memory, C: Determined> {
     alloc: Global,
     code: &'a Checked,
-    state: State<M>,
+    state: State<M, C>,
     // What these hold between steps means nothing.
     room: Room,
     spare: Slots,
 }
 
-impl<'a, M: Memory> Model for Machine<'a, M> {
+impl<'a, M: Memory, C: Determined> Model for Machine<'a, M, C> {
     ghost use Rattle.std.specs.Prelude.{◌≡◌};
-    ghost use Rattle.mu_step.specs.Plain.{Running};
+    ghost use Rattle.mu_step.specs.Running.{Running};
     ghost use Rattle.mu_step.specs.Held.{configuration};
 
     ghost Value = { Running };
@@ -44,7 +44,7 @@ impl<'a, M: Memory> Model for Machine<'a, M> {
     ghost invariant = { λ m. m.state.skip ≡ 0 };
 }
 
-impl<'a, M: Memory + Drop> Machine<'a, M> {
+impl<'a, M: Memory + Drop, C: Determined + Drop> Machine<'a, M, C> {
     /// A machine at the beginning of the run of a function: thread 0 stands on stack 0, where the function's first block begins. The
     /// run has the objects of the heap, which are to be those of the globals and then those that were loaded, and as many cells as the
     /// heap has left. The memory knows nothing yet, and brings the rule of release sequences. The budget is 1,000,000 steps at most.
@@ -55,19 +55,20 @@ impl<'a, M: Memory + Drop> Machine<'a, M> {
         entry: u32,
         heap: Heap,
         memory: M,
+        client: C,
         picks: Schedule,
         budget: u32,
-    ) -> Result<Machine<'a, M>, AllocError>
+    ) -> Result<Machine<'a, M, C>, AllocError>
         requires log { M.log memory ≡ [] }
         requires objects { M.objects memory ≡ [] }
         requires budget { budget ≤ 1000000 }
         requires body { IsSomeAnd ((named code.now).body entry) IsSome }
         ensures bundle { IfOk result (λ m. m.bundle ≡ code.now) }
-        ensures first { IfOk result (λ m. (cells : ℕ) → heap.left ≡ cells - cells_taken (bundle_tables code.now) heap.objects → first_configuration (named code.now) (plain_setting heap.objects picks (M.rule memory) cells budget) entry ≡ Some m.configuration) }
+        ensures first { IfOk result (λ m. (cells : ℕ) → heap.left ≡ cells - cells_taken (bundle_tables code.now) heap.objects → first_configuration (named code.now) (record { objects = heap.objects; client = C.stands_for client; picks = picks; cells = cells; budget = budget; rule = M.rule memory }) entry ≡ Some m.configuration) }
     {
         let _items = code.items();
         programs_are_same();
-        let state = State::start(alloc, code, entry, heap, memory, picks, budget)?;
+        let state = State::start(alloc, code, entry, heap, memory, client, picks, budget)?;
         Ok(Machine {
             alloc,
             code,
@@ -77,11 +78,11 @@ impl<'a, M: Memory + Drop> Machine<'a, M> {
         })
     }
 
-    /// One step of the run. No client answers, so a trap stops the run. Where no memory is found, and where the step gives the ending,
+    /// One step of the run. At a trap the client answers, and goes past its answer where that is taken. Where no memory is found, and where the step gives the ending,
     /// nothing changes, and the next step gives the same again.
     #[tactic(auto, using(crate::specs::Machines::machines))]
     pub fn step(&mut self) -> Result<StepEnd, AllocError>
-        requires there { step (named self.old.bundle) self.old.configuration ≢ Stuck }
+        requires there { client_answers (named self.old.bundle) self.old.configuration.client (step (named self.old.bundle) self.old.configuration) ≢ Stuck }
         ensures ok { IfOk result (λ end. outcome_of end self.new.configuration ≡ client_answers (named self.old.bundle) self.old.configuration.client (step (named self.old.bundle) self.old.configuration)) }
         ensures bundle { self.new.bundle ≡ self.old.bundle }
         ensures err { OnErr result (self.new ≡ self.old) }

@@ -14,6 +14,7 @@ use crate::flow::{passing, stand};
 use crate::objects::MOST_OBJECTS;
 use crate::state::State;
 use bundle_check::Checked;
+use client_hooks::Determined;
 use frames::{Frame, Frames};
 use heap_cells::CellId;
 use mem_axioms::Memory;
@@ -192,7 +193,7 @@ fn give<M: Memory>(
     Ok(())
 }
 
-impl<M: Memory> State<M> {
+impl<M: Memory, C: Determined> State<M, C> {
     /// The thread's instruction is refused so many cells, where so many are left. A number that a fault of the heap does not tell
     /// exactly is want of memory.
     fn refuse_cells(

@@ -11,6 +11,7 @@ use crate::flow::{passing, stand};
 use crate::objects::{end_objects, leave};
 use crate::state::State;
 use bundle_check::Checked;
+use client_hooks::Determined;
 use mem_axioms::Memory;
 use mu_base::Types;
 use mu_model::{Line, Lines, Note, StepEnd};
@@ -40,7 +41,7 @@ pub(crate) fn line(alloc: Global, note: Note) -> Result<Lines, AllocError>
     Ok(lines)
 }
 
-impl<M: Memory> State<M> {
+impl<M: Memory, C: Determined> State<M, C> {
     /// The thread returns from its function, with the values in the room.
     #[tactic(auto, using(crate::specs::ActLaws::only_frame))]
     pub(crate) fn give_back(

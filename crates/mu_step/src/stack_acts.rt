@@ -20,6 +20,7 @@ use crate::objects::end_frames;
 use crate::results::line;
 use crate::state::State;
 use bundle_check::Checked;
+use client_hooks::Determined;
 use frames::{Frame, Frames};
 use mem_axioms::{Event, Kind, Memory};
 use mu_base::{Ids, Types};
@@ -84,7 +85,7 @@ fn add_stack(
     }
 }
 
-impl<M: Memory> State<M> {
+impl<M: Memory, C: Determined> State<M, C> {
     /// The thread's stack is told.
     #[tactic(auto, using(crate::specs::StackLaws::tells_stack))]
     pub(crate) fn tell_stack(

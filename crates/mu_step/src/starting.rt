@@ -16,6 +16,7 @@ use crate::flow::{Place, passing, stand};
 use crate::moving::{hand_back, hand_over, lines_of, log_two, switch_starting};
 use crate::state::State;
 use bundle_check::Checked;
+use client_hooks::Determined;
 use mem_axioms::{Event, Kind, Memory};
 use mu_model::{Case, Ending, StepEnd};
 use mu_values::{Scalar, Slots};
@@ -32,7 +33,7 @@ fn one(alloc: Global, scalar: Scalar) -> Result<Slots, AllocError>
     Ok(values)
 }
 
-impl<M: Memory> State<M> {
+impl<M: Memory, C: Determined> State<M, C> {
     /// The thread starts another one, on a stack that it enters, and with this own object.
     #[tactic(auto, using(crate::specs::StartLaws::starting))]
     pub(crate) fn start_thread(
@@ -79,7 +80,7 @@ impl<M: Memory> State<M> {
         ensures err { OnErr result (self.new ≡ self.old) }
         ensures stays { IfOk result (λ end. Stays end self.old self.new) }
     {
-        let Some(to) = self.target(stack) else {
+        let Some(to) = self.ready_stack(stack) else {
             return Ok(self.undefined(alloc, Case::StackNotReady));
         };
         match look(&self.seats, to, code, entering, room, out)? {

@@ -12,6 +12,7 @@ ghost use Rattle.mu_step.specs.Acting.{answers, went_on, undefined_at, thread_en
 ghost use Rattle.mu_step.specs.Hand.{put_down};
 
 use crate::objects::end_frames;
+use client_hooks::Determined;
 use frames::Frames;
 use mem_axioms::Memory;
 use mu_model::{Case, Ending, Lines, StepEnd};
@@ -19,12 +20,13 @@ use mu_threads::Schedule;
 use seats::Seats;
 use std::alloc::Global;
 use std::marker::Model;
+use trap_answers::Watched;
 use typed_heap::Heap;
 
-/// The threads and stacks, the objects, the memory, what is left of the schedule, and how many events were logged and how many steps
-/// made, and may be. The frames of the thread that made the last step are in hand, where it is left; else those in hand mean nothing.
+/// The threads and stacks, the objects, the memory, the watchpoints that are enabled, the client, what is left of the schedule, and how
+/// many events were logged and how many steps made, and may be. The frames of the thread that made the last step are in hand, where it is left; else those in hand mean nothing.
 #[derive(Drop)]
-pub(crate) struct State<M: Memory> {
+pub(crate) struct State<M: Memory, C: Determined> {
     pub(crate) thread: u32,
     pub(crate) stack: u32,
     pub(crate) frames: Frames,
@@ -32,6 +34,8 @@ pub(crate) struct State<M: Memory> {
     pub(crate) seats: Seats,
     pub(crate) heap: Heap,
     pub(crate) memory: M,
+    pub(crate) watched: Watched,
+    pub(crate) client: C,
     pub(crate) picks: Schedule,
     // How many numbers of the schedule this step has looked at, which are taken once it is made.
     pub(crate) skip: u32,
@@ -40,7 +44,7 @@ pub(crate) struct State<M: Memory> {
     pub(crate) budget: u32,
 }
 
-impl<M: Memory> Model for State<M> {
+impl<M: Memory, C: Determined> Model for State<M, C> {
     ghost use Rattle.std.specs.Prelude.{◌≡◌, ◌*◌, ◌≤◌, length};
     ghost use Rattle.mu_step.specs.Held.{Held};
     ghost use Rattle.mu_step.specs.Hand.{IsSound};
@@ -48,7 +52,7 @@ impl<M: Memory> Model for State<M> {
 
     ghost Value = { Held };
 
-    ghost view = { λ s. record { thread = s.thread; stack = s.stack; frames = s.frames; left = s.left; seats = s.seats; objects = s.heap.objects; log = M.log s.memory; picks = s.picks; skip = s.skip; rule = M.rule s.memory; cells = s.heap.left; steps = s.steps; budget = s.budget } };
+    ghost view = { λ s. record { thread = s.thread; stack = s.stack; frames = s.frames; left = s.left; seats = s.seats; objects = s.heap.objects; log = M.log s.memory; watched = s.watched; client = C.stands_for s.client; picks = s.picks; skip = s.skip; rule = M.rule s.memory; cells = s.heap.left; steps = s.steps; budget = s.budget } };
 
     ghost invariant = { λ s. (M.objects s.memory ≡ initials s.heap.objects) × (s.events ≡ length (M.log s.memory)) × (s.events ≤ 100 * s.steps) × (s.steps ≤ s.budget) × (s.budget ≤ 1000000) × IsSound s.left s.thread s.stack s.seats (M.log s.memory) };
 }
@@ -74,7 +78,7 @@ fn end_seat(seats: &mut Seats, thread: u32, stack: u32, frames: &mut Frames) -> 
     seats.end(thread, stack)
 }
 
-impl<M: Memory> State<M> {
+impl<M: Memory, C: Determined> State<M, C> {
     /// A step was made that wrote nothing.
     #[tactic(auto, using(crate::specs::StepLaws::answers_on))]
     pub(crate) fn went(&mut self, alloc: Global) -> StepEnd

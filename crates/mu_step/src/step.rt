@@ -1,6 +1,7 @@
 // The step of a run: which thread makes it.
 ghost use Rattle.std.specs.Prelude.{◌≡◌, ◌≢◌, ◌<◌, ◌≤◌, [], IsSome, Some, IfOk, OnErr, length, slice_get, true, false, List};
 ghost use Rattle.ir_tree.specs.declared.items.Item.{Item};
+ghost use Rattle.mu_model.specs.Clients.{Client};
 ghost use Rattle.mu_model.specs.Changes.{pick};
 ghost use Rattle.mu_model.specs.Outcomes.{Stuck};
 ghost use Rattle.mu_model.specs.Step.{step};
@@ -13,6 +14,7 @@ ghost use Rattle.mu_step.specs.Acting.{answers, stepping, told};
 
 use crate::state::{State, ended};
 use bundle_check::Checked;
+use client_hooks::Determined;
 use mem_axioms::Memory;
 use mu_model::{Ending, StepEnd};
 use mu_values::Slots;
@@ -26,7 +28,7 @@ fn is_made(end: &Result<StepEnd, AllocError>) -> bool
     matches!(end, Ok(StepEnd::Went(_)))
 }
 
-impl<M: Memory> State<M> {
+impl<M: Memory, C: Determined> State<M, C> {
     /// The frames of a thread that is left come into the hand, where none are.
     #[tactic(auto, using(crate::specs::Hand::lifted_up, crate::specs::Hand::lifted_sound))]
     fn lift(&mut self, thread: u32)
@@ -66,6 +68,7 @@ impl<M: Memory> State<M> {
         ensures left { self.new.left ≡ true }
         ensures room { self.new.steps < self.new.budget }
         ensures back { configuration (record self.new { skip = 0 }) ≡ configuration self.old }
+        ensures client { self.new.client ≡ self.old.client }
         ensures step { (bundle : List Item) → step (numbered bundle) (configuration self.old) ≡ stepping bundle self.new }
     {
         let picked = self.picks.look(0, many);
@@ -90,7 +93,7 @@ impl<M: Memory> State<M> {
     #[tactic(auto, using(crate::specs::Hand::done_so, crate::specs::Hand::waits_so))]
     fn none_runs(&self, alloc: Global) -> Result<StepEnd, AllocError>
         requires none { length (runnable_of self.now.seats) ≡ 0 }
-        ensures ok { (bundle : List Item) → IfOk result (λ end. outcome_of end (configuration self.now) ≡ told bundle (step (numbered bundle) (configuration self.now))) }
+        ensures ok { (bundle : List Item) (k : Client) → IfOk result (λ end. outcome_of end (configuration self.now) ≡ told bundle k (step (numbered bundle) (configuration self.now))) }
         ensures stays { IfOk result (λ end. Stays end (configuration self.now) (configuration self.now)) }
     {
         let threads = self.seats.left(alloc)?;
@@ -102,7 +105,7 @@ impl<M: Memory> State<M> {
     }
 
     /// The step of the thread in hand. Where that waits, it does so with a limit, and the wait is over.
-    #[tactic(auto, using(crate::specs::Hand::waiting_hand, crate::specs::StepLaws::told_plain))]
+    #[tactic(auto, using(crate::specs::Hand::waiting_hand, crate::specs::Hand::told_there, crate::specs::StepLaws::told_plain))]
     fn turn(
         &mut self,
         alloc: Global,
@@ -112,8 +115,8 @@ impl<M: Memory> State<M> {
     ) -> Result<StepEnd, AllocError>
         requires left { self.old.left ≡ true }
         requires room { self.old.steps < self.old.budget }
-        requires there { stepping code.now self.old ≢ Stuck }
-        ensures ok { IfOk result (λ end. answers end self.new ≡ told code.now (stepping code.now self.old)) }
+        requires there { told code.now self.old.client (stepping code.now self.old) ≢ Stuck }
+        ensures ok { IfOk result (λ end. answers end self.new ≡ told code.now self.old.client (stepping code.now self.old)) }
         ensures err { OnErr result (self.new ≡ self.old) }
         ensures stays { IfOk result (λ end. Stays end self.old self.new) }
     {
@@ -136,8 +139,8 @@ impl<M: Memory> State<M> {
         requires some { 0 < many }
         requires room { self.old.steps < self.old.budget }
         requires whole { self.old.skip ≡ 0 }
-        requires there { step (numbered code.now) (configuration self.old) ≢ Stuck }
-        ensures ok { IfOk result (λ end. outcome_of end (configuration self.new) ≡ told code.now (step (numbered code.now) (configuration self.old))) }
+        requires there { told code.now self.old.client (step (numbered code.now) (configuration self.old)) ≢ Stuck }
+        ensures ok { IfOk result (λ end. outcome_of end (configuration self.new) ≡ told code.now self.old.client (step (numbered code.now) (configuration self.old))) }
         ensures err { OnErr result (configuration self.new ≡ configuration self.old) }
         ensures stays { IfOk result (λ end. Stays end (configuration self.old) (configuration self.new)) }
         ensures whole { self.new.skip ≡ 0 }
@@ -158,8 +161,8 @@ impl<M: Memory> State<M> {
         out: &mut Slots,
     ) -> Result<StepEnd, AllocError>
         requires whole { self.old.skip ≡ 0 }
-        requires there { step (numbered code.now) (configuration self.old) ≢ Stuck }
-        ensures ok { IfOk result (λ end. outcome_of end (configuration self.new) ≡ told code.now (step (numbered code.now) (configuration self.old))) }
+        requires there { told code.now self.old.client (step (numbered code.now) (configuration self.old)) ≢ Stuck }
+        ensures ok { IfOk result (λ end. outcome_of end (configuration self.new) ≡ told code.now self.old.client (step (numbered code.now) (configuration self.old))) }
         ensures err { OnErr result (configuration self.new ≡ configuration self.old) }
         ensures stays { IfOk result (λ end. Stays end (configuration self.old) (configuration self.new)) }
         ensures whole { self.new.skip ≡ 0 }

@@ -34,6 +34,15 @@ impl Model for Wait {
     ghost view = { λ w. record { waits = w.waits.members; handler = option_map goal_of w.handler; kept = w.kept } };
 }
 
+impl Wait {
+    /// The classes of what the frame is to be given.
+    pub(crate) fn waits(&self) -> &Types
+        ensures { result.now.members ≡ self.now.waits }
+    {
+        &self.waits
+    }
+}
+
 /// The classes of what a function gives.
 fn classes_given(alloc: Global, code: &Checked, function: u32) -> Result<Types, AllocError>
     ensures { IfOk result (λ classes. classes.members ≡ classes_given (bundle_tables code.now) function) }

@@ -21,6 +21,7 @@ use crate::flow::{Place, passing, stand};
 use crate::futexes::tell;
 use crate::state::State;
 use bundle_check::Checked;
+use client_hooks::Determined;
 use frames::Frames;
 use heap_cells::CellId;
 use mem_axioms::{Event, Kind, Memory};
@@ -201,7 +202,7 @@ fn wake_lines(
     Ok(lines)
 }
 
-impl<M: Memory> State<M> {
+impl<M: Memory, C: Determined> State<M, C> {
     /// The thread wakes those that have waited at a cell longest, so many at most, and goes on with how many they are.
     pub(crate) fn wake(
         &mut self,

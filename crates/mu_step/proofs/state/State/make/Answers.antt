@@ -5,12 +5,12 @@ use Rattle.mu_step.proofs.state.State.make.Goals as goal
 
 pub refuse_cells-requires-clause-there : goal.refuse_cells-requires-clause-there
 refuse_cells-requires-clause-there g c =
-    refused_there c.args.code.now c.args.self.now _ _ c.in-Err-HeapFull.field-0 _ _ _ (making_full c.args.code.now c.args.self.now c.args.class c.args.making) (heap_same _ _ _ _ _ _ _ _ _ _ _ _ _ _ c.in-Err-HeapFull.ensures.err c.self.view_is)
+    refused_there c.args.code.now c.args.self.now _ _ c.in-Err-HeapFull.field-0 _ _ _ (making_full c.args.code.now c.args.self.now c.args.class c.args.making) (heap_same _ _ _ _ _ _ _ _ _ _ _ _ _ _ _ _ c.in-Err-HeapFull.ensures.err c.self.view_is)
     (full_here _ _ _ _ c.self.view_is c.in-Err-HeapFull.ensures.full) (rw (← c.in-Err-HeapFull.asked-is, ← c.in-Err-HeapFull.left-is) at c.in-Err-HeapFull.field-0-is) c.requires.there
 
 pub returns-in-Err-HeapFull-clause-ok : goal.returns-in-Err-HeapFull-clause-ok
 returns-in-Err-HeapFull-clause-ok g c =
-    refused_so c.args.code.now _ c.args.self.now _ _ _ c.in-Err-HeapFull.field-0 _ _ _ (making_full c.args.code.now c.args.self.now c.args.class c.args.making) (heap_same _ _ _ _ _ _ _ _ _ _ _ _ _ _ c.in-Err-HeapFull.ensures.err c.self.view_is)
+    refused_so c.args.code.now _ c.args.self.now _ _ _ c.in-Err-HeapFull.field-0 _ _ _ (making_full c.args.code.now c.args.self.now c.args.class c.args.making) (heap_same _ _ _ _ _ _ _ _ _ _ _ _ _ _ _ _ c.in-Err-HeapFull.ensures.err c.self.view_is)
     (full_here _ _ _ _ c.self.view_is c.in-Err-HeapFull.ensures.full) (rw (← c.in-Err-HeapFull.asked-is, ← c.in-Err-HeapFull.left-is) at c.in-Err-HeapFull.field-0-is) c.refuse_cells.ensures.exact c.refuse_cells.ensures.ok
 
 pub give-given-requires-clause-there : goal.give-given-requires-clause-there

@@ -22,8 +22,8 @@ log_two-requires-clause-second_fits g c = enter_fits_then _ _ _ _ _ _ _ c.reserv
 
 pub returns-clause-ok : goal.returns-clause-ok
 returns-clause-ok g c =
-    swaps_so c.args.self.now _ _ _ c.args.arrival _ _ _ _ _ _ _ _ _ _ _ _ _ c.self.view_is c.requires.left c.exchange_on_top.ensures.frames c.switch-passed.ensures.frames c.switch-passed.ensures.moved c.arrive.ensures.frames c.arrive.ensures.objects
-    c.arrive.ensures.left c.reserve.ensures.same_log c.reserve.ensures.same_rule c.log_two.ensures.log c.log_two.ensures.same_rule c.self.invariant.1 c.in_ok-lines.ensures
+    swaps_so c.args.self.now _ _ _ c.args.arrival _ _ _ _ _ _ _ _ _ _ _ _ c.self.view_is c.requires.left c.exchange_on_top.ensures.frames c.switch-passed.ensures.frames c.switch-passed.ensures.moved c.arrive.ensures.frames c.arrive.ensures.objects
+    c.arrive.ensures.left c.reserve.ensures.same_log c.reserve.ensures.same_rule c.log_two.ensures.log c.log_two.ensures.same_rule
 
 pub invariant_of-self-2 : goal.invariant_of-self-2
 invariant_of-self-2 g c = (

@@ -22,5 +22,5 @@ move_to-requires-clause-lands g c = lands_there c.args.code.now _ _ c.args.arriv
 
 pub returns-clause-ok : goal.returns-clause-ok
 returns-clause-ok g c =
-    swap_answered c.args.code.now c.args.self.now _ _ _ _ _ _ c.args.arrival _ _ _ c.move_to.result c.self.view_is c.requires.there c.requires.other c.requires.ready c.requires.lands c.top.ensures c.in_ok-again.ensures c.in_ok-wait.ensures
-    c.move_to.ensures.ok
+    swap_answered c.args.code.now c.args.self.now _ _ _ _ _ _ c.args.arrival _ _ _ _ _ c.move_to.result c.self.view_is c.requires.there c.requires.other c.requires.ready c.requires.lands c.top.ensures c.in_ok-again.ensures c.in_ok-wait.ensures
+    c.self.invariant.1 c.in_ok-lines.ensures c.move_to.ensures.ok

@@ -1,0 +1,53 @@
+-- Inner: nothing that a reader believes of a run rests on this. It is what comes of a trap, in parts.
+use Rattle.std.specs.Prelude.{◌≡◌, ℕ, List, Option, fold, reverse, map}
+use Rattle.ir_tree.specs.declared.items.Item.{Item}
+use Rattle.mu_values.specs.Slots.{TypedValues}
+use Rattle.frames.specs.Activations.{Activation}
+use Rattle.frames.specs.Chains.{frames_of, Chain}
+use Rattle.mu_model.specs.declared.lines.Line.{Line}
+use Rattle.mu_model.specs.declared.lines.Note.{Note}
+use Rattle.mu_model.specs.Clients.{Client, Classed, Reply, Answer}
+use Rattle.mu_model.specs.Answers.{advanced}
+use Rattle.mu_model.specs.Configuration.{Configuration}
+use Rattle.mu_model.specs.Exceptions.{EnteredFrames}
+use Rattle.mu_model.specs.EnteringStacks.{leaving, enters}
+use Rattle.mu_model.specs.Outcomes.{Outcome, Next, View, on}
+use Rattle.mu_model.specs.Run.{with_client}
+use Rattle.mu_model.specs.Traps.{trap_note, taken, replied}
+use Rattle.model_numbers.specs.Numbered.{numbered}
+use Rattle.mu_step.specs.Held.{Held}
+use Rattle.mu_step.specs.Acting.{begun, turn, doing_of, with_awaited, Awaited}
+use Rattle.mu_step.specs.Entering.{nothing}
+
+-- what an answer changes before its reply: the watchpoints that are enabled, and the lines so far
+pub record Change : Type 0 where
+  pub watched : List ℕ
+  pub lines : List Line
+
+-- the top frame waits so
+abbrev pub waiting_frames : Held → Awaited → Chain
+waiting_frames s w = record s.frames { top = with_awaited s.frames.top w }
+
+-- what the client sees then
+abbrev pub seen : Held → Option ℕ → Awaited → View
+seen s watchpoint w = record { thread = s.thread; watchpoint = watchpoint; asked = w.waits; frames = frames_of (waiting_frames s w) }
+
+-- the record of the trap
+abbrev pub note_of : Held → Option ℕ → Note
+note_of s watchpoint = trap_note (turn s nothing) watchpoint
+
+-- the configuration once the stack is left, and the answer's records and watches are taken
+abbrev pub changed_by : Held → Awaited → Change → Configuration
+changed_by s w x = record (leaving (turn s nothing) (with_awaited s.frames.top w) (begun s)) { watched = x.watched; lines = reverse x.lines }
+
+-- the reply after that
+unfoldable pub replying : List Item → Held → Awaited → Change → Reply TypedValues Classed → Outcome
+replying bundle s w x r = on (doing_of (numbered bundle) s) (λ d. replied (numbered bundle) (changed_by s w x) (turn s d) r)
+
+-- the client goes past its answer
+unfoldable pub past : Held → Outcome → Outcome
+past s o = with_client (advanced s.client) o
+
+-- the stack k is entered then
+unfoldable pub entering_then : Held → Awaited → Change → ℕ → EnteredFrames → Outcome
+entering_then s w x k r = Next (enters s.thread k r (changed_by s w x))

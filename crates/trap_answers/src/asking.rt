@@ -1,0 +1,75 @@
+//! Asks a client about a stack.
+ghost use Rattle.std.specs.Prelude.{◌≡◌, IfOk, Some, option_map, slice_get};
+ghost use Rattle.frames.specs.Chains.{Chain, frames_of};
+ghost use Rattle.mu_model.specs.Configuration.{Active};
+ghost use Rattle.mu_model.specs.Answers.{answer_of};
+ghost use Rattle.client_hooks.specs.Plans.{planned};
+ghost use Rattle.seats.specs.Seats.{IsOn};
+
+use client_hooks::{ClientFault, Determined, Plan, TrapView};
+use mu_base::Types;
+use seats::{Asks, Seats};
+use stacks::ReadyStack;
+use std::alloc::{AllocError, Global};
+
+/// A client that is asked, and its answer.
+#[derive(Drop)]
+struct Asking<'a, C: Determined> {
+    alloc: Global,
+    client: &'a C,
+    view: &'a TrapView,
+    answer: Result<Option<Plan>, AllocError>,
+}
+
+impl<'a, C: Determined> Asks for Asking<'a, C> {
+    ghost use Rattle.std.specs.Prelude.{◌≡◌, IfOk, option_map};
+    ghost use Rattle.mu_model.specs.Answers.{answer_of};
+    ghost use Rattle.client_hooks.specs.Traps.{view_of};
+    ghost use Rattle.client_hooks.specs.Plans.{planned};
+
+    ghost asked = { λ old stack new. IfOk new.answer (λ plan. option_map planned plan ≡ answer_of old.view.now.tables (view_of old.view.now stack) (C.stands_for old.client.now)) };
+
+    fn ask(&mut self, stack: ReadyStack) -> ReadyStack {
+        match self.client.answer(self.alloc, self.view, stack) {
+            Ok(reply) => {
+                let (plan, stack) = reply.apart();
+                self.answer = Ok(Some(plan));
+                stack
+            }
+            Err(ClientFault::Misuse(stack)) => {
+                self.answer = Ok(None);
+                stack
+            }
+            Err(ClientFault::Memory(stack)) => {
+                self.answer = Err(AllocError);
+                stack
+            }
+        }
+    }
+}
+
+/// Asks a client for its answer to a trap of a thread, whose stack waits for values of these types. The client sees the stack, and hands
+/// it back; nothing changes. None is misuse. It is refused for want of memory alone.
+pub fn ask<C: Determined>(
+    alloc: Global,
+    client: &C,
+    view: &TrapView,
+    seats: &mut Seats,
+    thread: u32,
+    stack: u32,
+    waits: Types,
+) -> Result<Option<Plan>, AllocError>
+    requires { IsOn seats.old thread stack }
+    ensures same { seats.new ≡ seats.old }
+    ensures answer { (c : Chain) → slice_get seats.old.stacks stack ≡ Some (Active thread (frames_of c))
+        → IfOk result (λ plan. option_map planned plan ≡ answer_of view.now.tables (record { thread = view.now.thread; watchpoint = view.now.watchpoint; asked = view.now.asked; frames = frames_of c }) (C.stands_for client.now)) }
+{
+    let mut asking = Asking {
+        alloc,
+        client,
+        view,
+        answer: Ok(None),
+    };
+    seats.ask(thread, stack, waits, &mut asking);
+    asking.answer
+}
