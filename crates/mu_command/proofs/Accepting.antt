@@ -5,13 +5,12 @@ use Rattle.mu_base.specs.declared.status.Status.{Status}
 use Rattle.mu_base.specs.declared.status.Status.TheVariants.{Refused, Usage, SinkFault, Memory}
 use Rattle.mu_base.specs.Outcome.{Outcome, got, failed, too_long}
 use Rattle.ir_tree.specs.declared.items.Item.{Item}
-use Rattle.mu_step.specs.Plain.{plain_setting}
 use Rattle.mu_texts.specs.declared.what.What.{What}
-use Rattle.mu_texts.specs.declared.what.What.TheVariants.{Bundle, Hail, Schedule}
+use Rattle.mu_texts.specs.declared.what.What.TheVariants.{Bundle, Hail, Client, Schedule}
 use Rattle.mu_texts.specs.declared.ready.Ready.{Ready}
 use Rattle.mu_texts.specs.declared.ready.Ready.TheVariants as ready
-use Rattle.mu_texts.specs.Answer.{Part, ◌>>=◌, as_written, accepted, for_check, for_print, entered, loaded, scheduled, started, is_end, ready_part}
-use Rattle.mu_texts.proofs.Accepting.{StopsSo, then, writing, accepting, entering_named, loading, scheduling}
+use Rattle.mu_texts.specs.Answer.{Part, ◌>>=◌, as_written, accepted, for_check, for_print, entered, loaded, client_part, scheduled, is_end, ready_part}
+use Rattle.mu_texts.proofs.Accepting.{StopsSo, then, writing, accepting, entering_named, loading, scripting, scheduling}
 use Rattle.mu_command.specs.declared.job.Job.{Job}
 use Rattle.mu_command.specs.declared.job.Job.TheVariants.{Check, Print, Run}
 use Rattle.mu_command.specs.declared.job.RunJob.{RunJob}
@@ -19,6 +18,7 @@ use Rattle.mu_command.specs.Job.{job_of, word}
 use Rattle.mu_command.specs.Answer.{Outcomes, fetched, judged, begun, found, answer_of}
 use Rattle.mu_command.specs.Allowed.{Seen, AllowsJob}
 use Rattle.mu_command.specs.Written.{IsWhole}
+use Rattle.mu_command.proofs.Way.{after_entry, after_objects, after_client, after_picks}
 use Rattle.mu_command.specs.Central.{Answered, OfJob, IsAccepted}
 
 -- what is found on the way ends so where what is fetched does
@@ -28,11 +28,10 @@ module _ (P : Status → Type 0) (refused : P Refused) (memory : P Memory) (word
 
   beginning : (r : RunJob) (code : List Item) → StopsSo P (begun words r code o)
   beginning r code =
-      then P (entered code (word words r.entry)) (λ n. judged Hail (loaded code r.cells) (o Hail) >>= λ objects. judged Schedule scheduled (o Schedule) >>= λ picks. Ok (started code n (plain_setting objects picks r.rule r.cells r.budget)))
-      (entering_named P refused memory code (word words r.entry))
-      (λ n. then P (judged Hail (loaded code r.cells) (o Hail)) (λ objects. judged Schedule scheduled (o Schedule) >>= λ picks. Ok (started code n (plain_setting objects picks r.rule r.cells r.budget)))
-      (judging Hail (loaded code r.cells) (loading P refused memory code r.cells))
-      (λ objects. then P (judged Schedule scheduled (o Schedule)) (λ picks. Ok (started code n (plain_setting objects picks r.rule r.cells r.budget))) (judging Schedule scheduled (scheduling P refused memory)) (λ picks. tt)))
+      then P (entered code (word words r.entry)) (after_entry r code o) (entering_named P refused memory code (word words r.entry))
+      (λ n. then P (judged Hail (loaded code r.cells) (o Hail)) (after_objects r code o n) (judging Hail (loaded code r.cells) (loading P refused memory code r.cells))
+      (λ objects. then P (judged Client (client_part code r.auto) (o Client)) (after_client r code o n objects) (judging Client (client_part code r.auto) (scripting P refused memory code r.auto))
+      (λ client. then P (judged Schedule scheduled (o Schedule)) (after_picks r code o n objects client) (judging Schedule scheduled (scheduling P refused memory)) (λ picks. tt))))
 
   pub finding_all : (job : Job) → StopsSo P (found words job o)
   finding_all (Check file) = judging Bundle for_check (λ bytes. then P (accepted bytes) (λ code. Ok ready.Accepted) (accepting P refused memory bytes) (λ code. tt))

@@ -8,7 +8,6 @@ use Rattle.mu_model.specs.Programs.{named}
 use Rattle.bundle_check.specs.Checking.{bundle_tables}
 use Rattle.mem_axioms.specs.declared.types.Rule.{Rule}
 use Rattle.mu_model.specs.Run.{Setting, begins_in, cells_taken, first_configuration, run, run_from}
-use Rattle.mu_step.specs.Plain.{plain_setting}
 use Rattle.mu_texts.specs.Start.{Started}
 use Rattle.mu_texts.specs.Answer.{run_of}
 
@@ -26,13 +25,10 @@ run_is code n s c h =
     ap (run_from (named code)) h ∙ ap (λ (k : ℕ). run (named code) (suc k) c) b ∙ ap (λ (k : ℕ). run (named code) k c) (sym (add-one s.budget))
 
 -- a machine that was made of what a run begins with stands at its beginning
-pub begins_so : (code : List Item) (v s : Started) (rule : Rule) (c : Configuration) → v ≡ s → rule ≡ v.setting.rule → v.setting ≡ plain_setting v.setting.objects v.setting.picks v.setting.rule v.setting.cells v.setting.budget
-    → s.left ≡ s.setting.cells - cells_taken (bundle_tables code) s.setting.objects
-    → ((cells : ℕ) → v.left ≡ cells - cells_taken (bundle_tables code) v.setting.objects → first_configuration (named code) (plain_setting v.setting.objects v.setting.picks rule cells v.setting.budget) v.entry ≡ Some c)
+pub begins_so : (code : List Item) (v s : Started) (rule : Rule) (c : Configuration) → v ≡ s → rule ≡ v.setting.rule → s.left ≡ s.setting.cells - cells_taken (bundle_tables code) s.setting.objects
+    → ((cells : ℕ) → v.left ≡ cells - cells_taken (bundle_tables code) v.setting.objects → first_configuration (named code) (record v.setting { cells = cells; rule = rule }) v.entry ≡ Some c)
     → first_configuration (named code) s.setting s.entry ≡ Some c
-begins_so code v s rule c same ruled plain left first =
+begins_so code v s rule c same ruled left first =
     let there : v.left ≡ v.setting.cells - cells_taken (bundle_tables code) v.setting.objects = subst (λ (s : Started). s.left ≡ s.setting.cells - cells_taken (bundle_tables code) s.setting.objects) (sym same) left in
     subst (λ (s : Started). first_configuration (named code) s.setting s.entry ≡ Some c) same
-    (ap (λ (s : Setting). first_configuration (named code) s v.entry) plain
-    ∙ ap (λ (r : Rule). first_configuration (named code) (plain_setting v.setting.objects v.setting.picks r v.setting.cells v.setting.budget) v.entry) (sym ruled)
-    ∙ first v.setting.cells there)
+    (ap (λ (r : Rule). first_configuration (named code) (record v.setting { rule = r }) v.entry) (sym ruled) ∙ first v.setting.cells there)

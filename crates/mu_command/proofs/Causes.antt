@@ -69,3 +69,8 @@ pub too_long_cause : (seen : Seen) (words : List (List ℕ)) (w0 w1 e0 e1 : Opti
 too_long_cause seen words w0 w1 e0 e1 status a s =
     let whole : IsWhole TooLong = ((λ e. cc), (λ e. cc)) in
     (fetch_job seen words (job_of words) a.outcomes a.allowed status (sym (a.writes.status_of (rw s whole)))).1 s
+
+pub read_fault_cause : (seen : Seen) (words : List (List ℕ)) (w0 w1 e0 e1 : Option (List ℕ)) (status : Status) → Answered seen words w0 w1 e0 e1 status → status ≡ ReadFault → SomeFile (MayFail seen words) (job_of words)
+read_fault_cause seen words w0 w1 e0 e1 status a s =
+    let whole : IsWhole ReadFault = ((λ e. cc), (λ e. cc)) in
+    (fetch_job seen words (job_of words) a.outcomes a.allowed status (sym (a.writes.status_of (rw s whole)))).0 s

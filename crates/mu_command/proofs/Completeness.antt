@@ -10,7 +10,7 @@ use Rattle.mu_command.specs.declared.job.Job.TheVariants.{Check, Print, Run}
 use Rattle.mu_texts.specs.Answer.{ready_part}
 use Rattle.mu_command.specs.Answer.{Outcomes, found, answer_of}
 use Rattle.mu_texts.specs.declared.what.What.{What}
-use Rattle.mu_texts.specs.declared.what.What.TheVariants.{Bundle, Hail, Schedule}
+use Rattle.mu_texts.specs.declared.what.What.TheVariants.{Bundle, Hail, Client, Schedule}
 use Rattle.mu_command.specs.Allowed.{Seen, AllowsJob, AllowsFile}
 use Rattle.mu_texts.specs.What.{slot_of}
 use Rattle.mu_command.specs.Job.{job_of, file_of}
@@ -43,7 +43,7 @@ named_is_told seen files words what (Some n) o told quiet h = allowed_is_told fi
 same_found : (words : List (List ℕ)) (job : Job) (o p : Outcomes) → ((what : What) → o what ≡ p what) → ready_part (found words job o) ≡ ready_part (found words job p)
 same_found words (Check file) o p same = rw (same Bundle) refl
 same_found words (Print file) o p same = rw (same Bundle) refl
-same_found words (Run r) o p same = rw (same Bundle, same Hail, same Schedule) refl
+same_found words (Run r) o p same = rw (same Bundle, same Hail, same Client, same Schedule) refl
 
 outcomes_are_told : (seen : Seen) (files : Files) (words : List (List ℕ)) (job : Option Job) (o : Outcomes) → seen.told ≡ Some files → ((s : ℕ) → IsQuiet seen s) →
     AllowsJob seen words job o → answer_of words job o ≡ answer_of words job (outcomes_of files words job)

@@ -15,8 +15,7 @@ use Rattle.mu_model.specs.Acts.{Program}
 use Rattle.mu_model.specs.Configuration.{Configuration}
 use Rattle.mu_model.specs.Outcomes.{Outcome, Next, End, Stuck}
 use Rattle.mu_model.specs.Programs.{named}
-use Rattle.mu_model.specs.Step.{step}
-use Rattle.mu_model.specs.Run.{Run, Ends, Breaks, Unfinished, behind, goes_on, client_answers, run}
+use Rattle.mu_model.specs.Run.{Run, Ends, Breaks, Unfinished, behind, goes_on, run}
 use Rattle.run_texts.specs.Texts.{ending_status}
 use Rattle.run_texts.specs.Pieces.{lines_text}
 use Rattle.mu_step.specs.Outcome.{outcome_of}
@@ -101,8 +100,8 @@ last_stops p status answer w0 w1 e0 e1 fails put =
 
 -- ---- a step of the run
 
-pub not_stuck : (p : Program) (n : ℕ) (c : Configuration) → HasEnding (run p (suc n) c) → step p c ≢ Stuck
-not_stuck p n c ends e = subst (λ (o : Outcome). HasEnding (goes_on (run p n) (client_answers p c.client o))) e ends
+pub not_stuck : (p : Program) (n : ℕ) (c : Configuration) → HasEnding (run p (suc n) c) → answered_step p c ≢ Stuck
+not_stuck p n c ends e = subst (λ (o : Outcome). HasEnding (goes_on (run p n) o)) e ends
 
 -- lines that were written do not matter
 lines_aside : (p : Program) (n : ℕ) (c : Configuration) (ls : List Line) → run p n (record c { lines = ls }) ≡ run p n c

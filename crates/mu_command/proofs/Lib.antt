@@ -1,3 +1,4 @@
+pub mod Way
 pub mod Together
 pub mod Puts
 pub mod Answering

@@ -1,22 +1,24 @@
 -- The run that a job asks for is sound.
-use Rattle.std.proofs.Common.{◌≡◌, ℕ, List, [], Some, refl, subst, sym}
-use Rattle.std.specs.Prelude.{Ok, Err, Result, None, Option}
+use Rattle.std.proofs.Common.{◌≡◌, ℕ, List, [], Some, refl, subst, sym, ap}
+use Rattle.std.specs.Prelude.{Bool, Ok, Err, Result, None, Option}
 use Rattle.demands.specs.declared.fault.Fault.{Fault}
+use Rattle.demands.specs.Demands.{first_unmet}
+use Rattle.client_script.specs.Texts.{script_demands, script_entries}
 use Rattle.ir_tree.specs.declared.items.Item.{Item}
 use Rattle.ir_text.specs.TextAnswers.{AnswerIsOne}
 use Rattle.typed_heap.specs.Objects.{HeapObject}
 use Rattle.mu_base.specs.Outcome.{Outcome, got, failed, too_long}
 use Rattle.mu_model.specs.Programs.{named}
 use Rattle.mu_model.specs.Run.{Setting}
-use Rattle.mu_step.specs.Plain.{plain_setting}
+use Rattle.mu_model.specs.Clients as clients
 use Rattle.text_programs.specs.Moments.{MomentsAreSound, MomentsOfTextsAreSound}
-use Rattle.loaded_programs.specs.Laws.{LoadedSettingsFit}
+use Rattle.loaded_programs.specs.Laws.{loaded_objects, carried_out, IsScripted, LoadedSettingsFit}
 use Rattle.mu_texts.specs.declared.what.What.{What}
-use Rattle.mu_texts.specs.declared.what.What.TheVariants.{Bundle, Hail, Schedule}
+use Rattle.mu_texts.specs.declared.what.What.TheVariants.{Bundle, Hail, Client, Schedule}
 use Rattle.mu_texts.specs.declared.ready.Ready.TheVariants as ready
 use Rattle.mu_texts.specs.Start.{Started}
-use Rattle.mu_texts.specs.Refusals.{load_fault_name}
-use Rattle.mu_texts.specs.Answer.{Part, ◌>>=◌, accepted, as_written, for_check, for_print, entered, filled, hail_part, filled_part, loaded, scheduled, started}
+use Rattle.mu_texts.specs.Refusals.{load_fault_name, script_fault_name}
+use Rattle.mu_texts.specs.Answer.{Part, ◌>>=◌, accepted, as_written, for_check, for_print, entered, hail_part, filled_part, loaded, client_part, scheduled, started}
 use Rattle.mu_texts.specs.Comes.{AreFilled, IsLoaded}
 use Rattle.mu_texts.proofs.Runnable.{goes_on, was_met}
 use Rattle.mu_texts.proofs.Moments.{moments_of_run}
@@ -26,6 +28,7 @@ use Rattle.mu_command.specs.declared.job.RunJob.{RunJob}
 use Rattle.mu_command.specs.Job.{word}
 use Rattle.mu_command.specs.Answer.{Outcomes, fetched, judged, begun, found}
 use Rattle.mu_command.specs.Central.{RunsAreSound}
+use Rattle.mu_command.proofs.Way.{after_entry, after_objects, after_client, after_picks}
 
 -- a file that comes to something has bytes that do
 from_bytes : {A : Type 0} (what : What) (part : List ℕ → Part A) (o : Outcome) (x : A) → judged what part o ≡ Ok x → (bytes : List ℕ) × (part bytes ≡ Ok x)
@@ -37,22 +40,30 @@ from_bytes what part too_long x h = cc
 are_filled : (code : List Item) (cells : ℕ) (bytes : List ℕ) (objects : List HeapObject) → loaded code cells bytes ≡ Ok objects → AreFilled code objects
 are_filled code cells bytes objects h =
     let m = goes_on (hail_part code bytes) (filled_part code cells) objects h in
-    let made = was_met Hail load_fault_name (filled code cells m.0).store.objects objects (filled code cells m.0).fault m.2 in
+    let made = was_met Hail load_fault_name (loaded_objects code cells m.0) objects (carried_out code cells m.0).fault m.2 in
     record { commands = m.0; cells = cells; is = sym made.1 }
+
+-- a client that a text spells is that of a script
+is_scripted : (code : List Item) (auto : Bool) (bytes : List ℕ) (k : clients.Client) → client_part code auto bytes ≡ Ok k → IsScripted code k
+is_scripted code auto bytes k h =
+    let met = was_met {A = clients.Client} Client script_fault_name (record { entries = script_entries code bytes; auto = auto }) k (first_unmet (script_demands code bytes)) h in
+    record { text = bytes; accepted = met.0; entries = ap (λ (k : clients.Client). k.entries) (sym met.1) }
 
 -- the run of a bundle begins so
 pub record Begins (words : List (List ℕ)) (r : RunJob) (code : List Item) (start : Started) : Type 0 where
-  pub objects : IsLoaded code start.setting
+  pub setting : IsLoaded code start.setting
   pub entry : entered code (word words r.entry) ≡ Ok start.entry
 
 begins : (words : List (List ℕ)) (r : RunJob) (code : List Item) (o : Outcomes) (start : Started) → begun words r code o ≡ Ok start → Begins words r code start
 begins words r code o start h =
-    let n = goes_on (entered code (word words r.entry)) (λ n. judged Hail (loaded code r.cells) (o Hail) >>= λ objects. judged Schedule scheduled (o Schedule) >>= λ picks. Ok (started code n (plain_setting objects picks r.rule r.cells r.budget))) start h in
-    let os = goes_on (judged Hail (loaded code r.cells) (o Hail)) (λ objects. judged Schedule scheduled (o Schedule) >>= λ picks. Ok (started code n.0 (plain_setting objects picks r.rule r.cells r.budget))) start n.2 in
-    let ps = goes_on (judged Schedule scheduled (o Schedule)) (λ picks. Ok (started code n.0 (plain_setting os.0 picks r.rule r.cells r.budget))) start os.2 in
-    let bytes = from_bytes Hail (loaded code r.cells) (o Hail) os.0 os.1 in
-    let same : started code n.0 (plain_setting os.0 ps.0 r.rule r.cells r.budget) ≡ start = let e = ps.2 in cc in
-    subst (Begins words r code) same (record { objects = record { objects = are_filled code r.cells bytes.0 os.0 bytes.1; entries = refl }; entry = n.1 })
+    let n = goes_on (entered code (word words r.entry)) (after_entry r code o) start h in
+    let os = goes_on (judged Hail (loaded code r.cells) (o Hail)) (after_objects r code o n.0) start n.2 in
+    let k = goes_on (judged Client (client_part code r.auto) (o Client)) (after_client r code o n.0 os.0) start os.2 in
+    let ps = goes_on (judged Schedule scheduled (o Schedule)) (after_picks r code o n.0 os.0 k.0) start k.2 in
+    let heap = from_bytes Hail (loaded code r.cells) (o Hail) os.0 os.1 in
+    let script = from_bytes Client (client_part code r.auto) (o Client) k.0 k.1 in
+    let same : started code n.0 (record { objects = os.0; client = k.0; picks = ps.0; cells = r.cells; budget = r.budget; rule = r.rule }) ≡ start = let e = ps.2 in cc in
+    subst (Begins words r code) same (record { setting = record { objects = are_filled code r.cells heap.0 os.0 heap.1; client = is_scripted code r.auto script.0 k.0 script.1 }; entry = n.1 })
 
 of_run : (words : List (List ℕ)) (r : RunJob) (o : Outcomes) (code : List Item) (start : Started) → AnswerIsOne → MomentsOfTextsAreSound → LoadedSettingsFit → found words (Run r) o ≡ Ok (ready.Entered code start)
     → MomentsAreSound (named code) start.setting start.entry
@@ -63,7 +74,7 @@ of_run words r o code start one law fits h =
     let b = begins words r c.0 o s.0 s.1 in
     let same_code : c.0 ≡ code = let e = s.2 in cc in
     let same_start : s.0 ≡ start = let e = s.2 in cc in
-    let here : MomentsAreSound (named c.0) s.0.setting s.0.entry = moments_of_run bytes.0 (word words r.entry) c.0 s.0.setting s.0.entry one law fits bytes.1 b.objects b.entry in
+    let here : MomentsAreSound (named c.0) s.0.setting s.0.entry = moments_of_run bytes.0 (word words r.entry) c.0 s.0.setting s.0.entry one law fits bytes.1 b.setting b.entry in
     subst (λ (s : Started). MomentsAreSound (named code) s.setting s.entry) same_start (subst (λ code. MomentsAreSound (named code) s.0.setting s.0.entry) same_code here)
 
 of_job : (words : List (List ℕ)) (job : Job) (o : Outcomes) (code : List Item) (start : Started) → AnswerIsOne → MomentsOfTextsAreSound → LoadedSettingsFit → found words job o ≡ Ok (ready.Entered code start)

@@ -1,41 +1,83 @@
 -- The options of a run, read one by one.
-use Rattle.std.proofs.Common.{◌≡◌, ◌∙◌, ℕ, ◌+◌, ◌<◌, ◌≤◌, List, [], ◌∷◌, length, drop, ap, arith, Some, None}
+use Rattle.std.proofs.Common.{◌≡◌, ◌∙◌, ℕ, ◌+◌, ◌<◌, ◌≤◌, List, [], ◌∷◌, length, drop, true, false, refl, ap, arith, Option, Some, None}
+use Rattle.std.specs.Prelude.{Bool, IfSome, bytes_eq, codes, is_some, ◌||◌, if◌then◌else◌}
 use Rattle.std.specs.Option.{option_and_then}
 use Rattle.std.proofs.lemmas.List.{drop_more, drop_all}
 use Rattle.mu_command.specs.declared.options.Options.{Options}
-use Rattle.mu_command.specs.Job.{word, with_option, with_all}
+use Rattle.mu_command.specs.Job.{word, with_option, with_auto, with_all, OptionsAreThere}
+
+-- whether a name is that of the option without a value
+abbrev is_auto : List ℕ → Bool
+is_auto name = bytes_eq name (codes "--auto")
+
+-- a name with a value, and then those behind them
+with_value : (options : Options) (n : ℕ) (name value : List ℕ) (words : List (List ℕ)) → is_auto name ≡ false →
+    with_all options n (name ∷ value ∷ words) ≡ option_and_then (λ more. with_all more (n + 2) words) (with_option options name (n + 1) value)
+with_value options n name value words other = rw other refl
+
+without_value : (options : Options) (n : ℕ) (name : List ℕ) → is_auto name ≡ false → with_all options n (name ∷ []) ≡ None
+without_value options n name other = rw other refl
+
+-- `--auto`, and then those behind it
+same_again : (o : Option Options) → o ≡ option_and_then (λ more. Some more) o
+same_again None = refl
+same_again (Some options) = refl
+
+behind_auto : (options : Options) (n : ℕ) (name : List ℕ) (words : List (List ℕ)) → is_auto name ≡ true →
+    with_all options n (name ∷ words) ≡ option_and_then (λ more. with_all more (n + 1) words) (with_auto options)
+behind_auto options n name [] auto = rw auto (same_again (with_auto options))
+behind_auto options n name (value ∷ words) auto = rw auto refl
 
 module _ (words : List (List ℕ)) (options : Options) (n : ℕ) where
+  first : n < length words → drop n words ≡ word words n ∷ drop (n + 1) words
+  first there = drop_more words n [] there
+
   left : n + 1 < length words → drop n words ≡ word words n ∷ word words (n + 1) ∷ drop (n + 2) words
   left there =
-      let one : drop n words ≡ word words n ∷ drop (n + 1) words = drop_more words n [] (omega (arith, there)) in
       let two : drop (n + 1) words ≡ word words (n + 1) ∷ drop (n + 1 + 1) words = drop_more words (n + 1) [] there in
       let same : n + 1 + 1 ≡ n + 2 = omega arith in
-      one ∙ ap (λ (ws : List (List ℕ)). word words n ∷ ws) two ∙ ap (λ (k : ℕ). word words n ∷ word words (n + 1) ∷ drop k words) same
+      first (omega (arith, there)) ∙ ap (λ (ws : List (List ℕ)). word words n ∷ ws) two ∙ ap (λ (k : ℕ). word words n ∷ word words (n + 1) ∷ drop k words) same
 
   -- the option at n, and then those behind it
-  at : n + 1 < length words → with_all options n (drop n words) ≡
+  at : n + 1 < length words → is_auto (word words n) ≡ false → with_all options n (drop n words) ≡
       option_and_then (λ more. with_all more (n + 2) (drop (n + 2) words)) (with_option options (word words n) (n + 1) (word words (n + 1)))
-  at there = ap (with_all options n) (left there)
+  at there other = ap (with_all options n) (left there) ∙ with_value options n (word words n) (word words (n + 1)) (drop (n + 2) words) other
+
+  at_auto : n < length words → is_auto (word words n) ≡ true → with_all options n (drop n words) ≡
+      option_and_then (λ more. with_all more (n + 1) (drop (n + 1) words)) (with_auto options)
+  at_auto there auto = ap (with_all options n) (first there) ∙ behind_auto options n (word words n) (drop (n + 1) words) auto
 
   -- one more option was read
-  pub one_more : (more : Options) → n + 1 < length words → with_option options (word words n) (n + 1) (word words (n + 1)) ≡ Some more →
+  pub one_more : (more : Options) → n + 1 < length words → is_auto (word words n) ≡ false → with_option options (word words n) (n + 1) (word words (n + 1)) ≡ Some more →
       with_all options n (drop n words) ≡ with_all more (n + 2) (drop (n + 2) words)
-  one_more more there is = at there ∙ ap (option_and_then (λ more. with_all more (n + 2) (drop (n + 2) words))) is
+  one_more more there other is = at there other ∙ ap (option_and_then (λ more. with_all more (n + 2) (drop (n + 2) words))) is
 
-  -- a word that is no option
-  pub no_more : n + 1 < length words → with_option options (word words n) (n + 1) (word words (n + 1)) ≡ None → with_all options n (drop n words) ≡ None
-  no_more there is = at there ∙ ap (option_and_then (λ more. with_all more (n + 2) (drop (n + 2) words))) is
+  pub auto_more : (more : Options) → n < length words → is_auto (word words n) ≡ true → with_auto options ≡ Some more → with_all options n (drop n words) ≡ with_all more (n + 1) (drop (n + 1) words)
+  auto_more more there auto is = at_auto there auto ∙ ap (option_and_then (λ more. with_all more (n + 1) (drop (n + 1) words))) is
+
+  -- a word that is no option, or not there again
+  pub no_more : n + 1 < length words → is_auto (word words n) ≡ false → with_option options (word words n) (n + 1) (word words (n + 1)) ≡ None → with_all options n (drop n words) ≡ None
+  no_more there other is = at there other ∙ ap (option_and_then (λ more. with_all more (n + 2) (drop (n + 2) words))) is
+
+  pub no_auto : n < length words → is_auto (word words n) ≡ true → with_auto options ≡ None → with_all options n (drop n words) ≡ None
+  no_auto there auto is = at_auto there auto ∙ ap (option_and_then (λ more. with_all more (n + 1) (drop (n + 1) words))) is
 
   -- a name without a value
-  pub no_value : n + 1 ≡ length words → with_all options n (drop n words) ≡ None
-  no_value last =
-      let one : drop n words ≡ word words n ∷ drop (n + 1) words = drop_more words n [] (omega (arith, last)) in
+  pub no_value : n + 1 ≡ length words → is_auto (word words n) ≡ false → with_all options n (drop n words) ≡ None
+  no_value last other =
       let none : drop (n + 1) words ≡ [] = drop_all (n + 1) words (omega (arith, last)) in
-      ap (with_all options n) (one ∙ ap (λ (ws : List (List ℕ)). word words n ∷ ws) none)
+      ap (with_all options n) (first (omega (arith, last)) ∙ ap (λ (ws : List (List ℕ)). word words n ∷ ws) none) ∙ without_value options n (word words n) other
 
   -- all words were read
   pub no_word : length words ≤ n → with_all options n (drop n words) ≡ Some options
   no_word past = ap (with_all options n) (drop_all n words past)
 
-pub ruleset reading = (one_more, no_more, no_value, no_word)
+-- the words of the options are there as before
+pub auto_there : (count : ℕ) (options : Options) (o : Option Options) → OptionsAreThere count options → o ≡ with_auto options → IfSome o (OptionsAreThere count)
+auto_there count options o there e = rw e (so (options.auto || is_some options.client))
+  where
+    so : (both : Bool) → IfSome (if both then None else Some (record options { auto = true })) (OptionsAreThere count)
+    so true = tt
+    so false = record { entry = there.entry; hail = there.hail; client = there.client; schedule = there.schedule; steps = there.steps }
+
+pub ruleset reading = (one_more, auto_more, no_more, no_auto, no_value, no_word, auto_there)

@@ -5,7 +5,7 @@ use Rattle.mu_base.specs.declared.status.Status.TheVariants.{Usage}
 use Rattle.mu_base.specs.Outcome.{Outcome, got}
 use Rattle.ir_tree.specs.declared.items.Item.{Item}
 use Rattle.mu_texts.specs.declared.what.What.{What}
-use Rattle.mu_texts.specs.declared.what.What.TheVariants.{Bundle, Hail, Schedule}
+use Rattle.mu_texts.specs.declared.what.What.TheVariants.{Bundle, Hail, Client, Schedule}
 use Rattle.mu_texts.specs.declared.stop.Stop.{Stop}
 use Rattle.mu_texts.specs.declared.stop.Stop.TheVariants.{Line, Memory}
 use Rattle.mu_texts.specs.declared.ready.Ready.{Ready}
@@ -19,7 +19,7 @@ use Rattle.mu_command.specs.Job.{job_of, file_of}
 use Rattle.mu_command.specs.Answer.{Outcomes, judged, begun, found}
 use Rattle.mu_command.specs.Allowed.{Seen, AllowsFile}
 use Rattle.mu_command.specs.Parts.{IsJudged, IsBegun, IsAnswer, IsFound, OfFile, OfRun, SameSlot}
-use Rattle.mu_command.proofs.Beginnings.{same_slot, some_named}
+use Rattle.mu_command.proofs.Beginnings.{same_slot, some_named, outcomes_with}
 
 -- allowed outcomes, and the answer to them
 together : (seen : Seen) (words : List (List ℕ)) (job : Job) (o : Outcomes) (answer : Answer) → job_of words ≡ Some job →
@@ -35,11 +35,13 @@ module _ (seen : Seen) (words : List (List ℕ)) (file : ℕ) where
   check_allowed : (o : Outcome) → AllowsFile seen words Bundle (Some file) o → (what : What) → AllowsFile seen words what (file_of (Check file) what) (only o what)
   check_allowed o h Bundle = h
   check_allowed o h Hail = refl
+  check_allowed o h Client = refl
   check_allowed o h Schedule = refl
 
   print_allowed : (o : Outcome) → AllowsFile seen words Bundle (Some file) o → (what : What) → AllowsFile seen words what (file_of (Print file) what) (only o what)
   print_allowed o h Bundle = h
   print_allowed o h Hail = refl
+  print_allowed o h Client = refl
   print_allowed o h Schedule = refl
 
   pub check_found : (r : Result Ready Stop) → job_of words ≡ Some (Check file) → IsJudged seen words Bundle (Some file) for_check r → IsFound seen words r
@@ -52,23 +54,19 @@ module _ (seen : Seen) (words : List (List ℕ)) (file : ℕ) where
   print_found (Err (Line text status)) is h = together seen words (Print file) (only h.outcome) _ is (print_allowed h.outcome h.allowed) (rw h.comes refl)
   print_found (Err Memory) is h = tt
 
--- the outcomes of a script and of a schedule
-abbrev two : Outcome → Outcome → Outcomes
-two a b Bundle = got []
-two a b Hail = a
-two a b Schedule = b
-
 -- a run: the outcome of the bundle, and those of the other files
 abbrev with_bundle : Outcome → Outcomes → Outcomes
 with_bundle o more Bundle = o
 with_bundle o more Hail = more Hail
+with_bundle o more Client = more Client
 with_bundle o more Schedule = more Schedule
 
 run_allowed : (seen : Seen) (words : List (List ℕ)) (r : RunJob) (o : Outcome) (more : Outcomes) → AllowsFile seen words Bundle (Some r.file) o → AllowsFile seen words Hail r.hail (more Hail) →
-    AllowsFile seen words Schedule r.schedule (more Schedule) → (what : What) → AllowsFile seen words what (file_of (Run r) what) (with_bundle o more what)
-run_allowed seen words r o more a b c Bundle = a
-run_allowed seen words r o more a b c Hail = b
-run_allowed seen words r o more a b c Schedule = c
+    AllowsFile seen words Client r.client (more Client) → AllowsFile seen words Schedule r.schedule (more Schedule) → (what : What) → AllowsFile seen words what (file_of (Run r) what) (with_bundle o more what)
+run_allowed seen words r o more a b c d Bundle = a
+run_allowed seen words r o more a b c d Hail = b
+run_allowed seen words r o more a b c d Client = c
+run_allowed seen words r o more a b c d Schedule = d
 
 module _ (last : Seen) (words : List (List ℕ)) (r : RunJob) (is : job_of words ≡ Some (Run r)) where
   -- the bundle is refused
@@ -76,10 +74,11 @@ module _ (last : Seen) (words : List (List ℕ)) (r : RunJob) (is : job_of words
   no_code Memory le h = tt
   no_code (Line text status) le h =
       let a = some_named last words Hail r.hail (le 1) in
-      let b = some_named last words Schedule r.schedule (le 3) in
-      together last words (Run r) (with_bundle h.outcome (two a.0 b.0)) _ is (run_allowed last words r h.outcome (two a.0 b.0) h.allowed a.1 b.1) (rw h.comes refl)
+      let b = some_named last words Client r.client (le 2) in
+      let c = some_named last words Schedule r.schedule (le 3) in
+      together last words (Run r) (with_bundle h.outcome (outcomes_with a.0 b.0 c.0)) _ is (run_allowed last words r h.outcome (outcomes_with a.0 b.0 c.0) h.allowed a.1 b.1 c.1) (rw h.comes refl)
 
-  module _ (seen after : Seen) (code : List Item) (same : SameSlot seen last Bundle) (same_hail : SameSlot after last Hail) (same_schedule : SameSlot after last Schedule)
+  module _ (seen after : Seen) (code : List Item) (same : SameSlot seen last Bundle) (same_hail : SameSlot after last Hail) (same_client : SameSlot after last Client) (same_schedule : SameSlot after last Schedule)
       (bundle : OfFile seen words Bundle (Some r.file) accepted (Ok code)) where
     -- it is there, and the run does not begin
     pub not_begun : (stop : Stop) → IsBegun after words r code (Err stop) → IsFound last words (Err stop)
@@ -87,14 +86,16 @@ module _ (last : Seen) (words : List (List ℕ)) (r : RunJob) (is : job_of words
     not_begun (Line text status) h =
         together last words (Run r) (with_bundle bundle.outcome h.outcomes) _ is
         (run_allowed last words r bundle.outcome h.outcomes (same_slot seen last words Bundle (Some r.file) bundle.outcome same bundle.allowed)
-        (same_slot after last words Hail r.hail (h.outcomes Hail) same_hail h.hail) (same_slot after last words Schedule r.schedule (h.outcomes Schedule) same_schedule h.schedule)) (rw (bundle.comes, h.comes) refl)
+        (same_slot after last words Hail r.hail (h.outcomes Hail) same_hail h.hail) (same_slot after last words Client r.client (h.outcomes Client) same_client h.client)
+        (same_slot after last words Schedule r.schedule (h.outcomes Schedule) same_schedule h.schedule)) (rw (bundle.comes, h.comes) refl)
 
     -- it begins
     pub run_found : (start : Started) → OfRun after words r code (Ok start) → IsAnswer last words (ready_answer (Entered code start))
     run_found start h =
         together last words (Run r) (with_bundle bundle.outcome h.outcomes) _ is
         (run_allowed last words r bundle.outcome h.outcomes (same_slot seen last words Bundle (Some r.file) bundle.outcome same bundle.allowed)
-        (same_slot after last words Hail r.hail (h.outcomes Hail) same_hail h.hail) (same_slot after last words Schedule r.schedule (h.outcomes Schedule) same_schedule h.schedule)) (rw (bundle.comes, h.comes) refl)
+        (same_slot after last words Hail r.hail (h.outcomes Hail) same_hail h.hail) (same_slot after last words Client r.client (h.outcomes Client) same_client h.client)
+        (same_slot after last words Schedule r.schedule (h.outcomes Schedule) same_schedule h.schedule)) (rw (bundle.comes, h.comes) refl)
 
 -- the words ask for nothing
 pub no_job : (seen : Seen) (words : List (List ℕ)) (text : List ℕ) → text ≡ codes "usage" → job_of words ≡ None → IsAnswer seen words (line text Usage)

@@ -1,16 +1,15 @@
--- What the program answers to its words, and to what the fetches of its files come to.
+-- To believe: what the program answers to its words, and to what the fetches of its files come to.
 use Rattle.std.specs.Prelude.{ℕ, List, ◌++◌, Option, None, Some, Ok, Err, codes}
 use Rattle.mu_base.specs.declared.status.Status.TheVariants.{Usage, ReadFault, TooLong}
 use Rattle.mu_base.specs.Outcome.{Outcome, got, failed, too_long}
 use Rattle.mu_texts.specs.declared.what.What.{What}
 use Rattle.ir_tree.specs.declared.items.Item.{Item}
-use Rattle.mu_step.specs.Plain.{plain_setting}
-use Rattle.mu_texts.specs.declared.what.What.TheVariants.{Bundle, Hail, Schedule}
+use Rattle.mu_texts.specs.declared.what.What.TheVariants.{Bundle, Hail, Client, Schedule}
 use Rattle.mu_texts.specs.declared.ready.Ready.{Ready}
 use Rattle.mu_texts.specs.declared.ready.Ready.TheVariants.{Entered}
 use Rattle.mu_texts.specs.Start.{Started}
 use Rattle.mu_texts.specs.What.{name_of}
-use Rattle.mu_texts.specs.Answer.{Answer, Part, ◌>>=◌, line, for_check, for_print, accepted, entered, loaded, scheduled, started, ready_part}
+use Rattle.mu_texts.specs.Answer.{Answer, Part, ◌>>=◌, line, for_check, for_print, accepted, entered, loaded, client_part, scheduled, started, ready_part}
 use Rattle.mu_command.specs.declared.job.Job.{Job}
 use Rattle.mu_command.specs.declared.job.Job.TheVariants.{Check, Print, Run}
 use Rattle.mu_command.specs.declared.job.RunJob.{RunJob}
@@ -30,13 +29,14 @@ Outcomes = What → Outcome
 abbrev pub judged : {A : Type 0} → What → (List ℕ → Part A) → Outcome → Part A
 judged what part o = fetched what o >>= part
 
--- how a run of a bundle begins: from the function that a word names, over the objects of a script, by a schedule
+-- how a run of a bundle begins: from the function that a word names, over the objects of a script, with a client, by a schedule
 abbrev pub begun : List (List ℕ) → RunJob → List Item → Outcomes → Part Started
 begun words r code o =
     entered code (word words r.entry) >>= λ n.
     judged Hail (loaded code r.cells) (o Hail) >>= λ objects.
+    judged Client (client_part code r.auto) (o Client) >>= λ client.
     judged Schedule scheduled (o Schedule) >>= λ picks.
-    Ok (started code n (plain_setting objects picks r.rule r.cells r.budget))
+    Ok (started code n (record { objects = objects; client = client; picks = picks; cells = r.cells; budget = r.budget; rule = r.rule }))
 
 -- what is found on the way: what the command asks of its files, one after the other
 abbrev pub found : List (List ℕ) → Job → Outcomes → Part Ready

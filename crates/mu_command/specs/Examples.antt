@@ -1,9 +1,9 @@
 -- Worked examples.
-use Rattle.std.specs.Prelude.{◌≡◌, ℕ, List, [], ◌∷◌, Some, None, codes, refl}
+use Rattle.std.specs.Prelude.{◌≡◌, true, false, ℕ, List, [], ◌∷◌, Some, None, codes, refl}
 use Rattle.mu_base.specs.declared.status.Status.TheVariants.{Usage, ReadFault, TooLong}
 use Rattle.mu_base.specs.Outcome.{got, failed, too_long}
 use Rattle.mem_axioms.specs.declared.types.Rule.TheVariants.{C11, Rmw}
-use Rattle.mu_texts.specs.declared.what.What.TheVariants.{Bundle, Hail, Schedule}
+use Rattle.mu_texts.specs.declared.what.What.TheVariants.{Bundle, Hail, Client, Schedule}
 use Rattle.mu_command.specs.declared.job.Job.TheVariants.{Run}
 use Rattle.mu_command.specs.declared.job.RunJob.{RunJob}
 use Rattle.mu_command.specs.Job.{job_of, file_of}
@@ -15,7 +15,7 @@ words = codes "run" ∷ codes "b" ∷ codes "--entry" ∷ codes "@main" ∷ []
 
 -- a run of the second word, without the other files
 abbrev plain : ℕ → ℕ → ℕ → RunJob
-plain entry budget cells = record { file = 1; entry = entry; hail = None; schedule = None; rule = C11; budget = budget; cells = cells }
+plain entry budget cells = record { file = 1; entry = entry; hail = None; client = None; auto = false; schedule = None; rule = C11; budget = budget; cells = cells }
 
 a_run : job_of words ≡ Some (Run (plain 3 200000 100000))
 unfolding job_of
@@ -72,8 +72,8 @@ a_long_file : answer_of words (Some (Run (plain 3 200000 100000))) (λ _. too_lo
 a_long_file = refl
 
 -- the other files, and the rule of release sequences
-all_files : job_of (codes "run" ∷ codes "b" ∷ codes "--schedule" ∷ codes "s" ∷ codes "--release-sequences" ∷ codes "rmw" ∷ codes "--hail" ∷ codes "h" ∷ codes "--entry" ∷ codes "@main" ∷ [])
-    ≡ Some (Run (record { file = 1; entry = 9; hail = Some 7; schedule = Some 3; rule = Rmw; budget = 200000; cells = 100000 }))
+all_files : job_of (codes "run" ∷ codes "b" ∷ codes "--schedule" ∷ codes "s" ∷ codes "--release-sequences" ∷ codes "rmw" ∷ codes "--hail" ∷ codes "h" ∷ codes "--entry" ∷ codes "@main" ∷ codes "--client" ∷ codes "k" ∷ [])
+    ≡ Some (Run (record { file = 1; entry = 9; hail = Some 7; client = Some 11; auto = false; schedule = Some 3; rule = Rmw; budget = 200000; cells = 100000 }))
 unfolding job_of
 all_files = refl
 
@@ -85,9 +85,35 @@ two_scripts : job_of (codes "run" ∷ codes "b" ∷ codes "--entry" ∷ codes "@
 unfolding job_of
 two_scripts = refl
 
-no_client_yet : job_of (codes "run" ∷ codes "b" ∷ codes "--entry" ∷ codes "@main" ∷ codes "--client" ∷ codes "k" ∷ []) ≡ None
+-- `--auto` has no value
+auto_is_one_word : job_of (codes "run" ∷ codes "b" ∷ codes "--auto" ∷ codes "--entry" ∷ codes "@main" ∷ []) ≡ Some (Run (record (plain 4 200000 100000) { auto = true }))
 unfolding job_of
-no_client_yet = refl
+auto_is_one_word = refl
+
+auto_is_last : job_of (codes "run" ∷ codes "b" ∷ codes "--entry" ∷ codes "@main" ∷ codes "--auto" ∷ []) ≡ Some (Run (record (plain 3 200000 100000) { auto = true }))
+unfolding job_of
+auto_is_last = refl
+
+-- but it may be one
+auto_is_a_value : job_of (codes "run" ∷ codes "b" ∷ codes "--entry" ∷ codes "--auto" ∷ codes "--auto" ∷ []) ≡ Some (Run (record (plain 3 200000 100000) { auto = true }))
+unfolding job_of
+auto_is_a_value = refl
+
+auto_twice : job_of (codes "run" ∷ codes "b" ∷ codes "--auto" ∷ codes "--entry" ∷ codes "@main" ∷ codes "--auto" ∷ []) ≡ None
+unfolding job_of
+auto_twice = refl
+
+-- it stands with no script of a client, whichever comes first
+auto_then_client : job_of (codes "run" ∷ codes "b" ∷ codes "--entry" ∷ codes "@main" ∷ codes "--auto" ∷ codes "--client" ∷ codes "k" ∷ []) ≡ None
+unfolding job_of
+auto_then_client = refl
+
+client_then_auto : job_of (codes "run" ∷ codes "b" ∷ codes "--entry" ∷ codes "@main" ∷ codes "--client" ∷ codes "k" ∷ codes "--auto" ∷ []) ≡ None
+unfolding job_of
+client_then_auto = refl
+
+no_client : file_of (Run (plain 3 200000 100000)) Client ≡ None
+no_client = refl
 
 no_script : file_of (Run (plain 3 200000 100000)) Hail ≡ None
 no_script = refl

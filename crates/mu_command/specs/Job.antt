@@ -1,5 +1,5 @@
--- What the words of a command line ask for, and the files of that.
-use Rattle.std.specs.Prelude.{ℕ, ◌+◌, ◌-◌, ◌*◌, ◌<◌, ◌≤◌, IfSome, Bool, nat_eq, nat_le, List, [], ◌∷◌, length, Option, None, Some, codes, bytes_eq, if◌then◌else◌, ◌&&◌, drop, slice_index_or}
+-- To believe: what the words of a command line ask for, and the files of that.
+use Rattle.std.specs.Prelude.{ℕ, ◌+◌, ◌-◌, ◌*◌, ◌<◌, ◌≤◌, IfSome, Bool, true, false, nat_eq, nat_le, List, [], ◌∷◌, length, Option, None, Some, codes, bytes_eq, if◌then◌else◌, ◌&&◌, ◌||◌, is_some, drop, slice_index_or}
 use Rattle.std.specs.Option.{unwrap_or, option_map, option_and_then}
 use Rattle.mem_axioms.specs.declared.types.Rule.{Rule}
 use Rattle.mem_axioms.specs.declared.types.Rule.TheVariants.{C11, Rmw}
@@ -8,7 +8,7 @@ use Rattle.mu_command.specs.declared.job.RunJob.{RunJob}
 use Rattle.mu_command.specs.declared.job.Job.TheVariants.{Check, Print, Run}
 use Rattle.mu_command.specs.declared.options.Options.{Options}
 use Rattle.mu_texts.specs.declared.what.What.{What}
-use Rattle.mu_texts.specs.declared.what.What.TheVariants.{Bundle, Hail, Schedule}
+use Rattle.mu_texts.specs.declared.what.What.TheVariants.{Bundle, Hail, Client, Schedule}
 
 -- the word with that number
 abbrev pub word : List (List ℕ) → ℕ → List ℕ
@@ -50,7 +50,7 @@ most_cells = 1000000
 -- ---- the options of a run
 
 abbrev pub no_options : Options
-no_options = record { entry = None; hail = None; schedule = None; rule = None; steps = None; cells = None }
+no_options = record { entry = None; hail = None; client = None; auto = false; schedule = None; rule = None; steps = None; cells = None }
 
 -- the value of an option that was given before or not, and is given now
 abbrev pub given_once : {A : Type 0} → Option A → Option A → Option A
@@ -62,6 +62,13 @@ with_entry options value = option_map (λ n. record options { entry = Some n }) 
 
 abbrev pub with_hail : Options → Option ℕ → Option Options
 with_hail options value = option_map (λ n. record options { hail = Some n }) (given_once options.hail value)
+
+-- a client answers by its script or passes zero and NULL: not both are asked for
+abbrev pub with_client : Options → Option ℕ → Option Options
+with_client options value = if options.auto then None else option_map (λ n. record options { client = Some n }) (given_once options.client value)
+
+abbrev pub with_auto : Options → Option Options
+with_auto options = if options.auto || is_some options.client then None else Some (record options { auto = true })
 
 abbrev pub with_schedule : Options → Option ℕ → Option Options
 with_schedule options value = option_map (λ n. record options { schedule = Some n }) (given_once options.schedule value)
@@ -86,14 +93,18 @@ with_option options name n value =
     else (if bytes_eq name (codes "--steps") then with_steps options (number_up_to most_steps value)
     else (if bytes_eq name (codes "--cells") then with_cells options (number_up_to most_cells value)
     else (if bytes_eq name (codes "--hail") then with_hail options (Some n)
+    else (if bytes_eq name (codes "--client") then with_client options (Some n)
     else (if bytes_eq name (codes "--schedule") then with_schedule options (Some n)
-    else (if bytes_eq name (codes "--release-sequences") then with_rule options (rule_named value) else None)))))
+    else (if bytes_eq name (codes "--release-sequences") then with_rule options (rule_named value) else None))))))
 
--- the options with those of all these words, the first of which has number n: names, each with its value behind it
+-- the options with those of all these words, the first of which has number n: names, each with its value behind it, and `--auto`,
+-- which has none
 abbrev pub with_all : Options → ℕ → List (List ℕ) → Option Options
 with_all options n [] = Some options
-with_all options n (name ∷ []) = None
-with_all options n (name ∷ value ∷ words) = option_and_then (λ more. with_all more (n + 2) words) (with_option options name (n + 1) value)
+with_all options n (name ∷ []) = if bytes_eq name (codes "--auto") then with_auto options else None
+with_all options n (name ∷ value ∷ words) =
+    if bytes_eq name (codes "--auto") then option_and_then (λ more. with_all more (n + 1) (value ∷ words)) (with_auto options)
+    else option_and_then (λ more. with_all more (n + 2) words) (with_option options name (n + 1) value)
 
 -- ---- jobs
 
@@ -104,6 +115,8 @@ run_with options =
       file = 1;
       entry = entry;
       hail = options.hail;
+      client = options.client;
+      auto = options.auto;
       schedule = options.schedule;
       rule = unwrap_or options.rule C11;
       budget = unwrap_or options.steps usual_steps;
@@ -111,14 +124,15 @@ run_with options =
     })) options.entry
 
 -- `check FILE`, `print FILE`, and `run FILE` with options in any order, each at most once: `--entry NAME`, which is required,
--- `--hail F`, `--schedule F`, `--release-sequences c11` or `rmw`, `--steps N` and `--cells N`; all other words ask for nothing
+-- `--hail F`, `--client F` or `--auto`, `--schedule F`, `--release-sequences c11` or `rmw`, `--steps N` and `--cells N`; all other words
+-- ask for nothing
 unfoldable pub job_of : List (List ℕ) → Option Job
 job_of words =
     if nat_eq (length words) 2 && is_word words 0 (codes "check") then Some (Check 1)
     else (if nat_eq (length words) 2 && is_word words 0 (codes "print") then Some (Print 1)
     else (if nat_le 2 (length words) && is_word words 0 (codes "run") then option_and_then run_with (with_all no_options 2 (drop 2 words)) else None))
 
--- the words that name the bundle, the script that fills the heap, and the schedule
+-- the words that name the bundle, the script that fills the heap, the one that is the client, and the schedule
 abbrev pub bundle_word : Job → ℕ
 bundle_word (Check file) = file
 bundle_word (Print file) = file
@@ -128,6 +142,10 @@ abbrev pub hail_word : Job → Option ℕ
 hail_word (Run r) = r.hail
 hail_word _ = None
 
+abbrev pub client_word : Job → Option ℕ
+client_word (Run r) = r.client
+client_word _ = None
+
 abbrev pub schedule_word : Job → Option ℕ
 schedule_word (Run r) = r.schedule
 schedule_word _ = None
@@ -136,6 +154,7 @@ schedule_word _ = None
 abbrev pub file_of : Job → What → Option ℕ
 file_of job Bundle = Some (bundle_word job)
 file_of job Hail = hail_word job
+file_of job Client = client_word job
 file_of job Schedule = schedule_word job
 
 -- the words of a run are there, of so many, and no more steps are asked than may be
@@ -143,6 +162,7 @@ pub record IsThere (count : ℕ) (r : RunJob) : Type 0 where
   pub file : r.file < count
   pub entry : r.entry < count
   pub hail : IfSome r.hail (λ n. n < count)
+  pub client : IfSome r.client (λ n. n < count)
   pub schedule : IfSome r.schedule (λ n. n < count)
   pub budget : r.budget ≤ most_steps
 
@@ -156,5 +176,6 @@ AreThere words (Run r) = IsThere (length words) r
 pub record OptionsAreThere (count : ℕ) (options : Options) : Type 0 where
   pub entry : IfSome options.entry (λ n. n < count)
   pub hail : IfSome options.hail (λ n. n < count)
+  pub client : IfSome options.client (λ n. n < count)
   pub schedule : IfSome options.schedule (λ n. n < count)
   pub steps : IfSome options.steps (λ n. n ≤ most_steps)

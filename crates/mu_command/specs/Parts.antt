@@ -1,4 +1,4 @@
--- What the functions that find an answer tell their callers.
+-- Inner: what the functions that find an answer tell their callers.
 use Rattle.std.specs.Prelude.{◌≡◌, ℕ, List, Vec, Option, Result, Ok, Err, ⊤}
 use Rattle.std.specs.declared.alloc.Global.{Global}
 use Rattle.mu_base.specs.Outcome.{Outcome, got}
@@ -6,7 +6,7 @@ use Rattle.ir_tree.specs.declared.items.Item.{Item}
 use Rattle.typed_heap.specs.Objects.{HeapObject}
 use Rattle.typed_heap.specs.Heap.{HeapContents}
 use Rattle.mu_texts.specs.declared.what.What.{What}
-use Rattle.mu_texts.specs.declared.what.What.TheVariants.{Hail, Schedule}
+use Rattle.mu_texts.specs.declared.what.What.TheVariants.{Hail, Client, Schedule}
 use Rattle.mu_texts.specs.What.{slot_of}
 use Rattle.mu_texts.specs.declared.stop.Stop.{Stop}
 use Rattle.mu_texts.specs.declared.stop.Stop.TheVariants.{Line, Memory}
@@ -47,10 +47,11 @@ abbrev pub objects_in : Result HeapContents Stop → Result (List HeapObject) St
 objects_in (Ok heap) = Ok heap.objects
 objects_in (Err stop) = Err stop
 
--- outcomes that the inputs allow for the script and the schedule, with which a run begins so
+-- outcomes that the inputs allow for the scripts and the schedule, with which a run begins so
 pub record OfRun (seen : Seen) (words : List (List ℕ)) (r : RunJob) (code : List Item) (is : Part Started) : Type 0 where
   pub outcomes : Outcomes
   pub hail : AllowsFile seen words Hail r.hail (outcomes Hail)
+  pub client : AllowsFile seen words Client r.client (outcomes Client)
   pub schedule : AllowsFile seen words Schedule r.schedule (outcomes Schedule)
   pub comes : begun words r code outcomes ≡ is
 

@@ -1,4 +1,4 @@
--- What the functions that write a run tell their callers.
+-- Inner: what the functions that write a run tell their callers.
 use Rattle.std.specs.Prelude.{◌≡◌, ℕ, suc, List, [], ◌∷◌, ◌++◌, Option, reverse, codes}
 use Rattle.mu_base.specs.declared.status.Status.{Status}
 use Rattle.ir_tree.specs.declared.items.Item.{Item}

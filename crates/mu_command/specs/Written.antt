@@ -1,4 +1,4 @@
--- What a sink tells after a call, beside an answer.
+-- To believe: what a sink tells after a call, beside an answer.
 use Rattle.std.specs.Prelude.{◌≡◌, ◌≢◌, ℕ, ◌+◌, List, [], ◌∷◌, ◌++◌, length, Option, None, Some, ⊤}
 use Rattle.std.specs.Io.KnownBytes.{Appends}
 use Rattle.mu_base.specs.declared.status.Status.{Status}

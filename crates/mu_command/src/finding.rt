@@ -2,7 +2,8 @@
 ghost use Rattle.std.specs.Prelude.{◌≡◌, ◌≢◌, ◌<◌, ◌≤◌, ℕ, None, Some, IfOk, IfSome, length};
 ghost use Rattle.demands.specs.Demands.{first_unmet};
 ghost use Rattle.mu_texts.specs.What.{slot_of};
-ghost use Rattle.mu_texts.specs.Answer.{for_check, for_print, accepted, loaded, scheduled};
+ghost use Rattle.loaded_programs.specs.Laws.{IsScripted};
+ghost use Rattle.mu_texts.specs.Answer.{for_check, for_print, accepted, loaded, client_part, scheduled};
 ghost use Rattle.mu_texts.specs.Comes.{IsFilled, IsRunnable, LoadedRunsEnd, CanRun};
 ghost use Rattle.mu_command.specs.Job.{job_of, AreThere, IsThere};
 ghost use Rattle.mu_command.specs.Parts.{IsJudged, IsBegun, IsFound, objects_in};
@@ -11,10 +12,11 @@ use crate::job::{Job, RunJob};
 use crate::loading::load;
 use crate::words::read_words;
 use bundle_check::Checked;
+use client_script::RunClient;
 use mu_base::{Inputs, Status, Words};
 use mu_texts::{
-    Ready, Start, Stop, What, enter, judge_for_check, judge_for_print, judge_for_run,
-    judge_schedule, judge_script,
+    Ready, Start, Stop, What, enter, judge_client, judge_for_check, judge_for_print, judge_for_run,
+    judge_heap_script, judge_schedule,
 };
 use mu_threads::Schedule;
 use std::alloc::Global;
@@ -77,7 +79,7 @@ fn find_code<I: Inputs>(
     judge_for_run(alloc, &bytes)
 }
 
-// Fetches the script, and fills the heap by it.
+// Fetches the script for the heap, and fills it.
 #[tactic(auto, using(crate::proofs::Files::files))]
 fn find_heap<I: Inputs>(
     alloc: Global,
@@ -94,7 +96,27 @@ fn find_heap<I: Inputs>(
     ensures filled { IfOk result (IsFilled code.now run.cells) }
 {
     let bytes = load(alloc, words, What::Hail, run.hail, inputs)?;
-    judge_script(alloc, &bytes, code, run.cells)
+    judge_heap_script(alloc, &bytes, code, run.cells)
+}
+
+// Fetches the script of the client and reads it.
+#[tactic(auto, using(crate::proofs::Files::files))]
+fn find_client<I: Inputs>(
+    alloc: Global,
+    words: &Words,
+    run: RunJob,
+    code: &Checked,
+    inputs: &mut I,
+) -> Result<RunClient, Stop>
+    requires { IfSome run.client (λ n. n < length words.now) }
+    ensures same { I.holds inputs.new ≡ I.holds inputs.old }
+    ensures other_slots { (s : ℕ) → s ≢ slot_of What.Client → I.faults inputs.new s ≡ I.faults inputs.old s }
+    ensures never_falls { (s : ℕ) → I.faults inputs.old s ≤ I.faults inputs.new s }
+    ensures judged { IsJudged (record { told = I.holds inputs.old; before = I.faults inputs.old; now = I.faults inputs.new }) words.now What.Client run.client (client_part code.now run.auto) result }
+    ensures scripted { IfOk result (IsScripted code.now) }
+{
+    let bytes = load(alloc, words, What::Client, run.client, inputs)?;
+    judge_client(alloc, &bytes, code, run.auto)
 }
 
 // Fetches the schedule and reads it.
@@ -134,10 +156,12 @@ fn find_start<I: Inputs>(
 {
     let entry = enter(alloc, code, words.word(run.entry))?;
     let heap = find_heap(alloc, words, run, code, inputs)?;
+    let client = find_client(alloc, words, run, code, inputs)?;
     let picks = find_picks(alloc, words, run, inputs)?;
     Ok(Start {
         entry,
         heap,
+        client,
         picks,
         rule: run.rule,
         cells: run.cells,

@@ -12,14 +12,17 @@ pub enum Job {
     Run(RunJob),
 }
 
-/// A run of the bundle in a file, from the function with that name, over the heap that the script in a file fills, by the schedule in a
-/// file and the rule of release sequences. A file that is not named is empty. The run may make so many steps, and so many cells beside
-/// those of the globals.
+/// A run of the bundle in a file, from the function with that name, over the heap that the script in a file fills, with the client
+/// whose script is in a file, by the schedule in a file and the rule of release sequences. A file that is not named is empty. After the
+/// last entry of its script the client passes zero and NULL where `auto` is given, and else it stops the run. The run may make so many
+/// steps, and so many cells beside those of the globals.
 #[derive(Clone, Copy, Debug, PartialEq, Eq)]
 pub struct RunJob {
     pub file: usize,
     pub entry: usize,
     pub hail: Option<usize>,
+    pub client: Option<usize>,
+    pub auto: bool,
     pub schedule: Option<usize>,
     pub rule: Rule,
     pub budget: u32,

@@ -8,6 +8,8 @@ use mem_axioms::Rule;
 pub struct Options {
     pub entry: Option<usize>,
     pub hail: Option<usize>,
+    pub client: Option<usize>,
+    pub auto: bool,
     pub schedule: Option<usize>,
     pub rule: Option<Rule>,
     pub steps: Option<u32>,
@@ -15,7 +17,7 @@ pub struct Options {
 }
 
 impl Options {
-    ghost use Rattle.mu_command.specs.Job.{no_options, with_entry, with_hail, with_schedule, with_rule, with_steps, with_cells};
+    ghost use Rattle.mu_command.specs.Job.{no_options, with_entry, with_hail, with_client, with_auto, with_schedule, with_rule, with_steps, with_cells};
 
     /// None of them is given.
     pub fn none() -> Options
@@ -24,6 +26,8 @@ impl Options {
         Options {
             entry: None,
             hail: None,
+            client: None,
+            auto: false,
             schedule: None,
             rule: None,
             steps: None,
@@ -44,7 +48,7 @@ impl Options {
         }
     }
 
-    /// These, with a script; None where there is one already.
+    /// These, with a script for the heap; None where there is one already.
     pub fn with_hail(self, value: Option<usize>) -> Option<Options>
         ensures { result ≡ with_hail self value }
     {
@@ -54,6 +58,33 @@ impl Options {
                 ..self
             }),
             _ => None,
+        }
+    }
+
+    /// These, with a script of the client; None where there is one already, or `--auto`.
+    pub fn with_client(self, value: Option<usize>) -> Option<Options>
+        ensures { result ≡ with_client self value }
+    {
+        if self.auto {
+            return None;
+        }
+        match (self.client, value) {
+            (None, Some(value)) => Some(Options {
+                client: Some(value),
+                ..self
+            }),
+            _ => None,
+        }
+    }
+
+    /// These, with `--auto`; None where it is there already, or a script of the client.
+    pub fn with_auto(self) -> Option<Options>
+        ensures { result ≡ with_auto self }
+    {
+        if self.auto || self.client.is_some() {
+            None
+        } else {
+            Some(Options { auto: true, ..self })
         }
     }
 

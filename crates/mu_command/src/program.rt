@@ -44,12 +44,16 @@ fn answer<I: Inputs, S: Sink>(alloc: Global, words: &Words, inputs: &mut I, out:
 /// The options of a run come in any order, each at most once:
 ///
 /// - `--hail F`: the script in this file makes objects and fills them before the run;
+/// - `--client F`: the entries in this file answer the traps of the run; after the last one the run stops;
+/// - `--auto`: each trap passes zero and NULL for what it asks; it stands with no `--client`. Where neither is given, the run stops at its
+///   first trap;
 /// - `--schedule F`: the numbers in this file decide the picks of the run, one after the other; where none are left each pick is 0;
 /// - `--release-sequences c11` or `--release-sequences rmw`: the rule of release sequences; `c11` where it is not given;
-/// - `--steps N` and `--cells N`: how many steps the run may make, and how many cells beside those of the globals, the script's among
-///   them. Each N is at most 1,000,000; where they are not given there are 200,000 steps and 100,000 cells.
+/// - `--steps N` and `--cells N`: how many steps the run may make, and how many cells beside those of the globals, those of the heap's
+///   script among them. Each N is at most 1,000,000; where they are not given there are 200,000 steps and 100,000 cells.
 ///
-/// The files are fetched and judged in the order bundle, entry, script, schedule, each before the next is fetched.
+/// The files are fetched and judged in the order bundle, entry, script for the heap, script of the client, schedule, each before the next
+/// is fetched.
 ///
 /// Else one line is written that names the first fault of what was given. After every status a prefix of the text was written;
 /// after each but `SinkFault` and `Memory` it is the whole text.

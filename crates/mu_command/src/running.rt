@@ -4,7 +4,6 @@ ghost use Rattle.mu_base.specs.Faults.{Rose};
 ghost use Rattle.mu_base.specs.Sink.{PutsWhole, PutsPart};
 ghost use Rattle.mu_model.specs.Outcomes.{Stuck};
 ghost use Rattle.mu_model.specs.Programs.{named};
-ghost use Rattle.mu_model.specs.Step.{step};
 ghost use Rattle.mu_model.specs.Run.{first_configuration, run};
 ghost use Rattle.run_texts.specs.Texts.{ending_status};
 ghost use Rattle.mu_texts.specs.Answer.{Answer, run_of, run_answer, ready_answer};
@@ -12,10 +11,12 @@ ghost use Rattle.model_laws.specs.Bounds.{HasEnding};
 ghost use Rattle.mu_texts.specs.Comes.{IsRunnable, CanRun};
 ghost use Rattle.mu_texts.specs.declared.ready.Ready.TheVariants as ready;
 ghost use Rattle.mu_command.specs.Written.{Wrote, Writes, IsWhole};
-ghost use Rattle.mu_command.specs.Steps.{step_pieces, last_piece, behind_pieces, Goes, IsOver};
+ghost use Rattle.mu_command.specs.Steps.{step_pieces, last_piece, behind_pieces, answered_step, Goes, IsOver};
 
 use crate::writing::{put_line, put_whole_text};
 use bundle_check::Checked;
+use client_hooks::Determined;
+use client_script::RunClient;
 use ir_print::print_bundle;
 use ir_tree::Bundle;
 use mem_axioms::Memory;
@@ -109,14 +110,14 @@ fn put_last<S: Sink>(
 
 // Makes a step and puts its lines. None where the run goes on, else the status of the program.
 #[tactic(auto, using(crate::proofs::InSteps::running))]
-fn make_step<S: Sink, M: Memory + Drop>(
+fn make_step<S: Sink, M: Memory + Drop, C: Determined + Drop>(
     out: &mut S,
     code: &Checked,
-    machine: &mut Machine<M>,
+    machine: &mut Machine<M, C>,
     text: &mut Vec<u8>,
 ) -> Option<Status>
     requires same { machine.old.bundle ≡ code.now }
-    requires there { step (named code.now) machine.old.configuration ≢ Stuck }
+    requires there { answered_step (named code.now) machine.old.configuration ≢ Stuck }
     ensures same { machine.new.bundle ≡ code.now }
     ensures goes { IfNone result (Goes code.now machine.old.configuration machine.new.configuration (S.written out.old) (S.written out.new) (S.ends out.old) (S.ends out.new)) }
     ensures over { IfSome result (λ status. IsOver code.now machine.old.configuration (S.written out.old) (S.written out.new) (S.ends out.old) (S.ends out.new) status) }
@@ -137,11 +138,11 @@ fn make_step<S: Sink, M: Memory + Drop>(
 }
 
 // Makes the steps of a run up to its ending, which comes within so many, and puts the lines of each.
-fn write_steps<S: Sink, M: Memory + Drop>(
+fn write_steps<S: Sink, M: Memory + Drop, C: Determined + Drop>(
     alloc: Global,
     out: &mut S,
     code: &Checked,
-    machine: &mut Machine<M>,
+    machine: &mut Machine<M, C>,
     steps: u64,
 ) -> Status
     requires same { machine.old.bundle ≡ code.now }
@@ -163,8 +164,12 @@ fn write_steps<S: Sink, M: Memory + Drop>(
     Status::Memory
 }
 
-// A machine at the beginning of a run, over the memory of clocks.
-fn begin(alloc: Global, code: &Checked, start: Start) -> Result<Machine<ViewMemory>, AllocError>
+// A machine at the beginning of a run, over the memory of clocks, with the run's client.
+fn begin(
+    alloc: Global,
+    code: &Checked,
+    start: Start,
+) -> Result<Machine<ViewMemory, RunClient>, AllocError>
     requires { IsRunnable code.now start }
     ensures bundle { IfOk result (λ m. m.bundle ≡ code.now) }
     ensures first { IfOk result (λ m. first_configuration (named code.now) start.setting start.entry ≡ Some m.configuration) }
@@ -176,6 +181,7 @@ fn begin(alloc: Global, code: &Checked, start: Start) -> Result<Machine<ViewMemo
         start.entry,
         start.heap,
         memory,
+        start.client,
         start.picks,
         start.budget,
     )?;

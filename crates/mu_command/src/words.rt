@@ -87,6 +87,8 @@ fn with_option(words: &Words, options: Options, name: &str, n: usize) -> Option<
         options.with_cells(number_up_to(MOST_CELLS, value.as_bytes()))
     } else if name == "--hail" {
         options.with_hail(Some(n))
+    } else if name == "--client" {
+        options.with_client(Some(n))
     } else if name == "--schedule" {
         options.with_schedule(Some(n))
     } else if name == "--release-sequences" {
@@ -107,10 +109,19 @@ fn all_options(words: &Words) -> Option<Options>
     let mut options = Options::none();
     let mut n = 2;
     'each: while n < count {
+        let name = words.word(n);
+        if name == "--auto" {
+            match options.with_auto() {
+                Some(more) => options = more,
+                None => return None,
+            }
+            n += 1;
+            continue;
+        }
         if n + 1 == count {
             return None;
         }
-        match with_option(words, options, words.word(n), n + 1) {
+        match with_option(words, options, name, n + 1) {
             Some(more) => options = more,
             None => return None,
         }
@@ -128,6 +139,8 @@ fn run_with(options: Options) -> Option<Job>
         file: 1,
         entry,
         hail: options.hail,
+        client: options.client,
+        auto: options.auto,
         schedule: options.schedule,
         rule: options.rule.unwrap_or(Rule::C11),
         budget: options.steps.unwrap_or(USUAL_STEPS),
@@ -136,8 +149,9 @@ fn run_with(options: Options) -> Option<Job>
 }
 
 /// What the words ask for: `check FILE`, `print FILE`, or `run FILE` with options in any order, each at most once: `--entry NAME`,
-/// which is required, `--hail F`, `--schedule F`, `--release-sequences c11` or `rmw`, `--steps N` and `--cells N`. The value of an option
-/// is the next word, whatever it is. None exactly where they are no such words. It takes no memory.
+/// which is required, `--hail F`, `--client F` or `--auto`, `--schedule F`, `--release-sequences c11` or `rmw`, `--steps N` and
+/// `--cells N`. `--auto` has no value; the value of another option is the next word, whatever it is. None exactly where they are no such
+/// words. It takes no memory.
 #[tactic(auto, unfolding(crate::specs::Job::job_of))]
 pub fn read_words(words: &Words) -> Option<Job>
     ensures job { result ≡ job_of words.now }

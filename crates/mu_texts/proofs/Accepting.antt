@@ -1,6 +1,6 @@
 -- With which statuses a part of the way ends.
 use Rattle.std.proofs.Common.{ℕ, List, Option, Some, None}
-use Rattle.std.specs.Prelude.{Result, Ok, Err}
+use Rattle.std.specs.Prelude.{Bool, Result, Ok, Err}
 use Rattle.mu_base.specs.declared.status.Status.{Status}
 use Rattle.mu_base.specs.declared.status.Status.TheVariants.{Refused, Memory}
 use Rattle.demands.specs.declared.fault.Fault.{Fault}
@@ -17,11 +17,14 @@ use Rattle.bundle_check.specs.Answers.{entry}
 use Rattle.hail_load.specs.declared.tree.Command.{Command}
 use Rattle.hail_load.specs.Code.{code_of}
 use Rattle.hail_load.specs.Texts.{hail_demands, hail_commands}
+use Rattle.client_script.specs.Texts.{script_demands, script_entries}
+use Rattle.loaded_programs.specs.Laws.{carried_out, loaded_objects}
+use Rattle.mu_model.specs.Clients as clients
 use Rattle.mu_threads.specs.ScheduleTexts.{schedule_demands, schedule_numbers}
 use Rattle.mu_texts.specs.declared.what.What.{What}
-use Rattle.mu_texts.specs.declared.what.What.TheVariants.{Bundle, Hail, Schedule}
-use Rattle.mu_texts.specs.Refusals.{name_fault_name, check_fault_name, hail_fault_name, load_fault_name, schedule_fault_name}
-use Rattle.mu_texts.specs.Answer.{Part, ◌>>=◌, read_part, met_part, named, checked, as_written, accepted, entry_part, entered, filled, hail_part, filled_part, loaded, scheduled}
+use Rattle.mu_texts.specs.declared.what.What.TheVariants.{Bundle, Hail, Client, Schedule}
+use Rattle.mu_texts.specs.Refusals.{name_fault_name, check_fault_name, hail_fault_name, load_fault_name, script_fault_name, schedule_fault_name}
+use Rattle.mu_texts.specs.Answer.{Part, ◌>>=◌, read_part, met_part, named, checked, as_written, accepted, entry_part, entered, hail_part, filled_part, loaded, client_part, scheduled}
 
 -- an answer that ends the way has a status that is so
 abbrev pub StopsSo : (Status → Type 0) → {A : Type 0} → Part A → Type 0
@@ -62,11 +65,15 @@ module _ (P : Status → Type 0) (refused : P Refused) (memory : P Memory) where
   pub entering_named : (bundle : List Item) (name : List ℕ) → StopsSo P (entered bundle name)
   entering_named bundle name = entering (entry bundle name)
 
-  -- a script that is loaded, and a schedule
+  -- a script that fills the heap, one that is a client, and a schedule
   pub loading : (code : List Item) (cells : ℕ) (bytes : List ℕ) → StopsSo P (loaded code cells bytes)
   loading code cells bytes =
       then P (hail_part code bytes) (filled_part code cells) (meeting Hail hail_fault_name (hail_commands bytes) (first_unmet (hail_demands (code_of code).names bytes)))
-      (λ commands. meeting Hail load_fault_name (filled code cells commands).store.objects (filled code cells commands).fault)
+      (λ commands. meeting Hail load_fault_name (loaded_objects code cells commands) (carried_out code cells commands).fault)
+
+  pub scripting : (code : List Item) (auto : Bool) (bytes : List ℕ) → StopsSo P (client_part code auto bytes)
+  scripting code auto bytes =
+      meeting {A = clients.Client} Client script_fault_name (record { entries = script_entries code bytes; auto = auto }) (first_unmet (script_demands code bytes))
 
   pub scheduling : (bytes : List ℕ) → StopsSo P (scheduled bytes)
   scheduling bytes = meeting Schedule schedule_fault_name (schedule_numbers bytes) (first_unmet (schedule_demands bytes))

@@ -1,5 +1,5 @@
 pub mod Accepting
 pub mod Refusing
-pub mod Scripts
+pub mod Heaps
 pub mod Runnable
 pub mod Moments

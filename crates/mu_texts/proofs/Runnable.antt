@@ -1,6 +1,6 @@
 -- A function that may be entered, of a bundle that is accepted, can be run.
 use Rattle.std.proofs.Common.{◌≡◌, ℕ, ◌≤◌, List, [], Option, Some, None, IsSome, IsSomeAnd, refl, sym, ◌∙◌, ap, subst}
-use Rattle.std.specs.Prelude.{Result, Ok, Err}
+use Rattle.std.specs.Prelude.{false, Result, Ok, Err}
 use Rattle.demands.specs.declared.fault.Fault.{Fault}
 use Rattle.demands.specs.declared.fault.Fault.TheVariants as faults
 use Rattle.demands.specs.Demands.{first_unmet}
@@ -18,14 +18,18 @@ use Rattle.mu_model.specs.Programs.{named as program}
 use Rattle.mu_model.specs.Run.{Setting, begins_in, first_configuration}
 use Rattle.typed_programs.specs.Laws.{SettingFits}
 use Rattle.text_programs.specs.Laws.{OfAcceptedTexts, EnteredRunsEnd, EnteredRunsHaveAnEnding}
-use Rattle.loaded_programs.specs.Laws.{LoadedSettingsFit}
+use Rattle.text_forms.specs.Reading.{elements}
+use Rattle.ir_lex.specs.Scanner.{gap_len, next_of}
+use Rattle.ir_lex.specs.Walk.{tokens_within, tokens_from}
+use Rattle.client_script.specs.Grammar.{script}
+use Rattle.client_script.specs.Texts.{script_demands, script_entries}
+use Rattle.loaded_programs.specs.Laws.{loaded_objects, LoadedSettingFits, LoadedSettingsFit}
 use Rattle.mem_axioms.specs.declared.types.Rule.TheVariants.{C11}
-use Rattle.mu_step.specs.Plain.{plain_setting}
 use Rattle.mu_texts.specs.declared.what.What.{What}
 use Rattle.mu_texts.specs.declared.what.What.TheVariants.{Bundle}
 use Rattle.mu_texts.specs.Refusals.{name_fault_name, check_fault_name}
-use Rattle.mu_texts.specs.Answer.{Part, ◌>>=◌, read_part, met_part, named, checked, as_written, accepted, entry_part, filled, run_of}
-use Rattle.mu_texts.specs.Comes.{IsLoaded, SettingsFit, LoadedRunsEnd, CanBegin}
+use Rattle.mu_texts.specs.Answer.{Part, ◌>>=◌, read_part, met_part, named, checked, as_written, accepted, entry_part, run_of}
+use Rattle.mu_texts.specs.Comes.{IsLoaded, LoadedRunsEnd, CanBegin}
 
 -- ---- a text that is accepted was read, and met its demands
 
@@ -58,14 +62,14 @@ of_accepted holds bytes code one law h =
     let same : names.0 ≡ code = good.1 ∙ fine.1 in
     subst holds same (law bytes names.0 answered good.0 (subst (λ b. first_unmet (check_demands b) ≡ None) (sym good.1) fine.0))
 
--- a setting over objects that commands made fits
-fitting : (code : List Item) (s : Setting) → SettingsFit code → IsLoaded code s → SettingFits code s
-fitting code s law h = law s h.objects.commands h.objects.cells h.objects.is h.entries
+-- a setting with objects that commands made and the client of a script fits
+pub fitting : (code : List Item) (s : Setting) → LoadedSettingFits code → IsLoaded code s → SettingFits code s
+fitting code s law h = law s h.objects.commands h.objects.cells h.objects.is h.client
 
 pub loaded_runs_end : (bytes : List ℕ) (code : List Item) → AnswerIsOne → EnteredRunsHaveAnEnding → LoadedSettingsFit → accepted bytes ≡ Ok code → LoadedRunsEnd code
 unfolding run_of
 loaded_runs_end bytes code one ends fits h = λ s name n loaded there.
-    of_accepted EnteredRunsEnd bytes code one ends h s name n (fitting code s (of_accepted SettingsFit bytes code one fits h) loaded) there
+    of_accepted EnteredRunsEnd bytes code one ends h s name n (fitting code s (of_accepted LoadedSettingFits bytes code one fits h) loaded) there
 
 -- ---- a function that is entered, of a bundle that is accepted
 
@@ -83,11 +87,15 @@ has_body None go h = cc
 has_body (Some None) go h = cc
 has_body (Some (Some block)) go h = refl
 
--- a setting over the objects of the globals alone
+-- a setting over the objects of the globals alone, with the client of the empty text
 abbrev plain : List Item → Setting
-plain code = plain_setting (filled code 0 []).store.objects [] C11 0 0
+plain code = record { objects = loaded_objects code 0 []; client = record { entries = script_entries code []; auto = false }; picks = []; cells = 0; budget = 0; rule = C11 }
+
+plain_accepted : (code : List Item) → first_unmet (script_demands code []) ≡ None
+unfolding tokens_from tokens_within next_of gap_len elements script
+plain_accepted code = refl
 
 pub can_begin : (code : List Item) (name : List ℕ) (n : ℕ) → LoadedRunsEnd code → entry code name ≡ Ok n → CanBegin code n
 can_begin code name n ends entered =
-    let r = ends (plain code) name n (record { objects = record { commands = []; cells = 0; is = refl }; entries = refl }) entered in
+    let r = ends (plain code) name n (record { objects = record { commands = []; cells = 0; is = refl }; client = record { text = []; accepted = plain_accepted code; entries = refl } }) entered in
     record { begins = has_body ((program code).body n) (begins_in (program code) (plain code) n) r.0; ends = λ s loaded. (ends s name n loaded entered).1 }

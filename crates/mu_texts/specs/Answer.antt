@@ -1,4 +1,4 @@
--- What the texts of files come to, and what is written then.
+-- To believe: what the texts of files come to, and what is written then.
 use Rattle.std.specs.Prelude.{ℕ, ◌-◌, Bool, true, false, List, [], ◌∷◌, ◌++◌, Option, None, Some, Result, Ok, Err, codes, decimal}
 use Rattle.mu_base.specs.declared.status.Status.{Status}
 use Rattle.mu_base.specs.declared.status.Status.TheVariants as statuses
@@ -20,18 +20,20 @@ use Rattle.typed_heap.specs.Objects.{HeapObject}
 use Rattle.hail_load.specs.declared.tree.Command.{Command}
 use Rattle.hail_load.specs.Code.{code_of}
 use Rattle.hail_load.specs.Texts.{hail_demands, hail_commands}
-use Rattle.hail_load.specs.Loading.{Loaded, load}
+use Rattle.loaded_programs.specs.Laws.{carried_out, loaded_objects}
+use Rattle.client_script.specs.Texts.{script_demands, script_entries}
 use Rattle.mu_threads.specs.ScheduleTexts.{schedule_demands, schedule_numbers}
-use Rattle.mu_model.specs.Run.{Setting, global_objects, cells_taken, Run, Ends, Breaks, Unfinished, program_run}
+use Rattle.mu_model.specs.Clients as clients
+use Rattle.mu_model.specs.Run.{Setting, cells_taken, Run, Ends, Breaks, Unfinished, program_run}
 use Rattle.run_texts.specs.Texts.{ending_status}
 use Rattle.run_texts.specs.Pieces.{pieces_of}
 use Rattle.mu_texts.specs.declared.what.What.{What}
-use Rattle.mu_texts.specs.declared.what.What.TheVariants.{Bundle, Hail, Schedule}
+use Rattle.mu_texts.specs.declared.what.What.TheVariants.{Bundle, Hail, Client, Schedule}
 use Rattle.mu_texts.specs.declared.ready.Ready.{Ready}
 use Rattle.mu_texts.specs.declared.ready.Ready.TheVariants as ready
 use Rattle.mu_texts.specs.Start.{Started}
 use Rattle.mu_texts.specs.What.{name_of}
-use Rattle.mu_texts.specs.Refusals.{text_fault_name, name_fault_name, check_fault_name, entry_fault_name, hail_fault_name, load_fault_name, schedule_fault_name}
+use Rattle.mu_texts.specs.Refusals.{text_fault_name, name_fault_name, check_fault_name, entry_fault_name, hail_fault_name, load_fault_name, script_fault_name, schedule_fault_name}
 
 -- What is to be written, in the pieces that are put one by one, and the status that goes with it.
 pub record Answer : Type 0 where
@@ -103,26 +105,27 @@ for_print bytes = as_written bytes >>= λ bundle. Ok (ready.Canonical bundle)
 
 -- ---- what a run is given
 
--- what commands make of a heap with the objects of the globals, in which so many cells may be made besides
-abbrev pub filled : List Item → ℕ → List Command → Loaded
-filled code cells commands = load (code_of code) (record { objects = global_objects (bundle_tables code); left = cells; made = [] }) commands
-
 -- the commands that a text spells
 abbrev pub hail_part : List Item → List ℕ → Part (List Command)
 hail_part code bytes = met_part Hail hail_fault_name (hail_commands bytes) (first_unmet (hail_demands (code_of code).names bytes))
 
+-- the objects behind those commands, where so many cells may be made besides those of the globals
 abbrev pub filled_part : List Item → ℕ → List Command → Part (List HeapObject)
-filled_part code cells commands = met_part Hail load_fault_name (filled code cells commands).store.objects (filled code cells commands).fault
+filled_part code cells commands = met_part Hail load_fault_name (loaded_objects code cells commands) (carried_out code cells commands).fault
 
--- the objects that are there when the run begins: those of the globals, and those that a script makes
+-- the objects that are there when the run begins: those of the globals, and those that the commands of a text make
 abbrev pub loaded : List Item → ℕ → List ℕ → Part (List HeapObject)
 loaded code cells bytes = hail_part code bytes >>= filled_part code cells
+
+-- the client with the entries that a text spells; after the last one it passes zero and NULL, or stops the run
+abbrev pub client_part : List Item → Bool → List ℕ → Part clients.Client
+client_part code auto bytes = met_part Client script_fault_name (record { entries = script_entries code bytes; auto = auto }) (first_unmet (script_demands code bytes))
 
 -- the numbers of a schedule
 abbrev pub scheduled : List ℕ → Part (List ℕ)
 scheduled bytes = met_part Schedule schedule_fault_name (schedule_numbers bytes) (first_unmet (schedule_demands bytes))
 
--- a run with that setting, from the function with that number; some of its cells are taken by what a script made
+-- a run with that setting, from the function with that number; some of its cells are taken by objects that are there besides the globals
 abbrev pub started : List Item → ℕ → Setting → Started
 started code n s = record { entry = n; setting = s; left = s.cells - cells_taken (bundle_tables code) s.objects }
 

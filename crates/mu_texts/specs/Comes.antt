@@ -1,5 +1,5 @@
--- What the functions that read and judge a text tell their callers.
-use Rattle.std.specs.Prelude.{◌≡◌, ℕ, ◌-◌, ◌≤◌, List, [], IsSome, IsSomeAnd, Result, Ok, Err, ⊤}
+-- Inner: what the functions that read and judge a text tell their callers.
+use Rattle.std.specs.Prelude.{◌≡◌, ℕ, ◌-◌, ◌≤◌, List, IsSome, IsSomeAnd, Result, Ok, Err, ⊤}
 use Rattle.mu_texts.specs.declared.what.What.{What}
 use Rattle.mu_texts.specs.declared.stop.Stop.{Stop}
 use Rattle.mu_texts.specs.declared.stop.Stop.TheVariants.{Line, Memory}
@@ -13,22 +13,16 @@ use Rattle.bundle_check.specs.Answers.{entry}
 use Rattle.mu_model.specs.Programs.{named as program}
 use Rattle.mu_model.specs.Run.{Setting, cells_taken, first_configuration}
 use Rattle.model_laws.specs.Bounds.{HasEnding}
-use Rattle.typed_programs.specs.Laws.{SettingFits}
+use Rattle.loaded_programs.specs.Laws.{loaded_objects, IsScripted}
 use Rattle.ir_tree.specs.declared.items.Item.{Item}
 use Rattle.mu_texts.specs.Start.{Started}
-use Rattle.mu_texts.specs.Answer.{Part, line, refused, filled, run_of}
+use Rattle.mu_texts.specs.Answer.{Part, line, refused, run_of}
 
 -- a result is what the part comes to; an early end is its answer, and want of memory says nothing
 abbrev pub Comes : {A : Type 0} → Part A → Result A Stop → Type 0
 Comes part (Ok x) = part ≡ Ok x
 Comes part (Err (Line text status)) = part ≡ Err (line text.items status)
 Comes part (Err Memory) = ⊤
-
--- the same of a function that makes nothing: the part comes to what is there already
-abbrev pub Passes : {A : Type 0} → Part A → A → Result ⊤ Stop → Type 0
-Passes part x (Ok _) = part ≡ Ok x
-Passes part x (Err (Line text status)) = part ≡ Err (line text.items status)
-Passes part x (Err Memory) = ⊤
 
 -- the same of a heap: the part comes to its objects
 abbrev pub Fills : Part (List HeapObject) → Result HeapContents Stop → Type 0
@@ -47,23 +41,19 @@ IsRefusal Memory what place fault = ⊥
 pub record AreFilled (code : List Item) (objects : List HeapObject) : Type 0 where
   pub commands : List Command
   pub cells : ℕ
-  pub is : objects ≡ (filled code cells commands).store.objects
+  pub is : objects ≡ loaded_objects code cells commands
 
 -- such a heap, of which as many cells are left as they did not take
 pub record IsFilled (code : List Item) (cells : ℕ) (heap : HeapContents) : Type 0 where
   pub objects : AreFilled code heap.objects
   pub left : heap.left ≡ cells - cells_taken (bundle_tables code) heap.objects
 
--- what a run over such objects may be given, without a client
+-- what a run may be given: such objects, and the client of a script
 pub record IsLoaded (code : List Item) (s : Setting) : Type 0 where
   pub objects : AreFilled code s.objects
-  pub entries : s.client.entries ≡ []
+  pub client : IsScripted code s.client
 
--- what a run over such objects is given fits
-abbrev pub SettingsFit : List Item → Type 0
-SettingsFit code = (s : Setting) (commands : List Command) (cells : ℕ) → s.objects ≡ (filled code cells commands).store.objects → s.client.entries ≡ [] → SettingFits code s
-
--- each run that may be entered over such objects begins, and has an ending
+-- each run that may be entered with these begins, and has an ending
 abbrev pub LoadedRunsEnd : List Item → Type 0
 LoadedRunsEnd code = (s : Setting) (name : List ℕ) (n : ℕ) → IsLoaded code s → entry code name ≡ Ok n → IsSome (first_configuration (program code) s n) × HasEnding (run_of code n s)
 

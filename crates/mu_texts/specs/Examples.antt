@@ -6,7 +6,7 @@ use Rattle.mu_model.specs.declared.lines.Line.TheVariants.{Note}
 use Rattle.mu_model.specs.declared.lines.Note.TheVariants.{Exited}
 use Rattle.mu_model.specs.declared.endings.Ending.TheVariants.{Done as Ended, Budget}
 use Rattle.mu_model.specs.Run.{Ends}
-use Rattle.mu_texts.specs.declared.what.What.TheVariants.{Bundle, Hail}
+use Rattle.mu_texts.specs.declared.what.What.TheVariants.{Bundle, Hail, Client}
 use Rattle.mu_texts.specs.Answer.{run_answer, refused, scheduled}
 
 -- the run of a thread that exits in its second step
@@ -26,6 +26,10 @@ ends_too_early = refl
 wrong_source : refused Hail 27 (codes "WrongType") ≡ record { pieces = codes "refused hail 27 WrongType\n" ∷ []; status = Refused }
 unfolding digits
 wrong_source = refl
+
+wrong_name : refused Client 7 (codes "Unknown") ≡ record { pieces = codes "refused client 7 Unknown\n" ∷ []; status = Refused }
+unfolding digits
+wrong_name = refl
 
 -- a schedule, and what it is refused for
 two_picks : scheduled (codes "1 // picks\n0") ≡ Ok (1 ∷ 0 ∷ [])

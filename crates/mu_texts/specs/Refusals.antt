@@ -1,4 +1,4 @@
--- How faults are named in refusals.
+-- To believe: how faults are named in refusals.
 use Rattle.std.specs.Prelude.{ℕ, List, codes}
 use Rattle.ir_lex.specs.declared.token.LexKind.{LexKind}
 use Rattle.ir_lex.specs.declared.token.LexKind.TheVariants.{BadByte, BadName, NumberTooLarge, TooLong}
@@ -18,6 +18,8 @@ use Rattle.hail_load.specs.declared.fault.HailKind.{HailKind}
 use Rattle.hail_load.specs.declared.fault.HailKind.TheVariants as hail_kinds
 use Rattle.hail_load.specs.declared.fault.LoadKind.{LoadKind}
 use Rattle.hail_load.specs.declared.fault.LoadKind.TheVariants as load_kinds
+use Rattle.client_script.specs.declared.fault.ScriptKind.{ScriptKind}
+use Rattle.client_script.specs.declared.fault.ScriptKind.TheVariants as script_kinds
 use Rattle.mu_threads.specs.declared.reading.ScheduleKind.{ScheduleKind}
 use Rattle.mu_threads.specs.declared.reading.ScheduleKind.TheVariants as schedule_kinds
 
@@ -71,7 +73,7 @@ entry_fault_name entry_faults.Unknown = codes "Unknown"
 entry_fault_name entry_faults.BadSignature = codes "BadSignature"
 entry_fault_name entry_faults.NoBody = codes "NoBody"
 
--- what is wrong with the text of a script, and with a command of it
+-- what is wrong with the text of a script that fills the heap, and with a command of it
 abbrev pub hail_fault_name : HailKind → List ℕ
 hail_fault_name (hail_kinds.Lex kind) = lex_fault_name kind
 hail_fault_name hail_kinds.Unexpected = codes "Unexpected"
@@ -82,6 +84,12 @@ abbrev pub load_fault_name : LoadKind → List ℕ
 load_fault_name load_kinds.WrongType = codes "WrongType"
 load_fault_name load_kinds.OutOfRange = codes "OutOfRange"
 load_fault_name load_kinds.HeapFull = codes "HeapFull"
+
+-- what is wrong with the text of a client's script
+abbrev pub script_fault_name : ScriptKind → List ℕ
+script_fault_name (script_kinds.Lex kind) = lex_fault_name kind
+script_fault_name script_kinds.Unexpected = codes "Unexpected"
+script_fault_name script_kinds.Unknown = codes "Unknown"
 
 abbrev pub schedule_fault_name : ScheduleKind → List ℕ
 schedule_fault_name schedule_kinds.BadToken = codes "BadToken"

@@ -1,16 +1,18 @@
--- The files of a job: their names in texts, and their slots.
+-- To believe: the names of the files of a job in texts, and their slots.
 use Rattle.std.specs.Prelude.{ℕ, List, codes}
 use Rattle.mu_texts.specs.declared.what.What.{What}
-use Rattle.mu_texts.specs.declared.what.What.TheVariants.{Bundle, Hail, Schedule}
+use Rattle.mu_texts.specs.declared.what.What.TheVariants.{Bundle, Hail, Client, Schedule}
 
 -- a file's name in texts
 abbrev pub name_of : What → List ℕ
 name_of Bundle = codes "bundle"
 name_of Hail = codes "hail"
+name_of Client = codes "client"
 name_of Schedule = codes "schedule"
 
 -- a file's slot, by which inputs count its faults
 abbrev pub slot_of : What → ℕ
 slot_of Bundle = 0
 slot_of Hail = 1
+slot_of Client = 2
 slot_of Schedule = 3

@@ -1,18 +1,20 @@
 // Reads the texts of files, and judges them.
 ghost use Rattle.std.specs.Prelude.{◌≡◌, ◌≤◌, None, Ok, IfOk, OnOk};
 ghost use Rattle.demands.specs.Demands.{first_unmet};
-ghost use Rattle.mu_texts.specs.Answer.{as_written, named, checked, accepted, entered, for_check, for_print, hail_part, scheduled};
-ghost use Rattle.mu_texts.specs.Comes.{Comes, Passes, IsRefusal, LoadedRunsEnd, CanBegin, CanRun};
+ghost use Rattle.mu_texts.specs.Answer.{as_written, named, checked, accepted, entered, for_check, for_print, hail_part, client_part, scheduled};
+ghost use Rattle.loaded_programs.specs.Laws.{IsScripted};
+ghost use Rattle.mu_texts.specs.Comes.{Comes, IsRefusal, LoadedRunsEnd, CanBegin, CanRun};
 
 use crate::ready::Ready;
 use crate::refusals::{
     check_fault_name, entry_fault_name, hail_fault_name, name_fault_name, refusal,
-    schedule_fault_name, text_fault_name,
+    schedule_fault_name, script_fault_name, text_fault_name,
 };
 use crate::stop::Stop;
 use crate::what::What;
 use bundle_check::{Checked, check};
 use bundle_names::{Resolved, resolve};
+use client_script::{RunClient, read_script};
 use demands::Fault;
 use hail_load::{Hail, read_hail};
 use ir_text::{TextFault, answer_is_one, read_bundle};
@@ -142,8 +144,8 @@ pub fn judge_for_run(alloc: Global, bytes: &[u8]) -> Result<Checked, Stop>
 
 // ---- the other files of a run
 
-/// The script that a text spells among the names of a bundle.
-pub fn read_script(alloc: Global, bytes: &[u8], code: &Checked) -> Result<Hail, Stop>
+/// The script for the heap that a text spells among the names of a bundle.
+pub fn read_heap_script(alloc: Global, bytes: &[u8], code: &Checked) -> Result<Hail, Stop>
     ensures { Comes (hail_part code.now bytes.now) result }
 {
     match read_hail(alloc, bytes, code) {
@@ -154,6 +156,31 @@ pub fn read_script(alloc: Global, bytes: &[u8], code: &Checked) -> Result<Hail, 
             What::Hail,
             place,
             hail_fault_name(kind),
+        )?),
+    }
+}
+
+/// The client of a run: the script that a text spells among the names of a bundle. After its last entry zero and NULL are passed where
+/// `auto` is given, and else the run is stopped. An empty text is a script without entries.
+///
+/// Where the text is no script the line is `refused client PLACE FAULT`.
+pub fn judge_client(
+    alloc: Global,
+    bytes: &[u8],
+    code: &Checked,
+    auto: bool,
+) -> Result<RunClient, Stop>
+    ensures asked { Comes (client_part code.now auto bytes.now) result }
+    ensures scripted { IfOk result (IsScripted code.now) }
+{
+    match read_script(alloc, bytes, code) {
+        Ok(script) => Ok(RunClient::new(script, auto)),
+        Err(Fault::Memory) => Err(Stop::Memory),
+        Err(Fault::At { kind, place }) => Err(refused(
+            alloc,
+            What::Client,
+            place,
+            script_fault_name(kind),
         )?),
     }
 }

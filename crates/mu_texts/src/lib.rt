@@ -2,17 +2,19 @@
 //! the first fault. Also the words of those lines.
 #![tactic(auto)]
 
+mod filling;
 mod judging;
 mod ready;
 mod refusals;
-mod script;
 mod start;
 mod stop;
 mod what;
 
-pub use judging::{enter, judge_for_check, judge_for_print, judge_for_run, judge_schedule};
+pub use filling::judge_heap_script;
+pub use judging::{
+    enter, judge_client, judge_for_check, judge_for_print, judge_for_run, judge_schedule,
+};
 pub use ready::Ready;
-pub use script::judge_script;
 pub use start::Start;
 pub use stop::Stop;
 pub use what::What;

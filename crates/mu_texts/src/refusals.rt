@@ -1,12 +1,13 @@
 // The lines of refusals.
 ghost use Rattle.std.specs.Prelude.{◌≡◌, ◌++◌, IfOk, codes, decimal};
 ghost use Rattle.mu_texts.specs.What.{name_of};
-ghost use Rattle.mu_texts.specs.Refusals.{lex_fault_name, text_fault_name, name_fault_name, type_fault_name, const_fault_name, check_fault_name, entry_fault_name, hail_fault_name, load_fault_name, schedule_fault_name};
+ghost use Rattle.mu_texts.specs.Refusals.{lex_fault_name, text_fault_name, name_fault_name, type_fault_name, const_fault_name, check_fault_name, entry_fault_name, hail_fault_name, load_fault_name, script_fault_name, schedule_fault_name};
 
 use crate::what::What;
 use bundle_check::EntryFault;
 use bundle_names::NameKind;
 use check_tables::CheckKind;
+use client_script::ScriptKind;
 use hail_load::{HailKind, LoadKind};
 use ir_lex::LexKind;
 use ir_text::TextKind;
@@ -105,7 +106,7 @@ pub fn entry_fault_name(fault: EntryFault) -> &'static str
     }
 }
 
-/// The name of a fault of a script's text in refusals.
+/// The name of a fault of a heap script's text in refusals.
 pub fn hail_fault_name(kind: HailKind) -> &'static str
     ensures { result.now ≡ hail_fault_name kind }
 {
@@ -117,7 +118,7 @@ pub fn hail_fault_name(kind: HailKind) -> &'static str
     }
 }
 
-/// The name of a fault of a script's command in refusals.
+/// The name of a fault of a heap script's command in refusals.
 pub fn load_fault_name(kind: LoadKind) -> &'static str
     ensures { result.now ≡ load_fault_name kind }
 {
@@ -125,6 +126,17 @@ pub fn load_fault_name(kind: LoadKind) -> &'static str
         LoadKind::WrongType => "WrongType",
         LoadKind::OutOfRange => "OutOfRange",
         LoadKind::HeapFull => "HeapFull",
+    }
+}
+
+/// The name of a fault of a client's script in refusals.
+pub fn script_fault_name(kind: ScriptKind) -> &'static str
+    ensures { result.now ≡ script_fault_name kind }
+{
+    match kind {
+        ScriptKind::Lex(kind) => lex_fault_name(kind),
+        ScriptKind::Unexpected => "Unexpected",
+        ScriptKind::Unknown => "Unknown",
     }
 }
 

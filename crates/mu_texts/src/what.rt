@@ -8,6 +8,8 @@ pub enum What {
     Bundle,
     /// The script that fills the heap before the run.
     Hail,
+    /// The script of the client, which answers the traps of the run.
+    Client,
     /// The numbers that decide the picks of the run.
     Schedule,
 }
@@ -22,6 +24,7 @@ impl What {
         match self {
             What::Bundle => 0,
             What::Hail => 1,
+            What::Client => 2,
             What::Schedule => 3,
         }
     }
@@ -33,6 +36,7 @@ impl What {
         match self {
             What::Bundle => "bundle",
             What::Hail => "hail",
+            What::Client => "client",
             What::Schedule => "schedule",
         }
     }

@@ -1,5 +1,5 @@
 use Rattle.std.proofs.Common.{◌≡◌, ℕ, refl, sym, subst, arith}
-use Rattle.mu_texts.specs.declared.what.What.TheVariants.{Bundle, Hail, Schedule}
+use Rattle.mu_texts.specs.declared.what.What.TheVariants.{Bundle, Hail, Client, Schedule}
 use Rattle.mu_command.proofs.Beginnings.{earlier, later}
 use Rattle.mu_command.proofs.Together.{not_begun, run_found}
 use Rattle.mu_command.proofs.finding.find_run.Goals as goal
@@ -9,6 +9,7 @@ returns-in-Ok-clause-found g c =
     run_found _ c.args.words.now c.args.run c.requires.job _ _ c.in_ok-code.code
     (earlier _ _ _ _ _ Bundle refl (λ s e. rw (← e) c.in-Ok.ensures.bundle_slot))
     (later _ _ _ _ _ Hail c.find_code.ensures.same (λ s e. c.find_code.ensures.other_slots s (λ k. cc)))
+    (later _ _ _ _ _ Client c.find_code.ensures.same (λ s e. c.find_code.ensures.other_slots s (λ k. cc)))
     (later _ _ _ _ _ Schedule c.find_code.ensures.same (λ s e. c.find_code.ensures.other_slots s (λ k. cc)))
     c.in_ok-code.ensures.judged c.in-Ok.start c.in-Ok.ensures.begun
 
@@ -17,5 +18,6 @@ returns-in-Err-clause-found g c =
     not_begun _ c.args.words.now c.args.run c.requires.job _ _ c.in_ok-code.code
     (earlier _ _ _ _ _ Bundle refl (λ s e. rw (← e) c.in-Err.ensures.bundle_slot))
     (later _ _ _ _ _ Hail c.find_code.ensures.same (λ s e. c.find_code.ensures.other_slots s (λ k. cc)))
+    (later _ _ _ _ _ Client c.find_code.ensures.same (λ s e. c.find_code.ensures.other_slots s (λ k. cc)))
     (later _ _ _ _ _ Schedule c.find_code.ensures.same (λ s e. c.find_code.ensures.other_slots s (λ k. cc)))
     c.in_ok-code.ensures.judged c.in-Err.stop c.in-Err.ensures.begun

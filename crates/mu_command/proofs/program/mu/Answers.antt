@@ -1,5 +1,5 @@
 use Rattle.mu_command.proofs.Accepting.{accepted_cause}
-use Rattle.mu_command.proofs.Causes.{refused_cause, too_long_cause}
+use Rattle.mu_command.proofs.Causes.{read_fault_cause, refused_cause, too_long_cause}
 use Rattle.mu_command.proofs.Completeness.{complete}
 use Rattle.mu_command.proofs.program.mu.Goals as goal
 
@@ -17,3 +17,6 @@ returns-clause-moments g c = c.runs_are_sound.ensures c.args.words.now
 
 pub returns-clause-too_long : goal.returns-clause-too_long
 returns-clause-too_long g c = λ s. too_long_cause _ _ _ _ _ _ _ c.answer.ensures.answered s
+
+pub returns-clause-read_fault : goal.returns-clause-read_fault
+returns-clause-read_fault g c = λ s. read_fault_cause _ _ _ _ _ _ _ c.answer.ensures.answered s
