@@ -2,4 +2,14 @@
 #![tactic(auto)]
 
 #[cfg(test)]
+mod calls;
+#[cfg(test)]
+mod clients;
+#[cfg(test)]
+mod swaps;
+#[cfg(test)]
 mod tests;
+#[cfg(test)]
+mod threads;
+#[cfg(test)]
+mod waits;

@@ -1,79 +1,11 @@
 // What `mu` writes, and its status, where no clause of its contract says it: whole texts, faults of files and of the sink, the limit of
 // a file. More texts are shown by the cases of the built program.
-use mu_base::{File, MemoryInputs, MemorySink, Status, Text, Words};
+use crate::calls::{RUN, Row, answers, each_answers, each_answers_behind, file, words_of, writes};
+use mu_base::{MemorySink, Status};
 use mu_command::mu;
 use std::alloc::{AllocError, Global};
 use std::process::Abort;
 use std::test::Fail;
-
-const RUN: &[&str] = &["run", "b", "--entry", "@main"];
-
-fn words_of(alloc: Global, all: &[&str]) -> Result<Words, AllocError> {
-    let mut words = Words::new(alloc);
-    for word in all {
-        words.push(word)?;
-    }
-    Ok(words)
-}
-
-// The file `b` with those bytes. The fetches with those numbers fail.
-fn file(alloc: Global, bytes: Vec<u8>, failing: &[u32]) -> Result<MemoryInputs, AllocError> {
-    let files = vec![in alloc;
-        File {
-            name: Text::from_vec(Vec::from_slice(alloc, b"b")?),
-            bytes: Text::from_vec(bytes)
-        },
-    ]?;
-    Ok(MemoryInputs::new(files, Vec::from_slice(alloc, failing)?))
-}
-
-// What the program writes, and its status.
-fn writes(
-    rt: &impl Abort,
-    alloc: Global,
-    all: &[&str],
-    mut inputs: MemoryInputs,
-    mut out: MemorySink,
-    text: &str,
-    status: Status,
-) -> Result<(), AllocError> {
-    let words = words_of(alloc, all)?;
-    let answer = mu(alloc, &words, &mut inputs, &mut out);
-    assert_eq!(rt; out.bytes(), text.as_bytes());
-    assert!(rt; answer == status);
-    Ok(())
-}
-
-// What the program writes of a bundle's bytes, and its status, where nothing fails.
-fn answers(
-    rt: &impl Abort,
-    alloc: Global,
-    all: &[&str],
-    bytes: Vec<u8>,
-    text: &str,
-    status: Status,
-) -> Result<(), AllocError> {
-    let inputs = file(alloc, bytes, &[])?;
-    let out = MemorySink::new(alloc, Vec::new(alloc));
-    writes(rt, alloc, all, inputs, out, text, status)
-}
-
-// A bundle, what is written of it, and the status.
-type Row = (&'static str, &'static str, Status);
-
-// The rows of a table stand in a constant that is only lent: a proof that builds or moves a table takes long.
-fn each_answers(
-    rt: &impl Abort,
-    alloc: Global,
-    all: &[&str],
-    rows: &[Row],
-) -> Result<(), AllocError> {
-    for (bundle, text, status) in rows {
-        let bytes = Vec::from_slice(alloc, bundle.as_bytes())?;
-        answers(rt, alloc, all, bytes, text, *status)?;
-    }
-    Ok(())
-}
 
 const ADDS_40_AND_2: &str =
     ".typedef @i64 = int<64> .funcsig @mi = () -> (@i64) .const @a <@i64> = 40 .const @b <@i64> = 2 \
@@ -129,25 +61,6 @@ const NAME_AND_OPERAND: &str =
 
 const OPERAND: &str =
     ".typedef @a = int<32>\n.typedef @b = int<64>\n.funcsig @s = (@a) -> ()\n.funcdef @f VERSION %v <@s> {\n%e(<@a> %x): %y = ADD <@b> %x %x\nRET () }\n.funcdef @g VERSION %v <@s> {\n%e(<@a> %x): RET () }\n";
-
-// What most rows begin with.
-const DEFINITIONS: &str =
-    ".typedef @i1 = int<1> .typedef @i8 = int<8> .typedef @i32 = int<32> .typedef @i64 = int<64> .typedef @void = void .typedef @rv = ref<@void> .typedef @st = stackref .funcsig @m = () -> () .funcsig @mi = () -> (@i64) .funcsig @gs = (@st) -> () .const @c0 <@i64> = 0 .const @c1 <@i64> = 1 .const @c2 <@i64> = 2 .const @c10 <@i64> = 10 .const @c40 <@i64> = 40 .const @n2 <@i64> = -2 .const @w1 <@i32> = 1 .const @nul <@rv> = NULL ";
-
-// The same of bundles that begin with these definitions.
-fn each_answers_behind(
-    rt: &impl Abort,
-    alloc: Global,
-    all: &[&str],
-    rows: &[Row],
-) -> Result<(), AllocError> {
-    for (bundle, text, status) in rows {
-        let mut bytes = Vec::from_slice(alloc, DEFINITIONS.as_bytes())?;
-        bytes.extend_from_slice(bundle.as_bytes())?;
-        answers(rt, alloc, all, bytes, text, *status)?;
-    }
-    Ok(())
-}
 
 const COMPUTES: [Row; 6] = [
     (
