@@ -1,5 +1,5 @@
 // Waiting and waking.
-ghost use Rattle.std.specs.Prelude.{◌≡◌, ◌<◌, ◌≤◌, ◌==◌, [], ◌∷◌, ◌++◌, None, length, IsSome, IfSome, OnOk};
+ghost use Rattle.std.specs.Prelude.{◌≡◌, ◌<◌, ◌≤◌, ◌==◌, ◌+◌, [], ◌∷◌, ◌++◌, None, length, vec_len, vec_capacity, IsSome, IfSome, OnOk};
 ghost use Rattle.std.specs.List.{list_any, find};
 ghost use Rattle.futex.specs.Waiting.{is_at, is_of, cell_of, timed_cell_of, oldest_at, threads_of, without};
 ghost use Rattle.futex.specs.Kept.{AreApart, other_than, with_next};
@@ -60,13 +60,14 @@ impl Waiters {
     }
 
     /// From now on a thread waits at a cell, with a limit or without. Its number is below 64, and it does not wait yet. It goes into
-    /// room that is there.
+    /// room that is there, and takes one place of it at most.
     #[tactic(auto, using(crate::proofs::Apart::apart_more))]
     pub fn wait(&mut self, thread: u32, cell: CellId, timed: bool)
         requires room { 0 < self.old.spare }
         requires below { thread < 64 }
         requires goes_on { find (is_of thread) self.old.waiters ≡ None }
-        ensures { self.new.waiters ≡ self.old.waiters ++ record { thread = thread; cell = cell; timed = timed } ∷ [] }
+        ensures waiters { self.new.waiters ≡ self.old.waiters ++ record { thread = thread; cell = cell; timed = timed } ∷ [] }
+        ensures spare { self.old.spare ≤ self.new.spare + 1 }
     {
         self.list.push_reserved(Waiter {
             thread,
@@ -76,11 +77,12 @@ impl Waiters {
     }
 
     /// Wakes the threads that have waited at a cell longest: as many as the count, or all where fewer wait there. These wait no more;
-    /// the others wait on in their order.
+    /// the others wait on in their order. The room does not shrink.
     #[tactic(auto, using(crate::proofs::Apart::apart_kept, crate::proofs::Apart::kept_is_without, crate::proofs::Apart::few))]
     pub fn wake(&mut self, cell: CellId, count: u32) -> Woken
         ensures woken { result ≡ threads_of (oldest_at cell count self.old.waiters) }
         ensures others { self.new.waiters ≡ without (oldest_at cell count self.old.waiters) self.old.waiters }
+        ensures spare { self.old.spare ≤ self.new.spare }
     {
         let woken = oldest_at(&self.list, cell, count);
         keep_others(&mut self.list, woken.as_slice());
@@ -122,11 +124,12 @@ impl Waiters {
         }
     }
 
-    /// A thread that waits does so no more. The others wait on in their order.
+    /// A thread that waits does so no more. The others wait on in their order. The room does not shrink.
     #[tactic(auto, using(crate::proofs::Apart::apart_kept, crate::proofs::Apart::one_is_without))]
     pub fn leave(&mut self, thread: u32)
         requires { IsSome (find (is_of thread) self.old.waiters) }
-        ensures { IfSome (find (is_of thread) self.old.waiters) (λ w. self.new.waiters ≡ without (w ∷ []) self.old.waiters) }
+        ensures waiters { IfSome (find (is_of thread) self.old.waiters) (λ w. self.new.waiters ≡ without (w ∷ []) self.old.waiters) }
+        ensures spare { self.old.spare ≤ self.new.spare }
     {
         keep_others(&mut self.list, &[thread]);
     }
@@ -183,9 +186,11 @@ fn is_among(threads: &[u32], thread: u32) -> bool
     threads.iter().any(|one| *one == thread)
 }
 
-/// Keeps the waiters that are none of these threads, in their order.
+/// Keeps the waiters that are none of these threads, in their order. The room that was there stays.
 fn keep_others(list: &mut Vec<Waiter>, gone: &[u32])
-    ensures { list.new.items ≡ other_than gone.now list.old.items }
+    ensures kept { list.new.items ≡ other_than gone.now list.old.items }
+    ensures length { vec_len list.new ≤ vec_len list.old }
+    ensures capacity { vec_capacity list.old ≤ vec_capacity list.new }
 {
     list.retain(|waiter| !is_among(gone, waiter.thread));
 }

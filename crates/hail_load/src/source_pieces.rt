@@ -1,5 +1,5 @@
 // The pieces of sources.
-ghost use Rattle.std.specs.Prelude.{◌≡◌, [], ◌∷◌, ◌++◌, OnOk, IfOk};
+ghost use Rattle.std.specs.Prelude.{◌≡◌, [], ◌∷◌, ◌++◌, OnOk, OnErr, IfOk};
 ghost use Rattle.hail_load.specs.Sources.{alone, is_open, source_count};
 
 use crate::tree::Piece;
@@ -40,17 +40,19 @@ impl Pieces {
         Ok(pieces)
     }
 
-    /// Adds a piece at the end.
+    /// Adds a piece at the end. After a refusal for want of memory the pieces are as before.
     pub fn push(&mut self, piece: Piece) -> Result<(), AllocError>
-        ensures { OnOk result (self.new ≡ self.old ++ piece ∷ []) }
+        ensures ok { OnOk result (self.new ≡ self.old ++ piece ∷ []) }
+        ensures same { OnErr result (self.new ≡ self.old) }
     {
         self.pieces.push(piece)?;
         Ok(())
     }
 
-    /// Adds more pieces at the end.
+    /// Adds more pieces at the end. After a refusal for want of memory the pieces are as before.
     pub fn append(&mut self, more: Pieces) -> Result<(), AllocError>
-        ensures { OnOk result (self.new ≡ self.old ++ more) }
+        ensures ok { OnOk result (self.new ≡ self.old ++ more) }
+        ensures same { OnErr result (self.new ≡ self.old) }
     {
         let mut more = more.pieces;
         self.pieces.append(&mut more)?;

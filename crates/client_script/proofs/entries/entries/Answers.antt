@@ -19,7 +19,7 @@ pub each-smaller : goal.each-smaller
 each-smaller c = shorter (entry c.args.code.now) (entry_plain c.args.code.now).element 0 c.each.cursor c.in_ok-entry.field-0 c.entry.new.cursor c.in_ok-entry.ensures
 
 pub each-preserved : goal.each-preserved
-each-preserved c = rw c.in_ok-push.ensures (goes_on c.args.code.now c.each.entries c.each.cursor c.in_ok-entry.field-0 c.entry.new.cursor (read (script c.args.code.now) c.args.cursor.now) (sym c.each-test.ensures) c.in_ok-entry.ensures c.each.invariant)
+each-preserved c = rw c.in_ok-push.ensures.ok (goes_on c.args.code.now c.each.entries c.each.cursor c.in_ok-entry.field-0 c.entry.new.cursor (read (script c.args.code.now) c.args.cursor.now) (sym c.each-test.ensures) c.in_ok-entry.ensures c.each.invariant)
 
 pub returns : goal.returns
 returns c = is_done c.args.code.now c.each.entries c.each.cursor (read (script c.args.code.now) c.args.cursor.now) (sym c.each-test.ensures) c.each.invariant

@@ -19,7 +19,7 @@ pub each-smaller : goal.each-smaller
 each-smaller c = shorter action action_plain.element 0 c.each.cursor c.in_ok-action.field-0 c.action.new.cursor c.in_ok-action.ensures
 
 pub each-preserved : goal.each-preserved
-each-preserved c = rw c.in_ok-push.ensures (goes_on c.args.code.now c.each.actions c.each.cursor c.in_ok-action.field-0 c.action.new.cursor (read (inside c.args.code.now) c.args.cursor.now) (sym c.each-test.ensures) c.in_ok-action.ensures c.each.invariant)
+each-preserved c = rw c.in_ok-push.ensures.ok (goes_on c.args.code.now c.each.actions c.each.cursor c.in_ok-action.field-0 c.action.new.cursor (read (inside c.args.code.now) c.args.cursor.now) (sym c.each-test.ensures) c.in_ok-action.ensures c.each.invariant)
 
 pub returns-in_err-reply : goal.returns-in_err-reply
 returns-in_err-reply c =

@@ -18,7 +18,7 @@ pub each-smaller : goal.each-smaller
 each-smaller c = shorter (argument c.args.code.now) (argument_plain c.args.code.now).element 0 c.each.cursor c.in_ok-argument.field-0 c.argument.new.cursor c.in_ok-argument.ensures
 
 pub each-preserved : goal.each-preserved
-each-preserved c = rw c.in_ok-push.ensures (goes_on (symbols.Close ∷ []) (argument c.args.code.now) (argument_plain c.args.code.now) c.each.arguments c.each.cursor c.in_ok-argument.field-0 c.argument.new.cursor (read (until (symbols.Close ∷ []) (argument c.args.code.now)) c.args.cursor.now) (sym c.each-test.ensures) c.in_ok-argument.ensures c.each.invariant)
+each-preserved c = rw c.in_ok-push.ensures.ok (goes_on (symbols.Close ∷ []) (argument c.args.code.now) (argument_plain c.args.code.now) c.each.arguments c.each.cursor c.in_ok-argument.field-0 c.argument.new.cursor (read (until (symbols.Close ∷ []) (argument c.args.code.now)) c.args.cursor.now) (sym c.each-test.ensures) c.in_ok-argument.ensures c.each.invariant)
 
 pub returns : goal.returns
 returns c = rw c.bump.ensures (is_done (symbols.Close ∷ []) (argument c.args.code.now) (argument_plain c.args.code.now) c.each.arguments c.each.cursor (read (until (symbols.Close ∷ []) (argument c.args.code.now)) c.args.cursor.now) (sym c.each-test.ensures) c.each.invariant)

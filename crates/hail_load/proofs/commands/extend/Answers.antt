@@ -12,4 +12,4 @@ returns-in-None c =
 pub returns-in_ok-command-in-Some : goal.returns-in_ok-command-in-Some
 returns-in_ok-command-in-Some c =
     let was : c.args.commands.now ≡ c.pop.new.self ++ c.in-Some.command ∷ [] = cc (c.in-Some.ensures.some) in
-    rw (was, extended_last c.pop.new.self c.in-Some.command (index_piece c.args.index ∷ [])) (rw c.in_ok-command-in-Some.ensures at c.push.ensures)
+    rw (was, extended_last c.pop.new.self c.in-Some.command (index_piece c.args.index ∷ [])) (rw c.in_ok-command-in-Some.ensures at c.push.ensures.ok)

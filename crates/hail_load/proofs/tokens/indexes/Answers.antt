@@ -18,7 +18,7 @@ pub each-smaller : goal.each-smaller
 each-smaller c = shorter index (index_plain).element 0 c.each.cursor c.in_ok-index.field-0 c.index.new.cursor c.in_ok-index.ensures
 
 pub each-preserved : goal.each-preserved
-each-preserved c = rw c.in_ok-push.ensures (goes_on (symbols.Equals ∷ []) index index_plain c.each.indexes c.each.cursor c.in_ok-index.field-0 c.index.new.cursor (read (until (symbols.Equals ∷ []) index) c.args.cursor.now) (sym c.each-test.ensures) c.in_ok-index.ensures c.each.invariant)
+each-preserved c = rw c.in_ok-push.ensures.ok (goes_on (symbols.Equals ∷ []) index index_plain c.each.indexes c.each.cursor c.in_ok-index.field-0 c.index.new.cursor (read (until (symbols.Equals ∷ []) index) c.args.cursor.now) (sym c.each-test.ensures) c.in_ok-index.ensures c.each.invariant)
 
 pub returns : goal.returns
 returns c = rw c.bump.ensures (is_done (symbols.Equals ∷ []) index index_plain c.each.indexes c.each.cursor (read (until (symbols.Equals ∷ []) index) c.args.cursor.now) (sym c.each-test.ensures) c.each.invariant)

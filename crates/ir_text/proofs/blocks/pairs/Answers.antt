@@ -34,7 +34,7 @@ pub each-preserved : goal.each-preserved
 unfolding mark name global bracketed pair
 each-preserved c =
     let fits : nat_le 256 (length c.each.pairs) && at (begins pair) c.each.cursor ≡ false = rw (← c.len.ensures, ← c.at_any.ensures) (sym c.passes_limit.ensures ∙ c.if-passes_limit.false) in
-    rw c.in_ok-push.ensures (goes_on_counted 256 (symbols.Close ∷ []) pair pair_plain c.each.pairs c.each.cursor c.in_ok-pair.field-0 c.pair.new.cursor (read (up_to 256 (symbols.Close ∷ []) pair) c.args.cursor.now) fits (sym c.each-test.ensures) c.in_ok-pair.ensures c.each.invariant)
+    rw c.in_ok-push.ensures.ok (goes_on_counted 256 (symbols.Close ∷ []) pair pair_plain c.each.pairs c.each.cursor c.in_ok-pair.field-0 c.pair.new.cursor (read (up_to 256 (symbols.Close ∷ []) pair) c.args.cursor.now) fits (sym c.each-test.ensures) c.in_ok-pair.ensures c.each.invariant)
 
 pub returns : goal.returns
 returns c = rw c.bump.ensures (is_done_up_to 256 (symbols.Close ∷ []) pair pair_plain (length c.each.pairs) c.each.pairs c.each.cursor (read (up_to 256 (symbols.Close ∷ []) pair) c.args.cursor.now) (sym c.each-test.ensures) c.each.invariant)

@@ -34,7 +34,7 @@ pub each-preserved : goal.each-preserved
 unfolding name global switch_case
 each-preserved c =
     let fits : nat_le 1024 (length c.each.cases) && at (begins switch_case) c.each.cursor ≡ false = rw (← c.len.ensures, ← c.at_any.ensures) (sym c.passes_limit.ensures ∙ c.if-passes_limit.false) in
-    rw c.in_ok-push.ensures (goes_on_counted 1024 (symbols.BraceClose ∷ []) switch_case case_plain c.each.cases c.each.cursor c.in_ok-switch_case.field-0 c.switch_case.new.cursor (read (up_to 1024 (symbols.BraceClose ∷ []) switch_case) c.args.cursor.now) fits (sym c.each-test.ensures) c.in_ok-switch_case.ensures c.each.invariant)
+    rw c.in_ok-push.ensures.ok (goes_on_counted 1024 (symbols.BraceClose ∷ []) switch_case case_plain c.each.cases c.each.cursor c.in_ok-switch_case.field-0 c.switch_case.new.cursor (read (up_to 1024 (symbols.BraceClose ∷ []) switch_case) c.args.cursor.now) fits (sym c.each-test.ensures) c.in_ok-switch_case.ensures c.each.invariant)
 
 pub returns : goal.returns
 returns c = rw c.bump.ensures (is_done_up_to 1024 (symbols.BraceClose ∷ []) switch_case case_plain (length c.each.cases) c.each.cases c.each.cursor (read (up_to 1024 (symbols.BraceClose ∷ []) switch_case) c.args.cursor.now) (sym c.each-test.ensures) c.each.invariant)

@@ -39,7 +39,7 @@ pub each-preserved : goal.each-preserved
 unfolding mark typedef funcsig constant global_cell funcdecl funcdef item bundle
 each-preserved c =
     let fits : nat_le 16384 (length c.each.items) && at (begins item) c.each.cursor ≡ false = rw (← c.len.ensures, ← c.at_any.ensures) (sym c.passes_limit.ensures ∙ c.if-passes_limit.false) in
-    rw c.in_ok-push.ensures (goes_on_counted 16384 (symbols.End ∷ []) item item_plain c.each.items c.each.cursor c.in_ok-item.field-0 c.item.new.cursor (read bundle c.args.cursor.now) fits (sym c.each-test.ensures) c.in_ok-item.ensures c.each.invariant)
+    rw c.in_ok-push.ensures.ok (goes_on_counted 16384 (symbols.End ∷ []) item item_plain c.each.items c.each.cursor c.in_ok-item.field-0 c.item.new.cursor (read bundle c.args.cursor.now) fits (sym c.each-test.ensures) c.in_ok-item.ensures c.each.invariant)
 
 pub returns : goal.returns
 unfolding bundle

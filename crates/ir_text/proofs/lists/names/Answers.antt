@@ -32,7 +32,7 @@ pub each-preserved : goal.each-preserved
 unfolding name
 each-preserved c =
     let fits : nat_le 256 (length c.each.names) && at (begins (name c.args.symbols.now)) c.each.cursor ≡ false = rw (← c.len.ensures, ← c.at_any.ensures) (sym c.passes_limit.ensures ∙ c.if-passes_limit.false) in
-    rw c.in_ok-push.ensures (goes_on_counted 256 (c.args.closing ∷ []) (name c.args.symbols.now) (name_plain c.args.symbols.now) c.each.names c.each.cursor c.in_ok-name.field-0 c.name.new.self (with_front c.args.front (read (up_to_from (length c.args.front) 256 (c.args.closing ∷ []) (name c.args.symbols.now)) c.args.cursor.now)) fits (sym c.each-test.ensures) c.in_ok-name.ensures.read c.each.invariant)
+    rw c.in_ok-push.ensures.ok (goes_on_counted 256 (c.args.closing ∷ []) (name c.args.symbols.now) (name_plain c.args.symbols.now) c.each.names c.each.cursor c.in_ok-name.field-0 c.name.new.self (with_front c.args.front (read (up_to_from (length c.args.front) 256 (c.args.closing ∷ []) (name c.args.symbols.now)) c.args.cursor.now)) fits (sym c.each-test.ensures) c.in_ok-name.ensures.read c.each.invariant)
 
 pub returns : goal.returns
 returns c = rw c.bump.ensures (is_done_up_to 256 (c.args.closing ∷ []) (name c.args.symbols.now) (name_plain c.args.symbols.now) (length c.each.names) c.each.names c.each.cursor (with_front c.args.front (read (up_to_from (length c.args.front) 256 (c.args.closing ∷ []) (name c.args.symbols.now)) c.args.cursor.now)) (sym c.each-test.ensures) c.each.invariant)

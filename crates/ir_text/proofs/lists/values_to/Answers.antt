@@ -33,7 +33,7 @@ pub each-preserved : goal.each-preserved
 unfolding name global local value
 each-preserved c =
     let fits : nat_le 256 (length c.each.values) && at (begins value) c.each.cursor ≡ false = rw (← c.len.ensures, ← c.at_any.ensures) (sym c.passes_limit.ensures ∙ c.if-passes_limit.false) in
-    rw c.in_ok-push.ensures (goes_on_counted 256 (symbols.Close ∷ []) value value_plain c.each.values c.each.cursor c.in_ok-value.field-0 c.value.new.cursor (read (up_to 256 (symbols.Close ∷ []) value) c.args.cursor.now) fits (sym c.each-test.ensures) c.in_ok-value.ensures c.each.invariant)
+    rw c.in_ok-push.ensures.ok (goes_on_counted 256 (symbols.Close ∷ []) value value_plain c.each.values c.each.cursor c.in_ok-value.field-0 c.value.new.cursor (read (up_to 256 (symbols.Close ∷ []) value) c.args.cursor.now) fits (sym c.each-test.ensures) c.in_ok-value.ensures c.each.invariant)
 
 pub returns : goal.returns
 returns c = rw c.bump.ensures (is_done_up_to 256 (symbols.Close ∷ []) value value_plain (length c.each.values) c.each.values c.each.cursor (read (up_to 256 (symbols.Close ∷ []) value) c.args.cursor.now) (sym c.each-test.ensures) c.each.invariant)

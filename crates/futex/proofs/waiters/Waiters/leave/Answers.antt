@@ -4,4 +4,4 @@ use Rattle.futex.proofs.Apart.{apart_kept}
 use Rattle.futex.proofs.waiters.Waiters.leave.Goals as goal
 
 pub invariant_of-self : goal.invariant_of-self
-invariant_of-self c = subst AreApart (sym c.keep_others.ensures) (apart_kept (c.args.thread ∷ []) c.self.inside.list.items c.self.invariant)
+invariant_of-self c = subst AreApart (sym c.keep_others.ensures.kept) (apart_kept (c.args.thread ∷ []) c.self.inside.list.items c.self.invariant)

@@ -22,9 +22,9 @@ pub invariant_of-self : goal.invariant_of-self
 invariant_of-self c =
     let k = c.self.inside in
     let there = waits_there k.threads.stacks k.owns.items k.stacks k.waiters.waiters c.args.self.now c.args.thread c.self.view_is c.requires in
-    stopped_sound k.threads c.run_again.new.threads k.stacks k.owns.items _ k.waiters.waiters c.leave.new.self.waiters c.args.thread there c.self.invariant c.run_again.ensures c.leave.ensures
+    stopped_sound k.threads c.run_again.new.threads k.stacks k.owns.items _ k.waiters.waiters c.leave.new.self.waiters c.args.thread there c.self.invariant c.run_again.ensures c.leave.ensures.waiters
 
 pub returns : goal.returns
 returns c =
     let k = c.self.inside in
-    stopped_seen k.threads c.run_again.new.threads k.stacks k.owns.items _ k.waiters.waiters c.leave.new.self.waiters c.args.self.now c.args.thread c.self.view_is c.self.invariant c.run_again.ensures c.leave.ensures
+    stopped_seen k.threads c.run_again.new.threads k.stacks k.owns.items _ k.waiters.waiters c.leave.new.self.waiters c.args.self.now c.args.thread c.self.view_is c.self.invariant c.run_again.ensures c.leave.ensures.waiters
