@@ -32,8 +32,8 @@ use Rattle.bundle_check.specs.declared.code.Function.{Function}
 use Rattle.bundle_check.specs.Checking.{bundle_tables, bundle_functions, check_demands}
 use Rattle.bundle_laws.proofs.Graph.{counted}
 use Rattle.typed_heap.specs.Places.{with_some}
-use Rattle.typed_heap.specs.Fits.{World, DefinitionFits, ScalarFits, ScalarsFit, ValueFits}
-use Rattle.mu_model.specs.Types.{signature_of, classes_taken, classes_given, signature_classes}
+use Rattle.typed_heap.specs.Fits.{World, DefinitionFits, ScalarFits, ScalarsFit, ValueFits, signature_classes}
+use Rattle.mu_model.specs.Types.{signature_of, classes_taken, classes_given}
 use Rattle.mu_model.specs.Programs.{definition_from}
 use Rattle.model_numbers.proofs.Functions.{body_same}
 use Rattle.bundle_laws.proofs.Bodies.{some_is}

@@ -25,8 +25,8 @@ use Rattle.bundle_check.specs.Checking.{bundle_tables, bundle_functions, bundle_
 use Rattle.bundle_laws.specs.Accepted.{CodeOf, head_classes}
 use Rattle.typed_heap.specs.Objects.{HeapObject, leaf_classes, zeros}
 use Rattle.typed_heap.specs.Heap.{AreNarrow}
-use Rattle.typed_heap.specs.Fits.{World, ScalarFits, ScalarsFit, ValueFits, fits, place_fits}
-use Rattle.mu_model.specs.Types.{type_graph, class_definition, signature_of, classes_taken, classes_given, signature_classes}
+use Rattle.typed_heap.specs.Fits.{World, ScalarFits, ScalarsFit, ValueFits, fits, place_fits, signature_classes}
+use Rattle.mu_model.specs.Types.{type_graph, class_definition, signature_of, classes_taken, classes_given}
 use Rattle.model_laws.specs.Places.{HasTypes}
 use Rattle.model_numbers.specs.Laws.{OfAccepted}
 

@@ -1,15 +1,15 @@
 -- To believe: what a script sees of a bundle.
-use Rattle.std.specs.Prelude.{ℕ, List, map, slice_get}
+use Rattle.std.specs.Prelude.{ℕ, List}
 use Rattle.demands.specs.Names.{Names}
 use Rattle.type_laws.specs.declared.definition.TypeDef.{TypeDef}
 use Rattle.mu_values.specs.declared.scalars.Scalar.{Scalar}
 use Rattle.ir_tree.specs.declared.items.Item.{Item}
 use Rattle.bundle_names.specs.declared.globals.Sort.{Sort}
 use Rattle.check_tables.specs.declared.tables.Tables.{Tables}
-use Rattle.check_tables.specs.Lookups.{noted_signature}
 use Rattle.bundle_constants.specs.Bundle.{constant_values}
 use Rattle.bundle_check.specs.Checking.{bundle_tables}
 use Rattle.bundle_check.specs.Answers.{global_classes}
+use Rattle.typed_heap.specs.Fits.{signature_classes}
 
 -- what its global names stand for; its types; of each constant the class of its type and its value; the class of the type of each
 -- global; and the class of the signature of each function
@@ -20,9 +20,6 @@ pub record Code : Type 0 where
   pub values : List (List Scalar)
   pub globals : List ℕ
   pub signatures : List ℕ
-
-abbrev pub signature_classes : Tables → List ℕ
-signature_classes p = map (λ s. noted_signature (slice_get p.signatures s)) p.functions
 
 abbrev pub code_by : Tables → List Item → Code
 code_by p bundle =

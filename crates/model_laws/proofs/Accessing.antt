@@ -35,7 +35,8 @@ use Rattle.model_laws.specs.WellTyped.{GoesWell, WellTyped}
 use Rattle.mu_model.specs.Accesses.{access_results, accessed, accesses_cell, initial, kind_of, picking_option, raced, takes_option, updated, wanted}
 use Rattle.mu_model.specs.Acts.{Access, Compares, Loads, Program, Stores, Updates}
 use Rattle.mu_model.specs.Answers.{typed}
-use Rattle.mu_model.specs.Changes.{event, logged_event, pick, picked_from}
+use Rattle.mu_threads.specs.Picks.{pick, picked_from}
+use Rattle.mu_model.specs.Changes.{event, logged_event}
 use Rattle.mu_model.specs.ComputationForms.{bit}
 use Rattle.mu_model.specs.Configuration.{Configuration}
 use Rattle.mu_model.specs.Frames.{passed}

@@ -25,7 +25,8 @@ use Rattle.model_laws.specs.ThreadsFit.{ThreadAtWait, WaitersFit, is_waiting}
 use Rattle.model_laws.specs.WellTyped.{Settles, WellTyped}
 use Rattle.mu_model.specs.Acts.{Act, Program}
 use Rattle.mu_model.specs.Answers.{advanced, answer_of, typed}
-use Rattle.mu_model.specs.Changes.{frames_end, logged, pick, stack_becomes, thread_changes}
+use Rattle.mu_threads.specs.Picks.{pick}
+use Rattle.mu_model.specs.Changes.{frames_end, logged, stack_becomes, thread_changes}
 use Rattle.mu_model.specs.Clients.{Client}
 use Rattle.mu_model.specs.Configuration.{Active, Configuration, Dead, Ready, Stack, Thread, Waiter}
 use Rattle.mu_model.specs.Frames.{called, passed}

@@ -20,7 +20,8 @@ use Rattle.model_laws.proofs.Keeps.{at_place}
 use Rattle.model_laws.specs.Bounds.{depth}
 use Rattle.mu_model.specs.Accesses.{access_results, accessed, accesses_cell, initial, kind_of, raced, wanted}
 use Rattle.mu_model.specs.Acts.{Access, Entering, Misfits, Passes, Program, ThrowsInto}
-use Rattle.mu_model.specs.Changes.{changed, event, frames_end, logged, noted, pick, stack_becomes, stack_dies, thread_changes}
+use Rattle.mu_threads.specs.Picks.{pick}
+use Rattle.mu_model.specs.Changes.{changed, event, frames_end, logged, noted, stack_becomes, stack_dies, thread_changes}
 use Rattle.mu_model.specs.Clients.{Answer, Classed, Exit, Rebind, Reply, Resume, With}
 use Rattle.mu_model.specs.Configuration.{Active, Configuration, Dead, Ready, Stack, Waiter}
 use Rattle.mu_model.specs.EnteringStacks.{values_entered, entered, entering, enters, kills_stack, swaps_killing, leaving, makes_stack, most_threads, on_stack, ready, ready_at, started, starts, swaps}

@@ -29,8 +29,8 @@ use Rattle.mu_model.specs.Changes.{event, logged, logged_event, stack_becomes}
 use Rattle.mu_model.specs.Configuration.{Active, Configuration, Dead, Ready, Stack, Thread, Waiter}
 use Rattle.mu_model.specs.Outcomes.{Outcome, next, on}
 use Rattle.mu_model.specs.Turns.{Turn}
-use Rattle.mu_model.specs.Types.{type_graph, signature_classes}
-use Rattle.typed_heap.specs.Fits.{World, fits}
+use Rattle.mu_model.specs.Types.{type_graph}
+use Rattle.typed_heap.specs.Fits.{World, fits, signature_classes}
 use Rattle.typed_heap.specs.Objects.{HeapObject}
 
 pub at_place : {A : Type 0} (P : A → Type 0) (xs : List A) (i : ℕ) (x : A) → All P xs → slice_get xs i ≡ Some x → P x

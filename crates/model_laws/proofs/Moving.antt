@@ -41,11 +41,11 @@ use Rattle.mu_model.specs.Exceptions.{EnteredFrames, finishes}
 use Rattle.mu_model.specs.Frames.{passed}
 use Rattle.mu_model.specs.Outcomes.{Outcome}
 use Rattle.mu_model.specs.Turns.{Turn, waiting}
-use Rattle.mu_model.specs.Types.{type_graph, signature_classes}
+use Rattle.mu_model.specs.Types.{type_graph}
 use Rattle.mu_model.specs.declared.endings.Case.TheVariants.{StackTypes}
 use Rattle.mu_model.specs.declared.lines.Line.{Line}
 use Rattle.mu_model.specs.declared.lines.Note.{Note}
-use Rattle.typed_heap.specs.Fits.{DefinitionFits, ScalarFits, World}
+use Rattle.typed_heap.specs.Fits.{DefinitionFits, ScalarFits, World, signature_classes}
 use Rattle.typed_heap.specs.Places.{with_some}
 
 -- ---- all but the owners

@@ -33,7 +33,8 @@ use Rattle.model_laws.specs.Values.{ValuesFit, world}
 use Rattle.model_laws.specs.WellTyped.{GoesWell, WellTyped}
 use Rattle.mu_model.specs.Acts.{Act, Program}
 use Rattle.mu_model.specs.Answers.{typed}
-use Rattle.mu_model.specs.Changes.{logged, pick}
+use Rattle.mu_threads.specs.Picks.{pick}
+use Rattle.mu_model.specs.Changes.{logged}
 use Rattle.mu_model.specs.Configuration.{Active, Configuration, Thread, Waiter}
 use Rattle.mu_model.specs.Exceptions.{returns}
 use Rattle.mu_model.specs.Objects.{cast_any}

@@ -4,7 +4,7 @@ use Rattle.mu_base.specs.declared.order.Order.{Order}
 use Rattle.mu_values.specs.declared.scalars.Scalar.{Scalar}
 use Rattle.heap_cells.specs.declared.cells.CellId.{CellId}
 use Rattle.check_tables.specs.declared.tables.Tables.{Tables}
-use Rattle.typed_heap.specs.Fits.{World}
+use Rattle.typed_heap.specs.Fits.{World, signature_classes}
 use Rattle.frames.specs.Activations.{Activation}
 use Rattle.mem_axioms.specs.Axioms.{meets_axioms}
 use Rattle.mem_axioms.specs.Races.{Racing}
@@ -13,7 +13,7 @@ use Rattle.mem_axioms.specs.Form.{value_at}
 use Rattle.mem_axioms.specs.Choices.{is_option}
 use Rattle.mem_axioms.specs.declared.types.Mode.TheVariants.{Read}
 use Rattle.mem_axioms.specs.declared.types.Kind.TheVariants.{Access}
-use Rattle.mu_model.specs.Types.{type_graph, signature_classes, classes_taken}
+use Rattle.mu_model.specs.Types.{type_graph, classes_taken}
 use Rattle.mu_model.specs.Acts.{Program}
 use Rattle.mu_model.specs.Configuration.{Active, Thread, Configuration}
 use Rattle.mu_model.specs.Accesses.{initial}

@@ -6,10 +6,10 @@ use Rattle.mu_values.specs.Slots.{TypedValues}
 use Rattle.heap_cells.specs.declared.cells.CellId.{CellId}
 use Rattle.check_tables.specs.declared.tables.Tables.{Tables}
 use Rattle.typed_heap.specs.Objects.{HeapObject}
-use Rattle.typed_heap.specs.Fits.{World, ScalarFits, ValueFits}
+use Rattle.typed_heap.specs.Fits.{World, ScalarFits, ValueFits, signature_classes}
 use Rattle.typed_heap.specs.Places.{with_some}
 use Rattle.frames.specs.Activations.{Value}
-use Rattle.mu_model.specs.Types.{type_graph, signature_classes}
+use Rattle.mu_model.specs.Types.{type_graph}
 use Rattle.mu_model.specs.Configuration.{Configuration}
 
 -- what there is in a configuration: its objects, the functions of the bundle, and how many stacks and threads were made

@@ -41,7 +41,7 @@ use Rattle.frames.specs.Activations.{Value}
 use Rattle.mu_model.specs.Acts.{Calls, Replaces, Throws, Casts, Finds, KillsStack, SetsOwn}
 use Rattle.mu_model.specs.Operands.{Scope, tables_in, class, values_named}
 use Rattle.mu_model.specs.ComputationForms.{binary_act, compare_act, convert_act, scalar_act, extractvalue_act, insertvalue_act, computation_act}
-use Rattle.mu_model.specs.ControlForms.{branch_act, call_act, ret_act, function_gives, control_act}
+use Rattle.mu_model.specs.ControlForms.{branch_act, callee_act, ret_act, function_gives, control_act}
 use Rattle.mu_model.specs.ObjectForms.{newhybrid_act, getiref_act, find_by_act, allocation_act, addressing_act}
 use Rattle.mu_model.specs.AccessForms.{update_op, load_act, store_act, atomicrmw_act, memory_act}
 use Rattle.mu_model.specs.TrappingForms.{watchpoint_act, wpbranch_act, trapping_act}
@@ -81,13 +81,13 @@ control_same s ls vars fit fits (flows.Branch d) m = ap branch_act (normal_same 
 control_same s ls vars fit fits (flows.Branch2 c d e) m =
     rw (value_same s ls vars fits c (Some (int1 (tables_in s).types)) m.0, normal_same s ls vars fits d m.1.0, normal_same s ls vars fits e m.1.1) refl
 control_same s ls vars fit fits (flows.Call g f a e k) m =
-    ap₂ (call_act Calls) (value_same s ls vars fits f (funcref_of (signature_named (tables_in s) g)) m.0)
+    ap₂ (callee_act Calls) (value_same s ls vars fits f (funcref_of (signature_named (tables_in s) g)) m.0)
     (values_same s ls vars fits a (takes_of (signature_named (tables_in s) g)) m.1)
 control_same s ls vars fit fits (flows.Ret a) m = ret_same s ls vars fits a m
 control_same s ls vars fit fits (flows.Switch t a d cs) m =
     rw (typed_same s ls vars fits a t m.1.0, normal_same s ls vars fits d m.1.1.0, cases_same s ls vars fit fits t cs (type_of (tables_in s) t is_int refl m.0).type m.1.1.1) refl
 control_same s ls vars fit fits (flows.Tailcall g f a) m =
-    ap₂ (call_act Replaces) (value_same s ls vars fits f (funcref_of (signature_named (tables_in s) g)) m.1.0)
+    ap₂ (callee_act Replaces) (value_same s ls vars fits f (funcref_of (signature_named (tables_in s) g)) m.1.0)
     (values_same s ls vars fits a (takes_of (signature_named (tables_in s) g)) m.1.1)
 control_same s ls vars fit fits (flows.Throw e) m = ap (scalar_act Throws) (value_same s ls vars fits e (Some (ref_void (tables_in s).types)) m)
 

@@ -52,6 +52,9 @@ update_op words.Min = updates.Min
 update_op words.Umax = updates.Umax
 update_op words.Umin = updates.Umin
 
+abbrev pub fence_act : Order → Option Act
+fence_act o = Some (Fences o)
+
 -- ---- by name
 
 abbrev pub memory_act : Scope → List Value → Instruction → Option Act
@@ -60,4 +63,4 @@ memory_act s vars (accesses.Store o t l a e) = store_act (memory_order o.order) 
 memory_act s vars (accesses.Cmpxchg w o f t l a b e) =
     cmpxchg_act w (memory_order o.order) (memory_order f.order) (value_named s vars l) (value_named s vars a) (value_named s vars b)
 memory_act s vars (accesses.Atomicrmw o op t l a e) = atomicrmw_act (memory_order o.order) (update_op op) (value_named s vars l) (value_named s vars a)
-memory_act s vars (accesses.Fence o) = Some (Fences (memory_order o.order))
+memory_act s vars (accesses.Fence o) = fence_act (memory_order o.order)

@@ -27,7 +27,8 @@ use Rattle.mu_model.specs.Acts.{Access, Loads, Stores, Compares, Updates, Progra
 use Rattle.mu_model.specs.Operands.{is_integer}
 use Rattle.mu_model.specs.ComputationForms.{bit}
 use Rattle.mu_model.specs.Frames.{passed}
-use Rattle.mu_model.specs.Changes.{pick, event, logged_event}
+use Rattle.mu_threads.specs.Picks.{pick}
+use Rattle.mu_model.specs.Changes.{event, logged_event}
 use Rattle.mu_model.specs.Turns.{Turn}
 use Rattle.mu_model.specs.Outcomes.{Outcome, on, next, onto, ended, tried, or_case}
 

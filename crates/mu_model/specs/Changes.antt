@@ -1,5 +1,5 @@
 -- To believe: the small changes of a configuration that acts share.
-use Rattle.std.specs.Prelude.{ℕ, zero, suc, ◌%◌, nat_le, List, [], ◌∷◌, None, fold, length, slice_set, flat_map, option_map, if◌then◌else◌}
+use Rattle.std.specs.Prelude.{ℕ, zero, suc, List, [], ◌∷◌, None, fold, length, slice_set, flat_map, option_map}
 use Rattle.typed_heap.specs.Objects.{killed}
 use Rattle.frames.specs.Activations.{Activation}
 use Rattle.mem_axioms.specs.declared.types.Event.{Event}
@@ -13,15 +13,6 @@ abbrev pub changed : {A : Type 0} → (A → A) → ℕ → List A → List A
 changed f n [] = []
 changed f zero (x ∷ xs) = f x ∷ xs
 changed f (suc n) (x ∷ xs) = x ∷ changed f n xs
-
--- ---- picks: one of n options takes the next number, save where there is but one
-
-abbrev pub picked_from : ℕ → List ℕ → ℕ × List ℕ
-picked_from n [] = (0, [])
-picked_from n (p ∷ ps) = (p % n, ps)
-
-abbrev pub pick : ℕ → List ℕ → ℕ × List ℕ
-pick n ps = if nat_le n 1 then (0, ps) else picked_from n ps
 
 -- ---- lines
 

@@ -60,10 +60,14 @@ convert_act p op c d a =
     with_some (class_width p c) (λ w. with_some (class_width p d) (λ v. with_some (bits_in (Some w) a) (λ n.
     if leads_to op w v then Some (Gives ((Int v (converted op w v n) ∷ []) ∷ [])) else None)))
 
--- ---- REFCAST, and whatever else is one act on one scalar
+-- ---- REFCAST
 
+-- one act on one scalar
 abbrev pub scalar_act : (Scalar → Act) → Option Value → Option Act
 scalar_act act v = with_some (scalar_in v) (λ s. Some (act s))
+
+abbrev pub refcast_act : ℕ → Option Value → Option Act
+refcast_act d v = scalar_act (Casts d) v
 
 -- ---- SELECT
 
@@ -97,7 +101,7 @@ abbrev pub computation_act : Scope → List Value → Computation → Option Act
 computation_act s vars (computations.Binary op t a b e) = binary_act (tables_in s) (binary_op op) (class s t) (value_named s vars a) (value_named s vars b)
 computation_act s vars (computations.Compare op t a b) = compare_act (compare_op op) (value_named s vars a) (value_named s vars b)
 computation_act s vars (computations.Convert op t u a) = convert_act (tables_in s) (convert_op op) (class s t) (class s u) (value_named s vars a)
-computation_act s vars (computations.Refcast t u a) = scalar_act (Casts (class s u)) (value_named s vars a)
+computation_act s vars (computations.Refcast t u a) = refcast_act (class s u) (value_named s vars a)
 computation_act s vars (computations.Select t u c a b) = select_act (value_named s vars c) (value_named s vars a) (value_named s vars b)
 computation_act s vars (computations.Extractvalue t n a) = extractvalue_act (tables_in s) (class s t) n.number.magnitude (value_named s vars a)
 computation_act s vars (computations.Insertvalue t n a b) =

@@ -45,13 +45,24 @@ function_act act (Func f) = Some (act f)
 function_act act Null = Some (Faults cases.NullCall)
 function_act act _ = None
 
-abbrev pub call_act : (ℕ → List Value → Act) → Option Value → Option (List Value) → Option Act
-call_act act f vs = with_some (scalar_in f) (λ callee. with_some vs (λ values. function_act (λ n. act n values) callee))
+abbrev pub callee_act : (ℕ → List Value → Act) → Option Value → Option (List Value) → Option Act
+callee_act act f vs = with_some (scalar_in f) (λ callee. with_some vs (λ values. function_act (λ n. act n values) callee))
+
+abbrev pub call_act : Option Value → Option (List Value) → Option Act
+call_act f vs = callee_act Calls f vs
+
+abbrev pub tailcall_act : Option Value → Option (List Value) → Option Act
+tailcall_act f vs = callee_act Replaces f vs
 
 -- ---- RET: the values, of the classes of what the function gives
 
 abbrev pub ret_act : List ℕ → Option (List Value) → Option Act
 ret_act cs vs = with_some vs (λ values. Some (Returns (record { types = cs; values = values })))
+
+-- ---- THROW
+
+abbrev pub throw_act : Option Value → Option Act
+throw_act e = scalar_act Throws e
 
 -- ---- by name
 
@@ -66,7 +77,7 @@ abbrev pub control_act : Scope → List Value → ControlFlow → Option Act
 control_act s vars (flows.Branch d) = branch_act (goal_named s vars d)
 control_act s vars (flows.Branch2 c d e) = branch2_act (value_named s vars c) (goal_named s vars d) (goal_named s vars e)
 control_act s vars (flows.Switch t a d cs) = switch_act (value_named s vars a) (goal_named s vars d) (map (arm_named s vars) cs)
-control_act s vars (flows.Call g f a e k) = call_act Calls (value_named s vars f) (values_named s vars a.values)
-control_act s vars (flows.Tailcall g f a) = call_act Replaces (value_named s vars f) (values_named s vars a.values)
+control_act s vars (flows.Call g f a e k) = call_act (value_named s vars f) (values_named s vars a.values)
+control_act s vars (flows.Tailcall g f a) = tailcall_act (value_named s vars f) (values_named s vars a.values)
 control_act s vars (flows.Ret a) = ret_act (function_gives s) (values_named s vars a.values)
-control_act s vars (flows.Throw e) = scalar_act Throws (value_named s vars e)
+control_act s vars (flows.Throw e) = throw_act (value_named s vars e)

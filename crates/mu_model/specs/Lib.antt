@@ -12,7 +12,6 @@ pub mod StackForms
 pub mod Programs
 pub mod Frames
 pub mod Changes
-pub mod PickExamples
 pub mod Turns
 pub mod Outcomes
 pub mod Exceptions

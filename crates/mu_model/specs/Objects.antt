@@ -11,7 +11,8 @@ use Rattle.typed_heap.specs.Objects.{HeapObject, leaf_classes, run_classes, obje
 use Rattle.typed_heap.specs.Heap.{hybrid_classes}
 use Rattle.typed_heap.specs.Places.{with_some, cast_if, cast, Way, move, find_place}
 use Rattle.mu_model.specs.declared.endings.Ending.TheVariants.{HeapFull}
-use Rattle.mu_model.specs.Types.{type_graph, class_definition, signature_classes}
+use Rattle.typed_heap.specs.Fits.{signature_classes}
+use Rattle.mu_model.specs.Types.{type_graph, class_definition}
 use Rattle.mu_model.specs.Configuration.{Configuration}
 use Rattle.mu_model.specs.Acts.{Program}
 use Rattle.mu_model.specs.Turns.{Turn}

@@ -58,25 +58,40 @@ switch_stack_act s vars (switches.Newthread g o n e) = newthread_act (value_name
 abbrev pub new_stack_act : Option Value → Option Act
 new_stack_act f = with_some (scalar_in f) (function_act MakesStack)
 
+abbrev pub kill_stack_act : Option Value → Option Act
+kill_stack_act s = scalar_act KillsStack s
+
+abbrev pub thread_exit_act : Option Act
+thread_exit_act = Some Exits
+
+abbrev pub current_stack_act : Option Act
+current_stack_act = Some Tells
+
+abbrev pub set_threadlocal_act : Option Value → Option Act
+set_threadlocal_act r = scalar_act SetsOwn r
+
+abbrev pub get_threadlocal_act : Option Act
+get_threadlocal_act = Some TellsOwn
+
 -- with a limit or without
 abbrev pub futex_wait_act : Bool → Option Value → Option Value → Option Act
 futex_wait_act timed l v = with_some (scalar_in l) (λ s. with_some (scalar_in v) (λ x. cell_act (Waits timed x) s))
-
--- what the limit counts has no meaning here
-abbrev pub futex_wait_timeout_act : Option Value → Option Value → Option Value → Option Act
-futex_wait_timeout_act l v n = with_some (bits_in (Some 64) n) (λ limit. futex_wait_act true l v)
 
 -- so many, unsigned
 abbrev pub futex_wake_act : Option Value → Option Value → Option Act
 futex_wake_act l n = with_some (scalar_in l) (λ s. with_some (bits_in (Some 32) n) (λ many. cell_act (Wakes many) s))
 
+-- what the limit counts has no meaning here
+abbrev pub futex_wait_timeout_act : Option Value → Option Value → Option Value → Option Act
+futex_wait_timeout_act l v n = with_some (bits_in (Some 64) n) (λ limit. futex_wait_act true l v)
+
 abbrev pub common_act : Scope → List Value → CommonInst → Option Act
 common_act s vars (commons.NewStack g f) = new_stack_act (value_named s vars f)
-common_act s vars (commons.KillStack g) = scalar_act KillsStack (value_named s vars g)
-common_act s vars commons.ThreadExit = Some Exits
-common_act s vars commons.CurrentStack = Some Tells
-common_act s vars (commons.SetThreadlocal r) = scalar_act SetsOwn (value_named s vars r)
-common_act s vars commons.GetThreadlocal = Some TellsOwn
+common_act s vars (commons.KillStack g) = kill_stack_act (value_named s vars g)
+common_act s vars commons.ThreadExit = thread_exit_act
+common_act s vars commons.CurrentStack = current_stack_act
+common_act s vars (commons.SetThreadlocal r) = set_threadlocal_act (value_named s vars r)
+common_act s vars commons.GetThreadlocal = get_threadlocal_act
 common_act s vars (commons.FutexWait t l v) = futex_wait_act false (value_named s vars l) (value_named s vars v)
-common_act s vars (commons.FutexWaitTimeout t l v n) = futex_wait_timeout_act (value_named s vars l) (value_named s vars v) (value_named s vars n)
 common_act s vars (commons.FutexWake t l n) = futex_wake_act (value_named s vars l) (value_named s vars n)
+common_act s vars (commons.FutexWaitTimeout t l v n) = futex_wait_timeout_act (value_named s vars l) (value_named s vars v) (value_named s vars n)

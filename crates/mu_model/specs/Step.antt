@@ -3,13 +3,15 @@ use Rattle.std.specs.Prelude.{ℕ, suc, Bool, ◌&&◌, ◌==◌, not, List, [],
 use Rattle.std.specs.List.{list_any}
 use Rattle.mu_values.specs.declared.scalars.Scalar.{Scalar}
 use Rattle.mu_values.specs.declared.scalars.Scalar.TheVariants as scalars
+use Rattle.mu_base.specs.declared.order.Order.{Order}
 use Rattle.mem_axioms.specs.declared.types.Kind.TheVariants.{Fence}
 use Rattle.mu_model.specs.declared.lines.Note.TheVariants.{Exited}
 use Rattle.mu_model.specs.declared.endings.Ending.TheVariants.{Done, AllWaiting, Budget}
 use Rattle.mu_model.specs.Configuration.{Thread, Waiter, Configuration}
 use Rattle.mu_model.specs.Acts as acts
 use Rattle.mu_model.specs.Acts.{Act, Program}
-use Rattle.mu_model.specs.Changes.{pick, logged, thread_changes}
+use Rattle.mu_threads.specs.Picks.{pick}
+use Rattle.mu_model.specs.Changes.{logged, thread_changes}
 use Rattle.mu_model.specs.Turns.{Turn, turn_of}
 use Rattle.mu_model.specs.Outcomes.{Outcome, End, on, has_results, has_result, refused}
 use Rattle.mu_model.specs.Exceptions.{calls, replaces, finishes, returns, throws}
@@ -21,9 +23,24 @@ use Rattle.mu_model.specs.Traps.{trapped, goes, meets_watchpoint, chooses}
 
 -- ---- acts
 
+-- a fence is an event of the log
+abbrev pub fences : Program → Configuration → Turn → Order → Outcome
+fences p c u o = has_results p (logged u.thread (Fence o) c) u []
+
+-- the stack that the thread stands on
+abbrev pub tells : Program → Configuration → Turn → Outcome
+tells p c u = has_result p c u (scalars.Stack u.stack)
+
+abbrev pub exits : Configuration → Turn → Outcome
+exits c u = finishes c u (Exited u.thread)
+
 abbrev pub with_own : Scalar → Thread → Thread
 with_own r t = record t { own = r }
 
+abbrev pub sets_own : Program → Configuration → Turn → Scalar → Outcome
+sets_own p c u r = has_results p (thread_changes u.thread (with_own r) c) u []
+
+-- the thread's own object
 abbrev pub tells_own : Program → Configuration → Turn → Thread → Outcome
 tells_own p c u t = has_result p c u t.own
 
@@ -41,7 +58,7 @@ performed p c u (acts.Makes t) = makes p c u t
 performed p c u (acts.MakesHybrid t many) = makes_hybrid p c u t many
 performed p c u (acts.MakesOwn t) = makes_own p c u t
 performed p c u (acts.Accesses a cell) = accesses_cell p c u a cell
-performed p c u (acts.Fences o) = has_results p (logged u.thread (Fence o) c) u []
+performed p c u (acts.Fences o) = fences p c u o
 performed p c u (acts.Traps cs) = trapped p c u None cs
 performed p c u (acts.Watches n cs disabled) = meets_watchpoint p c u n cs disabled
 performed p c u (acts.Chooses n disabled enabled) = chooses c u n disabled enabled
@@ -50,9 +67,9 @@ performed p c u (acts.Leaves s e) = swaps_killing p c u s e
 performed p c u (acts.Starts s own e) = starts p c u s own e
 performed p c u (acts.MakesStack f) = makes_stack p c u f
 performed p c u (acts.KillsStack s) = kills_stack p c u s
-performed p c u acts.Tells = has_result p c u (scalars.Stack u.stack)
-performed p c u acts.Exits = finishes c u (Exited u.thread)
-performed p c u (acts.SetsOwn r) = has_results p (thread_changes u.thread (with_own r) c) u []
+performed p c u acts.Tells = tells p c u
+performed p c u acts.Exits = exits c u
+performed p c u (acts.SetsOwn r) = sets_own p c u r
 performed p c u acts.TellsOwn = on (slice_get c.threads u.thread) (λ t. on t (tells_own p c u))
 performed p c u (acts.Waits timed v cell) = futex_waits p c u timed v cell
 performed p c u (acts.Wakes many cell) = futex_wakes p c u many cell

@@ -1,11 +1,11 @@
 -- To believe: what the machine asks of the types and functions of a bundle.
-use Rattle.std.specs.Prelude.{ℕ, List, Option, map, slice_get}
+use Rattle.std.specs.Prelude.{ℕ, List, Option, slice_get}
 use Rattle.type_laws.specs.declared.definition.TypeDef.{TypeDef}
 use Rattle.mu_values.specs.declared.scalars.Scalar.{Scalar}
 use Rattle.mu_values.specs.Constants.{width_of}
 use Rattle.check_tables.specs.declared.tables.Tables.{Tables}
 use Rattle.check_tables.specs.declared.tables.Signature.{Signature}
-use Rattle.check_tables.specs.Lookups.{signature_in, noted_signature, noted_classes, takes_of, gives_of}
+use Rattle.check_tables.specs.Lookups.{signature_in, noted_classes, takes_of, gives_of}
 use Rattle.typed_heap.specs.Objects.{leaf_classes, zeros}
 
 -- ---- types by class
@@ -35,7 +35,3 @@ classes_taken p f = noted_classes (takes_of (signature_of p f))
 
 abbrev pub classes_given : Tables → ℕ → List ℕ
 classes_given p f = noted_classes (gives_of (signature_of p f))
-
--- the class of the signature of each function
-abbrev pub signature_classes : Tables → List ℕ
-signature_classes p = map (λ s. noted_signature (slice_get p.signatures s)) p.functions

@@ -1,9 +1,8 @@
 // Instructions under names.
 ghost use Rattle.std.specs.Prelude.{◌≡◌, Some, IsSome, true, false};
 ghost use Rattle.mu_model.specs.Acts as acts;
-ghost use Rattle.mu_model.specs.ComputationForms.{scalar_act};
 ghost use Rattle.mu_model.specs.AccessForms.{cell_act};
-ghost use Rattle.mu_model.specs.StackForms.{new_stack_act, futex_wait_act, futex_wait_timeout_act, futex_wake_act};
+ghost use Rattle.mu_model.specs.StackForms.{new_stack_act, kill_stack_act, set_threadlocal_act, futex_wait_act, futex_wait_timeout_act, futex_wake_act};
 ghost use Rattle.model_numbers.specs.Sources.{value_at};
 ghost use Rattle.step_forms.specs.Asked.{asked, Lists};
 
@@ -32,8 +31,8 @@ pub fn new_stack(code: &Checked, vars: &Variables, function: Source) -> Act
 /// `@uvm.kill_stack`
 #[tactic(auto, using(crate::specs::OperandLaws::operands))]
 pub fn kill_stack(code: &Checked, vars: &Variables, stack: Source) -> Act
-    requires { IsSome (scalar_act acts.KillsStack (value_at code.now vars.now stack)) }
-    ensures { (ls : Lists) → scalar_act acts.KillsStack (value_at code.now vars.now stack) ≡ Some (asked result ls) }
+    requires { IsSome (kill_stack_act (value_at code.now vars.now stack)) }
+    ensures { (ls : Lists) → kill_stack_act (value_at code.now vars.now stack) ≡ Some (asked result ls) }
 {
     Act::KillsStack {
         stack: scalar(code, vars, stack),
@@ -43,8 +42,8 @@ pub fn kill_stack(code: &Checked, vars: &Variables, stack: Source) -> Act
 /// `@uvm.set_threadlocal`
 #[tactic(auto, using(crate::specs::OperandLaws::operands))]
 pub fn set_threadlocal(code: &Checked, vars: &Variables, reference: Source) -> Act
-    requires { IsSome (scalar_act acts.SetsOwn (value_at code.now vars.now reference)) }
-    ensures { (ls : Lists) → scalar_act acts.SetsOwn (value_at code.now vars.now reference) ≡ Some (asked result ls) }
+    requires { IsSome (set_threadlocal_act (value_at code.now vars.now reference)) }
+    ensures { (ls : Lists) → set_threadlocal_act (value_at code.now vars.now reference) ≡ Some (asked result ls) }
 {
     Act::SetsOwn(scalar(code, vars, reference))
 }

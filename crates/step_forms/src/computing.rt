@@ -4,7 +4,7 @@ ghost use Rattle.bundle_check.specs.Checking.{bundle_tables};
 ghost use Rattle.typed_heap.specs.Places.{with_some};
 ghost use Rattle.mu_model.specs.Acts as acts;
 ghost use Rattle.mu_model.specs.Types.{class_width};
-ghost use Rattle.mu_model.specs.ComputationForms.{result_or_fault, bit, binary_act, compare_act, convert_act, scalar_act, select_act, extractvalue_act, insertvalue_act};
+ghost use Rattle.mu_model.specs.ComputationForms.{result_or_fault, bit, binary_act, compare_act, convert_act, refcast_act, select_act, extractvalue_act, insertvalue_act};
 ghost use Rattle.model_numbers.specs.Sources.{value_at};
 ghost use Rattle.step_forms.specs.Asked.{asked, lists_of, Lists};
 
@@ -115,8 +115,8 @@ pub fn convert(
 /// REFCAST
 #[tactic(auto, using(crate::specs::OperandLaws::operands))]
 pub fn refcast(code: &Checked, vars: &Variables, class: u32, operand: Source) -> Act
-    requires { IsSome (scalar_act (acts.Casts class) (value_at code.now vars.now operand)) }
-    ensures { (ls : Lists) → scalar_act (acts.Casts class) (value_at code.now vars.now operand) ≡ Some (asked result ls) }
+    requires { IsSome (refcast_act class (value_at code.now vars.now operand)) }
+    ensures { (ls : Lists) → refcast_act class (value_at code.now vars.now operand) ≡ Some (asked result ls) }
 {
     Act::Casts {
         class,

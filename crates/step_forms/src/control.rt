@@ -3,9 +3,7 @@ ghost use Rattle.std.specs.Prelude.{◌≡◌, map, Some, IsSome, IfOk};
 ghost use Rattle.mu_values.specs.SameScalar.{same_scalar};
 ghost use Rattle.bundle_check.specs.Checking.{bundle_tables};
 ghost use Rattle.typed_heap.specs.Places.{with_some};
-ghost use Rattle.mu_model.specs.Acts as acts;
-ghost use Rattle.mu_model.specs.ComputationForms.{scalar_act};
-ghost use Rattle.mu_model.specs.ControlForms.{branch_act, branch2_act, switch_act, call_act, ret_act};
+ghost use Rattle.mu_model.specs.ControlForms.{branch_act, branch2_act, switch_act, call_act, tailcall_act, ret_act, throw_act};
 ghost use Rattle.model_numbers.specs.Sources.{value_at, values_at, classes_at, goal_at};
 ghost use Rattle.model_numbers.specs.Forms.{arm_at};
 ghost use Rattle.step_forms.specs.Asked.{asked, lists_of, Lists};
@@ -97,8 +95,8 @@ pub fn call(
     arguments: &[Source],
     room: &mut Room,
 ) -> Result<Act, AllocError>
-    requires { IsSome (call_act acts.Calls (value_at code.now vars.now callee) (values_at code.now vars.now arguments.now)) }
-    ensures { IfOk result (λ act. call_act acts.Calls (value_at code.now vars.now callee) (values_at code.now vars.now arguments.now) ≡ Some (asked act (lists_of room.new))) }
+    requires { IsSome (call_act (value_at code.now vars.now callee) (values_at code.now vars.now arguments.now)) }
+    ensures { IfOk result (λ act. call_act (value_at code.now vars.now callee) (values_at code.now vars.now arguments.now) ≡ Some (asked act (lists_of room.new))) }
 {
     read_values(code, vars, arguments, &mut room.values)?;
     match scalar(code, vars, callee) {
@@ -117,8 +115,8 @@ pub fn tailcall(
     arguments: &[Source],
     room: &mut Room,
 ) -> Result<Act, AllocError>
-    requires { IsSome (call_act acts.Replaces (value_at code.now vars.now callee) (values_at code.now vars.now arguments.now)) }
-    ensures { IfOk result (λ act. call_act acts.Replaces (value_at code.now vars.now callee) (values_at code.now vars.now arguments.now) ≡ Some (asked act (lists_of room.new))) }
+    requires { IsSome (tailcall_act (value_at code.now vars.now callee) (values_at code.now vars.now arguments.now)) }
+    ensures { IfOk result (λ act. tailcall_act (value_at code.now vars.now callee) (values_at code.now vars.now arguments.now) ≡ Some (asked act (lists_of room.new))) }
 {
     read_values(code, vars, arguments, &mut room.values)?;
     match scalar(code, vars, callee) {
@@ -148,8 +146,8 @@ pub fn ret(
 /// THROW
 #[tactic(auto, using(crate::specs::OperandLaws::operands))]
 pub fn throw(code: &Checked, vars: &Variables, exception: Source) -> Act
-    requires { IsSome (scalar_act acts.Throws (value_at code.now vars.now exception)) }
-    ensures { (ls : Lists) → scalar_act acts.Throws (value_at code.now vars.now exception) ≡ Some (asked result ls) }
+    requires { IsSome (throw_act (value_at code.now vars.now exception)) }
+    ensures { (ls : Lists) → throw_act (value_at code.now vars.now exception) ≡ Some (asked result ls) }
 {
     Act::Throws(scalar(code, vars, exception))
 }

@@ -14,7 +14,7 @@ use crate::computing::{binary, compare, convert, extractvalue, insertvalue, refc
 use crate::control::{branch, branch2, call, ret, switch, tailcall, throw};
 use crate::objects::{getelemiref, getfieldiref, getiref, getvarpartiref, newhybrid, shiftiref};
 use crate::room::Room;
-use crate::stacks::{newthread, swap_killing, swap_returning};
+use crate::stack_forms::{newthread, swap_killing, swap_returning};
 use crate::trapping::{trap, watchpoint, wpbranch};
 use crate::variables::Variables;
 use bundle_check::Checked;

@@ -15,7 +15,7 @@ mod objects;
 mod operands;
 mod parts;
 mod room;
-mod stacks;
+mod stack_forms;
 mod trapping;
 mod variables;
 mod way;

@@ -2,10 +2,7 @@
 ghost use Rattle.std.specs.Prelude.{◌≡◌, Some, IsSome};
 ghost use Rattle.mu_values.specs.Integers.{IsInteger, signed};
 ghost use Rattle.bundle_check.specs.Checking.{bundle_tables};
-ghost use Rattle.typed_heap.specs.Places as places;
-ghost use Rattle.mu_model.specs.Acts as acts;
-ghost use Rattle.mu_model.specs.ComputationForms.{scalar_act};
-ghost use Rattle.mu_model.specs.ObjectForms.{newhybrid_act, getiref_act, find_by_act};
+ghost use Rattle.mu_model.specs.ObjectForms.{newhybrid_act, getiref_act, getfieldiref_act, getelemiref_act, shiftiref_act, getvarpartiref_act};
 ghost use Rattle.model_numbers.specs.Sources.{value_at};
 ghost use Rattle.step_forms.specs.Asked.{asked, Lists};
 
@@ -58,8 +55,8 @@ pub fn getfieldiref(
     field: usize,
     location: Source,
 ) -> Act
-    requires { IsSome (scalar_act (acts.Finds (places.Field class field)) (value_at code.now vars.now location)) }
-    ensures { (ls : Lists) → scalar_act (acts.Finds (places.Field class field)) (value_at code.now vars.now location) ≡ Some (asked result ls) }
+    requires { IsSome (getfieldiref_act class field (value_at code.now vars.now location)) }
+    ensures { (ls : Lists) → getfieldiref_act class field (value_at code.now vars.now location) ≡ Some (asked result ls) }
 {
     Act::Finds {
         way: Way::Field { class, field },
@@ -91,8 +88,8 @@ pub fn getelemiref(
     location: Source,
     index: Source,
 ) -> Act
-    requires { IsSome (find_by_act (bundle_tables code.now) (places.Element class) index_class (value_at code.now vars.now location) (value_at code.now vars.now index)) }
-    ensures { (ls : Lists) → find_by_act (bundle_tables code.now) (places.Element class) index_class (value_at code.now vars.now location) (value_at code.now vars.now index) ≡ Some (asked result ls) }
+    requires { IsSome (getelemiref_act (bundle_tables code.now) class index_class (value_at code.now vars.now location) (value_at code.now vars.now index)) }
+    ensures { (ls : Lists) → getelemiref_act (bundle_tables code.now) class index_class (value_at code.now vars.now location) (value_at code.now vars.now index) ≡ Some (asked result ls) }
 {
     match scalar(code, vars, index) {
         Scalar::Int { width, bits } => Act::Finds {
@@ -116,8 +113,8 @@ pub fn shiftiref(
     location: Source,
     offset: Source,
 ) -> Act
-    requires { IsSome (find_by_act (bundle_tables code.now) (places.Shift class) offset_class (value_at code.now vars.now location) (value_at code.now vars.now offset)) }
-    ensures { (ls : Lists) → find_by_act (bundle_tables code.now) (places.Shift class) offset_class (value_at code.now vars.now location) (value_at code.now vars.now offset) ≡ Some (asked result ls) }
+    requires { IsSome (shiftiref_act (bundle_tables code.now) class offset_class (value_at code.now vars.now location) (value_at code.now vars.now offset)) }
+    ensures { (ls : Lists) → shiftiref_act (bundle_tables code.now) class offset_class (value_at code.now vars.now location) (value_at code.now vars.now offset) ≡ Some (asked result ls) }
 {
     match scalar(code, vars, offset) {
         Scalar::Int { width, bits } => Act::Finds {
@@ -134,8 +131,8 @@ pub fn shiftiref(
 /// GETVARPARTIREF
 #[tactic(auto, using(crate::specs::OperandLaws::operands))]
 pub fn getvarpartiref(code: &Checked, vars: &Variables, class: u32, location: Source) -> Act
-    requires { IsSome (scalar_act (acts.Finds (places.VarPart class)) (value_at code.now vars.now location)) }
-    ensures { (ls : Lists) → scalar_act (acts.Finds (places.VarPart class)) (value_at code.now vars.now location) ≡ Some (asked result ls) }
+    requires { IsSome (getvarpartiref_act class (value_at code.now vars.now location)) }
+    ensures { (ls : Lists) → getvarpartiref_act class (value_at code.now vars.now location) ≡ Some (asked result ls) }
 {
     Act::Finds {
         way: Way::VarPart { class },

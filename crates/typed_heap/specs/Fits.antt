@@ -1,11 +1,13 @@
 -- To believe: which values fit a type, among the objects, functions, stacks and threads that there are.
-use Rattle.std.specs.Prelude.{◌≡◌, ℕ, ◌/◌, ◌<◌, ◌^◌, Bool, true, false, ◌&&◌, ◌||◌, ◌==◌, nat_lt, List, [], ◌∷◌, Option, Some, None, IsSomeAnd, length, drop, slice_get, bytes_eq}
+use Rattle.std.specs.Prelude.{◌≡◌, ℕ, ◌/◌, ◌<◌, ◌^◌, Bool, true, false, ◌&&◌, ◌||◌, ◌==◌, nat_lt, List, [], ◌∷◌, Option, Some, None, IsSomeAnd, length, drop, map, slice_get, bytes_eq}
 use Rattle.type_laws.specs.declared.definition.TypeDef.{TypeDef}
 use Rattle.type_laws.specs.declared.definition.TypeDef.TheVariants as types
 use Rattle.type_laws.specs.Leaves.{times}
 use Rattle.type_laws.specs.Class.{class_of}
 use Rattle.mu_values.specs.declared.scalars.Scalar.{Scalar}
 use Rattle.mu_values.specs.declared.scalars.Scalar.TheVariants.{Int, Null, Object, Place, Func, Stack, Thread}
+use Rattle.check_tables.specs.declared.tables.Tables.{Tables}
+use Rattle.check_tables.specs.Lookups.{noted_signature}
 use Rattle.check_tables.specs.TypeTests.{repeated_of}
 use Rattle.typed_heap.specs.Objects.{HeapObject, leaf_classes}
 
@@ -41,6 +43,10 @@ pub record World : Type 0 where
   pub signatures : List ℕ
   pub stacks : ℕ
   pub threads : ℕ
+
+-- the class of the signature of each function of a bundle
+abbrev pub signature_classes : Tables → List ℕ
+signature_classes p = map (λ s. noted_signature (slice_get p.signatures s)) p.functions
 
 -- A scalar of a type that is its own leaf: an integer below 2^width; NULL, or an object, a place or a function that fits what the type
 -- refers to; a stack or a thread that was made.
