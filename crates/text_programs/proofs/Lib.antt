@@ -1,3 +1,5 @@
 pub mod Texts
 pub mod Entered
+pub mod Endings
 pub mod Moments
+pub mod RunLogs

@@ -1,3 +1,4 @@
 pub mod Laws
 pub mod Moments
 pub mod Lines
+pub mod RunLogs

@@ -1,7 +1,8 @@
 // What holds of every text that is read and accepted.
 ghost use Rattle.text_programs.specs.Laws.{BundlesThatAreReadHaveBlocks, TextsAreTyped, RunsOfTextsHaveAnEnding, RunsOfTextsNeverBreak, PlainSettingsFit, EnteredRunsHaveAnEnding};
 ghost use Rattle.text_programs.specs.Lines.{LinesDoNotMix};
-ghost use Rattle.text_programs.specs.Moments.{MomentsOfTextsAreSound};
+ghost use Rattle.text_programs.specs.Moments.{MomentsOfTextsAreSound, EndingsOfTextsAreSound, MomentsOfTextsAreSmall};
+ghost use Rattle.text_programs.specs.RunLogs.{LinesTellTheLog, RunsOfTextsLeaveSoundLogs, RuleStays};
 
 /// Each function that is defined in a bundle that is read has a block.
 pub fn bundles_that_are_read_have_blocks()
@@ -27,12 +28,41 @@ pub fn entered_runs_have_an_ending()
 {}
 
 /// At each moment of the run of a function that may be entered, in a setting that fits, the log meets the axioms of memory, no two of its
-/// events race, each of its reads was an option of its past, and the next step has a rule.
+/// events race, each of its reads was an option of its past, no two threads are on one stack and no thread is on two, the next step has a
+/// rule, and where that step gives the ending the log that is left is sound too.
 pub fn moments_are_sound()
     ensures { MomentsOfTextsAreSound }
+{}
+
+/// Where such a run ends, its last step has logged nothing, or that a thread left the stack on which it stood, as it does at a trap; and
+/// the log that is left meets the axioms of memory, no two of its events race, and each of its reads was an option of its past.
+pub fn endings_are_sound()
+    ensures { EndingsOfTextsAreSound }
+{}
+
+/// At each such moment the numbers of events, objects, stacks, threads and frames fit 32 bits, where the run may make a million steps at
+/// most and the objects that it is given leave room for a million more.
+pub fn moments_are_small()
+    ensures { MomentsOfTextsAreSmall }
 {}
 
 /// What a step does, and which lines it writes, is the same whatever lines an earlier step wrote.
 pub fn lines_do_not_mix()
     ensures { LinesDoNotMix }
+{}
+
+/// The lines of a step that goes on tell, in order, exactly the events that it logs. So it is of every program.
+pub fn lines_tell_the_log()
+    ensures { LinesTellTheLog }
+{}
+
+/// The run of a function that may be entered, in a setting that fits, leaves behind its last moment the log that all its lines tell. That
+/// log meets the axioms of memory, no two of its events race, and each of its reads was an option of its past.
+pub fn runs_leave_sound_logs()
+    ensures { RunsOfTextsLeaveSoundLogs }
+{}
+
+/// Each moment of a run goes by the rule of release sequences that the run is given. So it is of every program.
+pub fn rule_stays()
+    ensures { RuleStays }
 {}

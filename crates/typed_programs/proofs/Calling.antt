@@ -10,9 +10,9 @@ use Rattle.bundle_check.specs.declared.code.Function.{Function}
 use Rattle.bundle_check.specs.Checking.{bundle_tables, bundle_functions}
 use Rattle.code_check.specs.declared.code.Source.{Source}
 use Rattle.code_check.specs.Typed.{SourceFits, HasSignature}
-use Rattle.typed_heap.specs.Fits.{DefinitionFits}
+use Rattle.typed_heap.specs.Fits.{DefinitionFits, signature_classes}
 use Rattle.typed_heap.specs.Places.{with_some}
-use Rattle.mu_model.specs.Types.{signature_classes, classes_taken, classes_given}
+use Rattle.mu_model.specs.Types.{classes_taken, classes_given}
 use Rattle.mu_model.specs.Operands.{scalar_in}
 use Rattle.model_laws.specs.ActsFit.{IsFunction}
 use Rattle.model_laws.proofs.Basics.{some_is, some_more}

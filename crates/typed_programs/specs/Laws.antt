@@ -9,6 +9,7 @@ use Rattle.mu_model.specs.Types.{type_graph, classes_taken}
 use Rattle.mu_model.specs.Configuration.{Configuration}
 use Rattle.mu_model.specs.Programs.{named}
 use Rattle.mu_model.specs.Run.{Setting, Breaks, global_objects, first_configuration, program_run}
+use Rattle.model_numbers.specs.Numbered.{numbered}
 use Rattle.model_laws.specs.Values.{HasGlobals}
 use Rattle.model_laws.specs.Programs.{IsTyped}
 use Rattle.model_laws.specs.LogFits.{ObjectFits}
@@ -25,6 +26,10 @@ OfAcceptedWithBlocks holds = (bundle : List Item) → first_unmet (name_demands 
 -- it is a well-typed program: with values that fit the variables of a place, the instruction there does what fits
 abbrev pub AcceptedIsTyped : Type 0
 AcceptedIsTyped = OfAcceptedWithBlocks (λ bundle. IsTyped (named bundle) (places_of bundle))
+
+-- and so it is by the numbers of its checked code, with the same types of its variables
+abbrev pub NumberedIsTyped : Type 0
+NumberedIsTyped = OfAcceptedWithBlocks (λ bundle. IsTyped (numbered bundle) (places_of bundle))
 
 -- ---- runs
 

@@ -4,4 +4,7 @@
 
 mod laws;
 
-pub use laws::{accepted_bundles_are_typed, plain_runs_never_break, runs_never_break};
+pub use laws::{
+    accepted_bundles_are_typed, numbered_bundles_are_typed, plain_runs_never_break,
+    runs_never_break,
+};

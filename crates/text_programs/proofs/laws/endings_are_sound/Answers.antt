@@ -1,0 +1,5 @@
+use Rattle.text_programs.proofs.Moments.{endings_are_sound}
+use Rattle.text_programs.proofs.laws.endings_are_sound.Goals as goal
+
+pub returns : goal.returns
+returns c = endings_are_sound

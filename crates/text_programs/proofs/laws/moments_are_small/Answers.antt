@@ -1,0 +1,5 @@
+use Rattle.text_programs.proofs.Moments.{moments_are_small}
+use Rattle.text_programs.proofs.laws.moments_are_small.Goals as goal
+
+pub returns : goal.returns
+returns c = moments_are_small

@@ -1,0 +1,5 @@
+use Rattle.text_programs.proofs.RunLogs.{rule_stays}
+use Rattle.text_programs.proofs.laws.rule_stays.Goals as goal
+
+pub returns : goal.returns
+returns c = rule_stays
