@@ -28,15 +28,15 @@ use Rattle.seats.specs.Seats.{Seats, IsReady, IsReadyFor}
 use Rattle.step_forms.specs.Asked.{entering_of}
 use Rattle.step_forms.specs.declared.entering.Entering as asked
 use Rattle.step_forms.specs.declared.entering.Entering.TheVariants as asked_to
+use Rattle.thread_acts.specs.Held.{Held}
+use Rattle.thread_acts.specs.Acting.{answers, acting, goes_on, gets, Awaited, with_awaited, awaits, objects_end}
+use Rattle.thread_acts.specs.StepLaws.{some_of, some_there, with_there, get_below}
+use Rattle.thread_acts.specs.ActLaws.{gets_there}
+use Rattle.thread_acts.proofs.Passing.{handled}
 use Rattle.mu_step.specs.declared.arriving.Arrival.{Arrival}
-use Rattle.mu_step.specs.Held.{Held}
-use Rattle.mu_step.specs.Acting.{answers, acting, goes_on, gets, Awaited, with_awaited, awaits, objects_end}
 use Rattle.mu_step.specs.Entering.{entered_by, landed, arrives, handed, frames_at, IsMoved, swapped, swapped_with, left_dead}
-use Rattle.mu_step.specs.StepLaws.{some_of, some_there, with_there, get_below}
-use Rattle.mu_step.specs.ActLaws.{gets_there}
 use Rattle.mu_step.specs.EnteringLaws.{values_there, values_enter, thrown_there, thrown_enters, misfits, takes_so}
 use Rattle.mu_step.specs.SwapLaws.{at_stack, entry, leaves, frames_objects, one_told, Moved, ready_frames, frames_are, swap_awaits, swap_looks, swap_goes, swapped_with_is, swapped_lines, leave_looks, leave_goes, left_is}
-use Rattle.mu_step.proofs.Passing.{handled}
 
 -- ---- values that a stack is entered with
 

@@ -20,12 +20,12 @@ use Rattle.mu_model.specs.Configuration.{Stack, Ready, Active}
 use Rattle.mu_model.specs.Exceptions.{EnteredFrames}
 use Rattle.mu_model.specs.Outcomes.{Stuck}
 use Rattle.seats.specs.Seats.{Seats, IsReady}
+use Rattle.thread_acts.specs.Held.{Held}
+use Rattle.thread_acts.specs.Acting.{answers, acting, goes_on, objects_end}
+use Rattle.thread_acts.specs.Hand.{IsSound}
 use Rattle.mu_step.specs.declared.arriving.Arrival.{Arrival}
-use Rattle.mu_step.specs.Held.{Held}
-use Rattle.mu_step.specs.Acting.{answers, acting, goes_on, objects_end}
 use Rattle.mu_step.specs.Entering.{entered_by, arrives, frames_at, IsStarted, begins}
 use Rattle.mu_step.specs.SwapLaws.{frames_objects, two_told, frames_are}
-use Rattle.mu_step.specs.Hand.{IsSound}
 use Rattle.mem_axioms.specs.EventFits.{is_thread, EventFits}
 use Rattle.mu_step.specs.StartLaws.{at_thread, makes, enters_new, new_thread, Begun, begun_is, start_looks, start_results, start_goes, made_fits, started_sound}
 use Rattle.mu_step.proofs.EnteringViews.{lands_by}

@@ -38,16 +38,16 @@ use Rattle.mu_model.specs.Exceptions.{EnteredFrames}
 use Rattle.mu_model.specs.EnteringStacks.{on_stack, enters, leaving, ready}
 use Rattle.mu_model.specs.Outcomes.{Outcome, Next, End, Asks, Stuck}
 use Rattle.seats.specs.Seats.{Seats, IsOn, IsReady, WaitsFor, left_ready}
+use Rattle.thread_acts.specs.Held.{Held, held_stacks}
+use Rattle.thread_acts.specs.Outcome.{Stays}
+use Rattle.thread_acts.specs.Acting.{answers, told, trapping, undefined_at, begun, turn, Awaited, with_awaited, awaits, objects_end}
+use Rattle.thread_acts.specs.Hand.{IsSound, ended_sound, logged_sound}
+use Rattle.thread_acts.specs.StepLaws.{set_again, set_there, set_same}
 use Rattle.mu_step.specs.declared.arriving.Arrival.{Arrival}
 use Rattle.mu_step.specs.declared.arriving.Found.{Found}
 use Rattle.mu_step.specs.declared.arriving.Found.TheVariants.{Lands, Refused}
-use Rattle.mu_step.specs.Held.{Held, held_stacks}
-use Rattle.mu_step.specs.Outcome.{Stays}
-use Rattle.mu_step.specs.Acting.{answers, told, trapping, undefined_at, begun, turn, Awaited, with_awaited, awaits, objects_end}
 use Rattle.mu_step.specs.Entering.{nothing, entered_by, arrives, found, IsPlain, landed, frames_at, IsMoved, swapped_with}
 use Rattle.mu_step.specs.Trapping.{Change, waiting_frames, seen, note_of, changed_by, replying, past, entering_then}
-use Rattle.mu_step.specs.Hand.{IsSound, ended_sound, logged_sound}
-use Rattle.mu_step.specs.StepLaws.{set_again, set_there, set_same}
 use Rattle.mu_step.specs.SwapLaws.{at_stack, entry, leaves, frames_objects, Moved, swapped_with_is}
 use Rattle.mu_step.specs.EnteringLaws.{swapped_sound, waits_there}
 use Rattle.mu_step.specs.TrapLaws.{answers_ended, reply_exits, reply_stops, trap_answered, trap_replies, resume_enters, resume_goes, resume_refuses, rebind_looks, rebind_goes, rebind_refuses, rebind_not_ready}

@@ -23,14 +23,14 @@ use Rattle.mu_model.specs.Configuration.{Stack, Active, Thread}
 use Rattle.mu_model.specs.Outcomes.{Stuck, case_of_fault}
 use Rattle.mu_model.specs.Waiting.{without, was_woken}
 use Rattle.seats.specs.Seats.{Seats, seat_of, IsOn, oldest_at}
-use Rattle.mu_step.specs.Held.{Held}
-use Rattle.mu_step.specs.Acting.{answers, acting, goes_on}
-use Rattle.mu_step.specs.Hand.{IsSound}
-use Rattle.mu_step.specs.StepLaws.{GoesOn, set_there, get_below, some_there, some_of, with_there, with_is, set_again}
-use Rattle.mu_step.specs.FutexLaws.{found_or}
+use Rattle.thread_acts.specs.Held.{Held}
+use Rattle.thread_acts.specs.Acting.{answers, acting, goes_on}
+use Rattle.thread_acts.specs.Hand.{IsSound}
+use Rattle.thread_acts.specs.StepLaws.{GoesOn, set_there, get_below, some_there, some_of, with_there, with_is, set_again}
+use Rattle.thread_acts.specs.FutexLaws.{found_or}
+use Rattle.thread_acts.proofs.FutexViews.{answers_lines}
 use Rattle.mu_step.specs.Waking.{frames_at, behind, stood, goes_behind, all_go, AreDistinct, wake_event, woken_event, logs_woken, woken_lines, AreThreads}
 use Rattle.mu_step.specs.WakeLaws.{IsSeated, seated_from, seated_at, goes_from, goes_at, go_last, woken_threads, next_wakes, logs_same, logs_many, all_go_many, all_threads, waking_at, woken_of, woke, Wakes, wakes, wake_cell_there, wake_is}
-use Rattle.mu_step.proofs.FutexViews.{answers_lines}
 
 -- ---- where a thread goes on that is woken
 

@@ -17,11 +17,11 @@ use Rattle.mu_model.specs.EnteringStacks.{entered, on_stack, enters, leaving, st
 use Rattle.mu_model.specs.Outcomes.{Outcome, Next}
 use Rattle.model_numbers.specs.Numbered.{numbered}
 use Rattle.seats.specs.Seats.{Seats, IsOn}
+use Rattle.thread_acts.specs.Held.{Held}
+use Rattle.thread_acts.specs.Acting.{begun, turn, is_fault}
 use Rattle.mu_step.specs.declared.arriving.Arrival.{Arrival}
 use Rattle.mu_step.specs.declared.arriving.Found.{Found}
 use Rattle.mu_step.specs.declared.arriving.Found.TheVariants.{Lands, Refused}
-use Rattle.mu_step.specs.Held.{Held}
-use Rattle.mu_step.specs.Acting.{begun, turn, is_fault}
 
 -- ---- where a stack that is entered goes on
 

@@ -27,12 +27,12 @@ use Rattle.mu_model.specs.Exceptions.{EnteredFrames, unwinding}
 use Rattle.mu_model.specs.EnteringStacks.{on_stack}
 use Rattle.model_numbers.specs.Numbered.{numbered}
 use Rattle.seats.specs.Seats.{Seats, IsOn, Takes, IsReadyFor, WaitsFor, left_ready, bound_to}
-use Rattle.mu_step.specs.Acting.{goes_on, gets}
+use Rattle.thread_acts.specs.Acting.{goes_on, gets}
+use Rattle.thread_acts.specs.Hand.{IsSound, frames_back}
+use Rattle.thread_acts.specs.StepLaws.{some_there, some_of, with_there, with_is, get_below, set_again, set_there}
+use Rattle.thread_acts.specs.ActLaws.{drop_at}
+use Rattle.thread_acts.specs.Unwinding.{catches_first, uncaught}
 use Rattle.mu_step.specs.Entering.{entered_by, landed, handed, IsMoved}
-use Rattle.mu_step.specs.Hand.{IsSound, frames_back}
-use Rattle.mu_step.specs.StepLaws.{some_there, some_of, with_there, with_is, get_below, set_again, set_there}
-use Rattle.mu_step.specs.ActLaws.{drop_at}
-use Rattle.mu_step.specs.Unwinding.{catches_first, uncaught}
 
 -- ---- values that enter the top frame
 

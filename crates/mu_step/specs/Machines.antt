@@ -13,9 +13,9 @@ use Rattle.mu_model.specs.Step.{step}
 use Rattle.model_numbers.specs.Laws.{ProgramsAreSame}
 use Rattle.model_numbers.specs.Numbered.{numbered}
 use Rattle.mu_model.specs.Run.{client_answers}
-use Rattle.mu_step.specs.Outcome.{outcome_of}
-use Rattle.mu_step.specs.Held.{Held, configuration}
-use Rattle.mu_step.specs.Acting.{told}
+use Rattle.thread_acts.specs.Outcome.{outcome_of}
+use Rattle.thread_acts.specs.Held.{Held, configuration}
+use Rattle.thread_acts.specs.Acting.{told}
 
 -- a step by numbers is one by names
 pub steps_there : (bundle : List Item) (c : Configuration) → ProgramsAreSame → first_unmet (name_demands bundle) ≡ None → first_unmet (check_demands bundle) ≡ None

@@ -30,14 +30,14 @@ use Rattle.mu_model.specs.Frames.{passed}
 use Rattle.mu_model.specs.Outcomes.{Outcome, Next, End, Stuck, on, onto, faulted, has_result}
 use Rattle.model_numbers.specs.Numbered.{numbered}
 use Rattle.seats.specs.Seats.{Seats, IsOn, IsReady, IsReadyFor, bound_to}
-use Rattle.mu_step.specs.Outcome.{outcome_of}
-use Rattle.mu_step.specs.Held.{Held, ahead, held_stacks, configuration}
-use Rattle.mu_step.specs.Acting.{begun, turn, doing_of, answers, acting, faulting, is_fault, undefined_at, goes_on, objects_end}
+use Rattle.thread_acts.specs.Outcome.{outcome_of}
+use Rattle.thread_acts.specs.Held.{Held, ahead, held_stacks, configuration}
+use Rattle.thread_acts.specs.Acting.{begun, turn, doing_of, answers, acting, faulting, is_fault, undefined_at, goes_on, objects_end}
+use Rattle.thread_acts.specs.Hand.{IsSound}
+use Rattle.thread_acts.specs.StepLaws.{on_there, on_is, some_there, with_there, set_again, configuration_left, acting_there, acting_is}
+use Rattle.thread_acts.specs.ActLaws.{onto_is, onto_there}
 use Rattle.mu_step.specs.Entering.{entered_by, frames_at, IsStarted, begins}
 use Rattle.mu_step.specs.EnteringLaws.{set_long, set_changed, moved_low, taken_up}
-use Rattle.mu_step.specs.Hand.{IsSound}
-use Rattle.mu_step.specs.StepLaws.{on_there, on_is, some_there, with_there, set_again, configuration_left, acting_there, acting_is}
-use Rattle.mu_step.specs.ActLaws.{onto_is, onto_there}
 use Rattle.mu_step.specs.SwapLaws.{Going, enters_with, enter_ready, enter_there, enter_not_ready, enter_refused, enter_is, other_ready, ready_frames, parts, frames_objects}
 
 -- ---- one thread more

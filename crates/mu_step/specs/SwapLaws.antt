@@ -25,13 +25,13 @@ use Rattle.mu_model.specs.Outcomes.{Outcome, Next, End, Stuck, on, tried}
 use Rattle.mu_model.specs.Turns.{waiting}
 use Rattle.model_numbers.specs.Numbered.{numbered}
 use Rattle.seats.specs.Seats.{Seats, IsReady, IsActiveOrDead}
-use Rattle.mu_step.specs.Outcome.{outcome_of}
-use Rattle.mu_step.specs.Held.{Held, ahead, held_stacks, configuration}
-use Rattle.mu_step.specs.Acting.{left_configuration, begun, turn, doing_of, answers, acting, is_fault, undefined_at, Awaited, with_awaited, awaited_by, awaits, objects_end}
+use Rattle.thread_acts.specs.Outcome.{outcome_of}
+use Rattle.thread_acts.specs.Held.{Held, ahead, held_stacks, configuration}
+use Rattle.thread_acts.specs.Acting.{left_configuration, begun, turn, doing_of, answers, acting, is_fault, undefined_at, Awaited, with_awaited, awaited_by, awaits, objects_end}
+use Rattle.thread_acts.specs.StepLaws.{on_there, on_is, some_there, some_of, with_is, set_again, set_there, get_below, configuration_left, acting_there, acting_is}
+use Rattle.thread_acts.specs.ActLaws.{refused_plainly, tried_there, tried_is, waits_by, waits_there}
 use Rattle.mu_step.specs.Entering.{nothing, entered_by, frames_at, IsMoved, swapped, swapped_with, left_dead}
 use Rattle.mu_step.specs.EnteringLaws.{set_other}
-use Rattle.mu_step.specs.StepLaws.{on_there, on_is, some_there, some_of, with_is, set_again, set_there, get_below, configuration_left, acting_there, acting_is}
-use Rattle.mu_step.specs.ActLaws.{refused_plainly, tried_there, tried_is, waits_by, waits_there}
 
 -- ---- the stack that is to be entered
 

@@ -36,14 +36,14 @@ use Rattle.mu_model.specs.Traps.{is_among, watch, taken, enters_by, replied, ans
 use Rattle.mu_model.specs.Turns.{Turn, waiting}
 use Rattle.model_numbers.specs.Numbered.{numbered}
 use Rattle.seats.specs.Seats.{IsReady}
-use Rattle.mu_step.specs.Held.{Held, held_stacks, configured, configuration}
-use Rattle.mu_step.specs.Outcome.{outcome_of}
-use Rattle.mu_step.specs.Acting.{begun, turn, doing_of, told, answers, acting, trapping, is_fault, undefined_at, Awaited, with_awaited, awaited_by, awaits}
+use Rattle.thread_acts.specs.Held.{Held, held_stacks, configured, configuration}
+use Rattle.thread_acts.specs.Outcome.{outcome_of}
+use Rattle.thread_acts.specs.Acting.{begun, turn, doing_of, told, answers, acting, trapping, is_fault, undefined_at, Awaited, with_awaited, awaited_by, awaits}
+use Rattle.thread_acts.specs.StepLaws.{told_so, on_there, on_is, some_there, some_of, with_is, set_again, set_there, get_below}
+use Rattle.thread_acts.specs.ActLaws.{goes_is, waits_by, waits_there}
 use Rattle.mu_step.specs.Entering.{nothing, entered_by, frames_at}
 use Rattle.mu_step.specs.Trapping.{Change, waiting_frames, seen, note_of, changed_by, replying, past, entering_then}
 use Rattle.mu_step.specs.EnteringLaws.{set_other, set_long}
-use Rattle.mu_step.specs.StepLaws.{told_so, on_there, on_is, some_there, some_of, with_is, set_again, set_there, get_below}
-use Rattle.mu_step.specs.ActLaws.{goes_is, waits_by, waits_there}
 use Rattle.mu_step.specs.SwapLaws.{ready_frames}
 
 -- ---- acts by which the client may be asked

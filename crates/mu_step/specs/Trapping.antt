@@ -15,8 +15,8 @@ use Rattle.mu_model.specs.Outcomes.{Outcome, Next, View, on}
 use Rattle.mu_model.specs.Run.{with_client}
 use Rattle.mu_model.specs.Traps.{trap_note, taken, replied}
 use Rattle.model_numbers.specs.Numbered.{numbered}
-use Rattle.mu_step.specs.Held.{Held}
-use Rattle.mu_step.specs.Acting.{begun, turn, doing_of, with_awaited, Awaited}
+use Rattle.thread_acts.specs.Held.{Held}
+use Rattle.thread_acts.specs.Acting.{begun, turn, doing_of, with_awaited, Awaited}
 use Rattle.mu_step.specs.Entering.{nothing}
 
 -- what an answer changes before its reply: the watchpoints that are enabled, and the lines so far

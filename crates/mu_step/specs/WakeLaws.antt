@@ -28,10 +28,10 @@ use Rattle.mu_model.specs.Turns.{Turn, active_on, turn_at, turn_of}
 use Rattle.mu_model.specs.Waiting.{is_at, is_of, without, was_woken, wakes_one, wakes_all, wakes_these}
 use Rattle.model_numbers.specs.Numbered.{numbered}
 use Rattle.seats.specs.Seats.{AreApart, threads_of, oldest_at}
-use Rattle.mu_step.specs.Held.{Held, held_stacks}
-use Rattle.mu_step.specs.Acting.{begun, turn, doing_of, went_with, acting, goes_on}
-use Rattle.mu_step.specs.FutexLaws.{found_or, tried_found, tried_at}
-use Rattle.mu_step.specs.StepLaws.{set_again, set_there, get_below, on_there, on_is, with_there, with_is, acting_there, acting_is}
+use Rattle.thread_acts.specs.Held.{Held, held_stacks}
+use Rattle.thread_acts.specs.Acting.{begun, turn, doing_of, went_with, acting, goes_on}
+use Rattle.thread_acts.specs.FutexLaws.{found_or, tried_found, tried_at}
+use Rattle.thread_acts.specs.StepLaws.{set_again, set_there, get_below, on_there, on_is, with_there, with_is, acting_there, acting_is}
 use Rattle.mu_step.specs.Waking.{frames_at, behind, goes_behind, all_go, IsOther, AreDistinct, wake_event, woken_event, logs_woken, woken_lines, AreThreads}
 
 -- ---- lists with elements written

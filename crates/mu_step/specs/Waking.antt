@@ -14,7 +14,7 @@ use Rattle.mu_model.specs.Changes.{event}
 use Rattle.mu_model.specs.Configuration.{Stack, Active, Thread}
 use Rattle.mu_model.specs.Turns.{active_on}
 use Rattle.mu_model.specs.Waiting.{was_woken}
-use Rattle.mu_step.specs.Acting.{goes_on}
+use Rattle.thread_acts.specs.Acting.{goes_on}
 
 -- ---- threads that go on behind their waits
 

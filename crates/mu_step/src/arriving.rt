@@ -6,13 +6,10 @@ ghost use Rattle.frames.specs.Chains.{frames_of};
 ghost use Rattle.frames.specs.Handlers.{first_handler};
 ghost use Rattle.mu_model.specs.Acts as acts;
 ghost use Rattle.step_forms.specs.Asked.{entering_of};
-ghost use Rattle.mu_step.specs.Acting.{objects_end};
+ghost use Rattle.thread_acts.specs.Acting.{objects_end};
+ghost use Rattle.thread_acts.specs.Remembering.{initials};
 ghost use Rattle.mu_step.specs.Entering.{entered_by, arrives, found, IsPlain};
-ghost use Rattle.mu_step.specs.Remembering.{initials};
 
-use crate::exceptions::{add_exception, handler_goal};
-use crate::flow::{Place, passing, stand};
-use crate::objects::leave_frames;
 use bundle_check::Checked;
 use frames::{Frames, Unwound};
 use mu_base::Types;
@@ -20,6 +17,9 @@ use mu_model::Case;
 use mu_values::{Scalar, Slots};
 use std::alloc::AllocError;
 use step_forms::{Entering, Room};
+use thread_acts::exceptions::{add_exception, handler_goal};
+use thread_acts::flow::{Place, passing, stand};
+use thread_acts::objects::leave_frames;
 use typed_heap::Heap;
 
 /// How many frames end above the one that goes on, and where that stands.

@@ -5,9 +5,9 @@ ghost use Rattle.mu_model.specs.Programs.{named};
 ghost use Rattle.mu_model.specs.Outcomes.{Stuck};
 ghost use Rattle.mu_model.specs.Step.{step};
 ghost use Rattle.mu_model.specs.Run.{cells_taken, first_configuration, client_answers};
-ghost use Rattle.mu_step.specs.Outcome.{outcome_of, Stays};
+ghost use Rattle.thread_acts.specs.Outcome.{outcome_of, Stays};
 
-use crate::state::State;
+use crate::step::step;
 use bundle_check::Checked;
 use client_hooks::Determined;
 use mem_axioms::Memory;
@@ -18,6 +18,7 @@ use mu_values::Slots;
 use std::alloc::{AllocError, Global};
 use std::marker::Model;
 use step_forms::Room;
+use thread_acts::state::State;
 use typed_heap::Heap;
 
 /// A machine that runs checked code, over any memory and any client whose answers are a function of what it is shown. Contracts see the bundle and the configuration that its run has
@@ -35,7 +36,7 @@ pub struct Machine<'a, M: Memory, C: Determined> {
 impl<'a, M: Memory, C: Determined> Model for Machine<'a, M, C> {
     ghost use Rattle.std.specs.Prelude.{◌≡◌};
     ghost use Rattle.mu_step.specs.Running.{Running};
-    ghost use Rattle.mu_step.specs.Held.{configuration};
+    ghost use Rattle.thread_acts.specs.Held.{configuration};
 
     ghost Value = { Running };
 
@@ -48,7 +49,7 @@ impl<'a, M: Memory + Drop, C: Determined + Drop> Machine<'a, M, C> {
     /// A machine at the beginning of the run of a function: thread 0 stands on stack 0, where the function's first block begins. The
     /// run has the objects of the heap, which are to be those of the globals and then those that were loaded, and as many cells as the
     /// heap has left. The memory knows nothing yet, and brings the rule of release sequences. The budget is 1,000,000 steps at most.
-    #[tactic(auto, using(crate::specs::Starting::begins))]
+    #[tactic(auto, using(thread_acts::specs::Starting::begins))]
     pub fn new(
         alloc: Global,
         code: &'a Checked,
@@ -91,7 +92,12 @@ impl<'a, M: Memory + Drop, C: Determined + Drop> Machine<'a, M, C> {
         let _items = self.code.items();
         programs_are_same();
         let code = self.code;
-        self.state
-            .step(self.alloc, code, &mut self.room, &mut self.spare)
+        step(
+            &mut self.state,
+            self.alloc,
+            code,
+            &mut self.room,
+            &mut self.spare,
+        )
     }
 }

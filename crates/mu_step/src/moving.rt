@@ -10,8 +10,6 @@ ghost use Rattle.step_forms.specs.declared.entering.Entering.TheVariants as aske
 ghost use Rattle.seats.specs.Seats.{IsOn, IsReadyFor};
 ghost use Rattle.mu_step.specs.Entering.{handed, IsMoved, IsStarted};
 
-use crate::accessing::commit_other;
-use crate::results::taken;
 use frames::Frames;
 use mem_axioms::{Event, Memory};
 use mu_base::Types;
@@ -23,6 +21,8 @@ use std::alloc::{AllocError, Global};
 use std::marker::Brand;
 use std::sync::ledger::Blank;
 use step_forms::{Entering, Room};
+use thread_acts::accessing::commit_other;
+use thread_acts::results::taken;
 
 /// The same classes.
 pub(crate) fn copied(alloc: Global, types: &Types) -> Result<Types, AllocError>

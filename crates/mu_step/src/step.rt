@@ -2,17 +2,17 @@
 ghost use Rattle.std.specs.Prelude.{◌≡◌, ◌≢◌, ◌<◌, ◌≤◌, [], IsSome, Some, IfOk, OnErr, length, slice_get, true, false, List};
 ghost use Rattle.ir_tree.specs.declared.items.Item.{Item};
 ghost use Rattle.mu_model.specs.Clients.{Client};
-ghost use Rattle.mu_model.specs.Changes.{pick};
+ghost use Rattle.mu_threads.specs.Picks.{pick};
 ghost use Rattle.mu_model.specs.Outcomes.{Stuck};
 ghost use Rattle.mu_model.specs.Step.{step};
 ghost use Rattle.model_numbers.specs.Numbered.{numbered};
 ghost use Rattle.seats.specs.Seats.{seat_of, runnable_of};
-ghost use Rattle.mu_step.specs.Held.{Held, ahead, configuration};
-ghost use Rattle.mu_step.specs.Hand.{IsTakenUp, is_went};
-ghost use Rattle.mu_step.specs.Outcome.{outcome_of, Stays};
-ghost use Rattle.mu_step.specs.Acting.{answers, stepping, told};
+ghost use Rattle.thread_acts.specs.Held.{Held, ahead, configuration};
+ghost use Rattle.thread_acts.specs.Hand.{IsTakenUp, is_went};
+ghost use Rattle.thread_acts.specs.Outcome.{outcome_of, Stays};
+ghost use Rattle.thread_acts.specs.Acting.{answers, stepping, told};
 
-use crate::state::{State, ended};
+use crate::acts::run;
 use bundle_check::Checked;
 use client_hooks::Determined;
 use mem_axioms::Memory;
@@ -20,6 +20,7 @@ use mu_model::{Ending, StepEnd};
 use mu_values::Slots;
 use std::alloc::{AllocError, Global};
 use step_forms::Room;
+use thread_acts::state::{State, ended};
 
 /// Whether the step was made, and gave no ending.
 fn is_made(end: &Result<StepEnd, AllocError>) -> bool
@@ -28,153 +29,154 @@ fn is_made(end: &Result<StepEnd, AllocError>) -> bool
     matches!(end, Ok(StepEnd::Went(_)))
 }
 
-impl<M: Memory, C: Determined> State<M, C> {
-    /// The frames of a thread that is left come into the hand, where none are.
-    #[tactic(auto, using(crate::specs::Hand::lifted_up, crate::specs::Hand::lifted_sound))]
-    fn lift(&mut self, thread: u32)
-        requires empty { self.old.left ≡ false }
-        requires there { IsSome (seat_of self.old.seats thread) }
-        ensures { IsTakenUp self.old self.new thread }
-    {
-        let stack = self.seats.stack_of(thread);
-        self.seats.exchange(thread, stack, &mut self.frames);
-        self.thread = thread;
-        self.stack = stack;
-        self.left = true;
-    }
+/// The frames of a thread that is left come into the hand, where none are.
+#[tactic(auto, using(thread_acts::specs::Hand::lifted_up, thread_acts::specs::Hand::lifted_sound))]
+fn lift<M: Memory, C: Determined>(state: &mut State<M, C>, thread: u32)
+    requires empty { state.old.left ≡ false }
+    requires there { IsSome (seat_of state.old.seats thread) }
+    ensures { IsTakenUp state.old state.new thread }
+{
+    let stack = state.seats.stack_of(thread);
+    state.seats.exchange(thread, stack, &mut state.frames);
+    state.thread = thread;
+    state.stack = stack;
+    state.left = true;
+}
 
-    /// The frames of a thread that is left come into the hand.
-    #[tactic(auto, using(crate::specs::Hand::taken_already, crate::specs::Hand::taken_then))]
-    fn take_up(&mut self, thread: u32)
-        requires { IsSome (seat_of self.old.seats thread) }
-        ensures { IsTakenUp self.old self.new thread }
-    {
-        if self.left {
-            if self.thread == thread {
-                return;
-            }
-            self.put_down();
+/// The frames of a thread that is left come into the hand.
+#[tactic(auto, using(thread_acts::specs::Hand::taken_already, thread_acts::specs::Hand::taken_then))]
+fn take_up<M: Memory, C: Determined>(state: &mut State<M, C>, thread: u32)
+    requires { IsSome (seat_of state.old.seats thread) }
+    ensures { IsTakenUp state.old state.new thread }
+{
+    if state.left {
+        if state.thread == thread {
+            return;
         }
-        self.lift(thread);
+        state.put_down();
     }
+    lift(state, thread);
+}
 
-    /// Picks one of so many threads, and takes it up. The pick is looked at, and not taken yet.
-    #[tactic(auto, using(crate::specs::Hand::picks_thread))]
-    fn pick_thread(&mut self, many: u32)
-        requires many { many ≡ length (runnable_of self.old.seats) }
-        requires some { 0 < many }
-        requires room { self.old.steps < self.old.budget }
-        requires whole { self.old.skip ≡ 0 }
-        ensures left { self.new.left ≡ true }
-        ensures room { self.new.steps < self.new.budget }
-        ensures back { configuration (record self.new { skip = 0 }) ≡ configuration self.old }
-        ensures client { self.new.client ≡ self.old.client }
-        ensures step { (bundle : List Item) → step (numbered bundle) (configuration self.old) ≡ stepping bundle self.new }
-    {
-        let picked = self.picks.look(0, many);
-        let thread = self.seats.nth_runnable(picked);
-        self.take_up(thread);
-        self.skip = if many > 1 { 1 } else { 0 };
-    }
+/// Picks one of so many threads, and takes it up. The pick is looked at, and not taken yet.
+#[tactic(auto, using(thread_acts::specs::Hand::picks_thread))]
+fn pick_thread<M: Memory, C: Determined>(state: &mut State<M, C>, many: u32)
+    requires many { many ≡ length (runnable_of state.old.seats) }
+    requires some { 0 < many }
+    requires room { state.old.steps < state.old.budget }
+    requires whole { state.old.skip ≡ 0 }
+    ensures left { state.new.left ≡ true }
+    ensures room { state.new.steps < state.new.budget }
+    ensures back { configuration (record state.new { skip = 0 }) ≡ configuration state.old }
+    ensures client { state.new.client ≡ state.old.client }
+    ensures step { (bundle : List Item) → step (numbered bundle) (configuration state.old) ≡ stepping bundle state.new }
+{
+    let picked = state.picks.look(0, many);
+    let thread = state.seats.nth_runnable(picked);
+    take_up(state, thread);
+    state.skip = if many > 1 { 1 } else { 0 };
+}
 
-    /// The picks that were looked at are taken where the step was made, and else are left.
-    fn settle(&mut self, made: bool)
-        ensures made { made ≡ true → configuration self.new ≡ configuration self.old }
-        ensures left { made ≡ false → self.new ≡ record self.old { skip = 0 } }
-        ensures whole { self.new.skip ≡ 0 }
-    {
-        if made {
-            self.picks.skip(self.skip);
-        }
-        self.skip = 0;
+/// The picks that were looked at are taken where the step was made, and else are left.
+fn settle<M: Memory, C: Determined>(state: &mut State<M, C>, made: bool)
+    ensures made { made ≡ true → configuration state.new ≡ configuration state.old }
+    ensures left { made ≡ false → state.new ≡ record state.old { skip = 0 } }
+    ensures whole { state.new.skip ≡ 0 }
+{
+    if made {
+        state.picks.skip(state.skip);
     }
+    state.skip = 0;
+}
 
-    /// No thread may make a step.
-    #[tactic(auto, using(crate::specs::Hand::done_so, crate::specs::Hand::waits_so))]
-    fn none_runs(&self, alloc: Global) -> Result<StepEnd, AllocError>
-        requires none { length (runnable_of self.now.seats) ≡ 0 }
-        ensures ok { (bundle : List Item) (k : Client) → IfOk result (λ end. outcome_of end (configuration self.now) ≡ told bundle k (step (numbered bundle) (configuration self.now))) }
-        ensures stays { IfOk result (λ end. Stays end (configuration self.now) (configuration self.now)) }
-    {
-        let threads = self.seats.left(alloc)?;
-        if threads.is_empty() {
-            Ok(ended(alloc, Ending::Done))
-        } else {
-            Ok(ended(alloc, Ending::AllWaiting { threads }))
-        }
+/// No thread may make a step.
+#[tactic(auto, using(thread_acts::specs::Hand::done_so, thread_acts::specs::Hand::waits_so))]
+fn none_runs<M: Memory, C: Determined>(
+    state: &State<M, C>,
+    alloc: Global,
+) -> Result<StepEnd, AllocError>
+    requires none { length (runnable_of state.now.seats) ≡ 0 }
+    ensures ok { (bundle : List Item) (k : Client) → IfOk result (λ end. outcome_of end (configuration state.now) ≡ told bundle k (step (numbered bundle) (configuration state.now))) }
+    ensures stays { IfOk result (λ end. Stays end (configuration state.now) (configuration state.now)) }
+{
+    let threads = state.seats.left(alloc)?;
+    if threads.is_empty() {
+        Ok(ended(alloc, Ending::Done))
+    } else {
+        Ok(ended(alloc, Ending::AllWaiting { threads }))
     }
+}
 
-    /// The step of the thread in hand. Where that waits, it does so with a limit, and the wait is over.
-    #[tactic(auto, using(crate::specs::Hand::waiting_hand, crate::specs::Hand::told_there, crate::specs::StepLaws::told_plain))]
-    fn turn(
-        &mut self,
-        alloc: Global,
-        code: &Checked,
-        room: &mut Room,
-        out: &mut Slots,
-    ) -> Result<StepEnd, AllocError>
-        requires left { self.old.left ≡ true }
-        requires room { self.old.steps < self.old.budget }
-        requires there { told code.now self.old.client (stepping code.now self.old) ≢ Stuck }
-        ensures ok { IfOk result (λ end. answers end self.new ≡ told code.now self.old.client (stepping code.now self.old)) }
-        ensures err { OnErr result (self.new ≡ self.old) }
-        ensures stays { IfOk result (λ end. Stays end self.old self.new) }
-    {
-        match self.seats.waiting(self.thread) {
-            Some(cell) => self.time_out(alloc, code, cell, &mut room.values, out),
-            None => self.run(alloc, code, room, out),
-        }
+/// The step of the thread in hand. Where that waits, it does so with a limit, and the wait is over.
+#[tactic(auto, using(thread_acts::specs::Hand::waiting_hand, thread_acts::specs::Hand::told_there, thread_acts::specs::StepLaws::told_plain))]
+fn turn<M: Memory, C: Determined>(
+    state: &mut State<M, C>,
+    alloc: Global,
+    code: &Checked,
+    room: &mut Room,
+    out: &mut Slots,
+) -> Result<StepEnd, AllocError>
+    requires left { state.old.left ≡ true }
+    requires room { state.old.steps < state.old.budget }
+    requires there { told code.now state.old.client (stepping code.now state.old) ≢ Stuck }
+    ensures ok { IfOk result (λ end. answers end state.new ≡ told code.now state.old.client (stepping code.now state.old)) }
+    ensures err { OnErr result (state.new ≡ state.old) }
+    ensures stays { IfOk result (λ end. Stays end state.old state.new) }
+{
+    match state.seats.waiting(state.thread) {
+        Some(cell) => state.time_out(alloc, code, cell, &mut room.values, out),
+        None => run(state, alloc, code, room, out),
     }
+}
 
-    /// The step of a thread that is picked.
-    fn make_step(
-        &mut self,
-        alloc: Global,
-        code: &Checked,
-        many: u32,
-        room: &mut Room,
-        out: &mut Slots,
-    ) -> Result<StepEnd, AllocError>
-        requires many { many ≡ length (runnable_of self.old.seats) }
-        requires some { 0 < many }
-        requires room { self.old.steps < self.old.budget }
-        requires whole { self.old.skip ≡ 0 }
-        requires there { told code.now self.old.client (step (numbered code.now) (configuration self.old)) ≢ Stuck }
-        ensures ok { IfOk result (λ end. outcome_of end (configuration self.new) ≡ told code.now self.old.client (step (numbered code.now) (configuration self.old))) }
-        ensures err { OnErr result (configuration self.new ≡ configuration self.old) }
-        ensures stays { IfOk result (λ end. Stays end (configuration self.old) (configuration self.new)) }
-        ensures whole { self.new.skip ≡ 0 }
-    {
-        self.pick_thread(many);
-        let end = self.turn(alloc, code, room, out);
-        self.settle(is_made(&end));
-        end
-    }
+/// The step of a thread that is picked.
+fn make_step<M: Memory, C: Determined>(
+    state: &mut State<M, C>,
+    alloc: Global,
+    code: &Checked,
+    many: u32,
+    room: &mut Room,
+    out: &mut Slots,
+) -> Result<StepEnd, AllocError>
+    requires many { many ≡ length (runnable_of state.old.seats) }
+    requires some { 0 < many }
+    requires room { state.old.steps < state.old.budget }
+    requires whole { state.old.skip ≡ 0 }
+    requires there { told code.now state.old.client (step (numbered code.now) (configuration state.old)) ≢ Stuck }
+    ensures ok { IfOk result (λ end. outcome_of end (configuration state.new) ≡ told code.now state.old.client (step (numbered code.now) (configuration state.old))) }
+    ensures err { OnErr result (configuration state.new ≡ configuration state.old) }
+    ensures stays { IfOk result (λ end. Stays end (configuration state.old) (configuration state.new)) }
+    ensures whole { state.new.skip ≡ 0 }
+{
+    pick_thread(state, many);
+    let end = turn(state, alloc, code, room, out);
+    settle(state, is_made(&end));
+    end
+}
 
-    /// One step of the run.
-    #[tactic(auto, using(crate::specs::Hand::over_so))]
-    pub(crate) fn step(
-        &mut self,
-        alloc: Global,
-        code: &Checked,
-        room: &mut Room,
-        out: &mut Slots,
-    ) -> Result<StepEnd, AllocError>
-        requires whole { self.old.skip ≡ 0 }
-        requires there { told code.now self.old.client (step (numbered code.now) (configuration self.old)) ≢ Stuck }
-        ensures ok { IfOk result (λ end. outcome_of end (configuration self.new) ≡ told code.now self.old.client (step (numbered code.now) (configuration self.old))) }
-        ensures err { OnErr result (configuration self.new ≡ configuration self.old) }
-        ensures stays { IfOk result (λ end. Stays end (configuration self.old) (configuration self.new)) }
-        ensures whole { self.new.skip ≡ 0 }
-    {
-        let many = self.seats.runnable();
-        if many == 0 {
-            return self.none_runs(alloc);
-        }
-        let steps = self.steps;
-        if steps < self.budget {
-            return self.make_step(alloc, code, many, room, out);
-        }
-        Ok(ended(alloc, Ending::Budget { steps }))
+/// One step of the run.
+#[tactic(auto, using(thread_acts::specs::Hand::over_so))]
+pub(crate) fn step<M: Memory, C: Determined>(
+    state: &mut State<M, C>,
+    alloc: Global,
+    code: &Checked,
+    room: &mut Room,
+    out: &mut Slots,
+) -> Result<StepEnd, AllocError>
+    requires whole { state.old.skip ≡ 0 }
+    requires there { told code.now state.old.client (step (numbered code.now) (configuration state.old)) ≢ Stuck }
+    ensures ok { IfOk result (λ end. outcome_of end (configuration state.new) ≡ told code.now state.old.client (step (numbered code.now) (configuration state.old))) }
+    ensures err { OnErr result (configuration state.new ≡ configuration state.old) }
+    ensures stays { IfOk result (λ end. Stays end (configuration state.old) (configuration state.new)) }
+    ensures whole { state.new.skip ≡ 0 }
+{
+    let many = state.seats.runnable();
+    if many == 0 {
+        return none_runs(state, alloc);
     }
+    let steps = state.steps;
+    if steps < state.budget {
+        return make_step(state, alloc, code, many, room, out);
+    }
+    Ok(ended(alloc, Ending::Budget { steps }))
 }

@@ -19,19 +19,16 @@ ghost use Rattle.client_hooks.specs.Plans.{planned, end_planned};
 ghost use Rattle.client_hooks.specs.Replies.{classed, way_of};
 ghost use Rattle.step_forms.specs.Asked.{entering_of};
 ghost use Rattle.seats.specs.Seats.{IsReady};
-ghost use Rattle.mu_step.specs.Held.{Held};
-ghost use Rattle.mu_step.specs.Outcome.{Stays};
-ghost use Rattle.mu_step.specs.Acting.{answers, acting, told, trapping, undefined_at};
+ghost use Rattle.thread_acts.specs.Held.{Held};
+ghost use Rattle.thread_acts.specs.Outcome.{Stays};
+ghost use Rattle.thread_acts.specs.Acting.{answers, acting, told, trapping, undefined_at};
+ghost use Rattle.thread_acts.specs.Making.{graph_of};
 ghost use Rattle.mu_step.specs.Entering.{entered_by, arrives, frames_at, found, IsPlain};
-ghost use Rattle.mu_step.specs.Making.{graph_of};
 ghost use Rattle.mu_step.specs.Trapping.{waiting_frames, seen, note_of, replying, past, entering_then};
 
-use crate::accessing::commit_other;
 use crate::arriving::{Arrival, Found, arrive, prepare};
-use crate::entering::look;
+use crate::entering::{look, move_to};
 use crate::moving::{copied, hand_over, log_two};
-use crate::state::State;
-use crate::waiting::{Wait, exchange_on_top, waiting_for};
 use bundle_check::Checked;
 use client_hooks::{ClassedValue, Determined, End, Notes, Plan, TrapView, With};
 use mem_axioms::{Event, Kind, Memory};
@@ -41,6 +38,9 @@ use std::alloc::{AllocError, Global};
 use std::marker::{Brand, Model};
 use std::sync::ledger::Blank;
 use step_forms::{Entering, Room};
+use thread_acts::accessing::commit_other;
+use thread_acts::state::State;
+use thread_acts::waiting::{Wait, exchange_on_top, waiting_for};
 use trap_answers::{Watched, ask, bring, target, trap_lines};
 
 /// What an answer changes before its reply: the watchpoints that are enabled, and the lines of the step so far.
@@ -69,393 +69,399 @@ fn names(scalar: Scalar, stack: u32) -> bool
     }
 }
 
-impl<M: Memory, C: Determined> State<M, C> {
-    /// The record of a trap at the thread's instruction, or of the watchpoint there.
-    fn trap_note(&self, watchpoint: Option<u32>) -> Note
-        ensures { result ≡ note_of self.now watchpoint }
-    {
-        let top = self.frames.top();
-        let (thread, block, at) = (self.thread, top.block, top.at);
-        match watchpoint {
-            None => Note::Trap { thread, block, at },
-            Some(watchpoint) => Note::Watchpoint {
-                thread,
-                block,
-                at,
-                watchpoint,
-            },
+/// The record of a trap at the thread's instruction, or of the watchpoint there.
+fn trap_note<M: Memory, C: Determined>(state: &State<M, C>, watchpoint: Option<u32>) -> Note
+    ensures { result ≡ note_of state.now watchpoint }
+{
+    let top = state.frames.top();
+    let (thread, block, at) = (state.thread, top.block, top.at);
+    match watchpoint {
+        None => Note::Trap { thread, block, at },
+        Some(watchpoint) => Note::Watchpoint {
+            thread,
+            block,
+            at,
+            watchpoint,
+        },
+    }
+}
+
+/// The client is asked for values of the classes in the room, at a watchpoint where there is one.
+#[tactic(auto, using(crate::specs::TrapLaws::asking))]
+pub(crate) fn trap<M: Memory, C: Determined>(
+    state: &mut State<M, C>,
+    alloc: Global,
+    code: &Checked,
+    watchpoint: Option<u32>,
+    room: &mut Room,
+    out: &mut Slots,
+) -> Result<StepEnd, AllocError>
+    requires left { state.old.left ≡ true }
+    requires room { state.old.steps < state.old.budget }
+    requires narrow { AreNarrow (graph_of code.now) }
+    requires classes { All (λ c. c < length (graph_of code.now)) room.old.waits.members }
+    requires there { told code.now state.old.client (trapping code.now state.old watchpoint room.old.waits.members) ≢ Stuck }
+    ensures ok { IfOk result (λ end. answers end state.new ≡ told code.now state.old.client (trapping code.now state.old watchpoint room.old.waits.members)) }
+    ensures err { OnErr result (state.new ≡ state.old) }
+    ensures stays { IfOk result (λ end. Stays end state.old state.new) }
+{
+    let _items = code.items();
+    let asked = copied(alloc, &room.waits)?;
+    let awaited = copied(alloc, &room.waits)?;
+    let mut wait = waiting_for(alloc, code, state.frames.top(), awaited)?;
+    let view = TrapView::new(alloc, code.tables(), state.thread, watchpoint, asked)?;
+    let note = trap_note(state, watchpoint);
+    match consult(state, alloc, &view, &mut wait)? {
+        None => misuse(state, alloc, note),
+        Some(plan) => take(state, alloc, code, plan, note, wait, room, out),
+    }
+}
+
+/// The client's answer where the thread's top frame waits so; None is misuse. Nothing changes.
+fn consult<M: Memory, C: Determined>(
+    state: &mut State<M, C>,
+    alloc: Global,
+    view: &TrapView,
+    wait: &mut Wait,
+) -> Result<Option<Plan>, AllocError>
+    requires left { state.old.left ≡ true }
+    requires thread { view.now.thread ≡ state.old.thread }
+    requires asked { view.now.asked ≡ wait.old.waits }
+    ensures answer { IfOk result (λ plan. option_map planned plan ≡ answer_of view.now.tables (seen state.old view.now.watchpoint wait.old) state.old.client) }
+    ensures same { state.new ≡ state.old }
+    ensures wait { wait.new ≡ wait.old }
+{
+    let waits = copied(alloc, view.asked())?;
+    exchange_on_top(&mut state.frames, wait);
+    state
+        .seats
+        .exchange(state.thread, state.stack, &mut state.frames);
+    let answer = ask(
+        alloc,
+        &state.client,
+        view,
+        &mut state.seats,
+        state.thread,
+        state.stack,
+        waits,
+    );
+    state
+        .seats
+        .exchange(state.thread, state.stack, &mut state.frames);
+    exchange_on_top(&mut state.frames, wait);
+    answer
+}
+
+/// The answer is misuse: the run ends, and nothing of it is recorded.
+fn misuse<M: Memory, C: Determined>(
+    state: &State<M, C>,
+    alloc: Global,
+    note: Note,
+) -> Result<StepEnd, AllocError>
+    ensures is { IfOk result (λ end. (s : Held) → answers end s ≡ outcomes.End (written.Event (length state.now.log) (event state.now.thread (kinds.Leave state.now.stack)) ∷ written.Note note ∷ []) (undefined_at state.now cases.ClientMisuse)) }
+    ensures stays { IfOk result (λ end. Stays end state.now state.now) }
+{
+    let leave = Event {
+        thread: state.thread,
+        kind: Kind::Leave { stack: state.stack },
+    };
+    let lines = trap_lines(alloc, state.events, leave, note, Notes::new(alloc))?;
+    Ok(StepEnd::Ended(lines, state.case_ending(Case::ClientMisuse)))
+}
+
+/// The answer is taken: its records and watches, and then its reply.
+#[tactic(auto, using(crate::specs::TrapLaws::reply_stops))]
+fn take<M: Memory, C: Determined>(
+    state: &mut State<M, C>,
+    alloc: Global,
+    code: &Checked,
+    plan: Plan,
+    note: Note,
+    wait: Wait,
+    room: &mut Room,
+    out: &mut Slots,
+) -> Result<StepEnd, AllocError>
+    requires left { state.old.left ≡ true }
+    requires room { state.old.steps < state.old.budget }
+    requires there { replying code.now state.old wait (record { watched = fold watch state.old.watched plan.watches; lines = written.Event (length state.old.log) (event state.old.thread (kinds.Leave state.old.stack)) ∷ written.Note note ∷ map written.Note plan.notes }) (end_planned plan.end) ≢ Stuck }
+    ensures ok { IfOk result (λ end. answers end state.new ≡ past state.old (replying code.now state.old wait (record { watched = fold watch state.old.watched plan.watches; lines = written.Event (length state.old.log) (event state.old.thread (kinds.Leave state.old.stack)) ∷ written.Note note ∷ map written.Note plan.notes }) (end_planned plan.end))) }
+    ensures err { OnErr result (state.new ≡ state.old) }
+    ensures stays { IfOk result (λ end. Stays end state.old state.new) }
+{
+    let Plan {
+        notes,
+        watches,
+        end,
+    } = plan;
+    let leave = Event {
+        thread: state.thread,
+        kind: Kind::Leave { stack: state.stack },
+    };
+    let change = Change {
+        watched: state.watched.after(alloc, &watches)?,
+        lines: trap_lines(alloc, state.events, leave, note, notes)?,
+    };
+    match end {
+        End::Stop => Ok(StepEnd::Ended(change.lines, Ending::Stop)),
+        End::Exit => exit_ready(state, alloc, code, wait, change),
+        End::Resume(with) => resume(state, alloc, code, with, wait, change, room, out),
+        End::Rebind { target, with } => {
+            rebind(state, alloc, code, target, with, wait, change, room, out)
         }
     }
+}
 
-    /// The client is asked for values of the classes in the room, at a watchpoint where there is one.
-    #[tactic(auto, using(crate::specs::TrapLaws::asking))]
-    pub(crate) fn trap(
-        &mut self,
-        alloc: Global,
-        code: &Checked,
-        watchpoint: Option<u32>,
-        room: &mut Room,
-        out: &mut Slots,
-    ) -> Result<StepEnd, AllocError>
-        requires left { self.old.left ≡ true }
-        requires room { self.old.steps < self.old.budget }
-        requires narrow { AreNarrow (graph_of code.now) }
-        requires classes { All (λ c. c < length (graph_of code.now)) room.old.waits.members }
-        requires there { told code.now self.old.client (trapping code.now self.old watchpoint room.old.waits.members) ≢ Stuck }
-        ensures ok { IfOk result (λ end. answers end self.new ≡ told code.now self.old.client (trapping code.now self.old watchpoint room.old.waits.members)) }
-        ensures err { OnErr result (self.new ≡ self.old) }
-        ensures stays { IfOk result (λ end. Stays end self.old self.new) }
-    {
-        let _items = code.items();
-        let asked = copied(alloc, &room.waits)?;
-        let awaited = copied(alloc, &room.waits)?;
-        let mut wait = waiting_for(alloc, code, self.frames.top(), awaited)?;
-        let view = TrapView::new(alloc, code.tables(), self.thread, watchpoint, asked)?;
-        let note = self.trap_note(watchpoint);
-        match self.consult(alloc, &view, &mut wait)? {
-            None => self.misuse(alloc, note),
-            Some(plan) => self.take(alloc, code, plan, note, wait, room, out),
+/// The thread ends, and its stack stays ready.
+fn exit_ready<M: Memory, C: Determined>(
+    state: &mut State<M, C>,
+    alloc: Global,
+    code: &Checked,
+    mut wait: Wait,
+    change: Change,
+) -> Result<StepEnd, AllocError>
+    requires left { state.old.left ≡ true }
+    requires room { state.old.steps < state.old.budget }
+    requires there { replying code.now state.old wait change clients.Exit ≢ Stuck }
+    ensures ok { IfOk result (λ end. answers end state.new ≡ past state.old (replying code.now state.old wait change clients.Exit)) }
+    ensures err { OnErr result (state.new ≡ state.old) }
+    ensures stays { IfOk result (λ end. Stays end state.old state.new) }
+{
+    let thread = state.thread;
+    let waits = copied(alloc, wait.waits())?;
+    let mut lines = change.lines;
+    lines.push(Line::Note(Note::Exited { thread }))?;
+    state.memory.reserve(thread, None, 1)?;
+    let leave = Event {
+        thread: state.thread,
+        kind: Kind::Leave { stack: state.stack },
+    };
+    exchange_on_top(&mut state.frames, &mut wait);
+    state.seats.exchange(thread, state.stack, &mut state.frames);
+    state.seats.exit(thread, state.stack, waits);
+    state.left = false;
+    commit_other::<M, Brand>(&mut state.memory, leave, Blank::new(1));
+    state.watched = change.watched;
+    state.client.advance();
+    state.events += 1;
+    state.steps += 1;
+    Ok(StepEnd::Went(lines))
+}
+
+/// The trapped stack is entered again.
+#[tactic(auto, using(crate::specs::TrapLaws::resuming))]
+fn resume<M: Memory, C: Determined>(
+    state: &mut State<M, C>,
+    alloc: Global,
+    code: &Checked,
+    with: With,
+    mut wait: Wait,
+    change: Change,
+    room: &mut Room,
+    out: &mut Slots,
+) -> Result<StepEnd, AllocError>
+    requires left { state.old.left ≡ true }
+    requires room { state.old.steps < state.old.budget }
+    requires there { replying code.now state.old wait change (clients.Resume (way_of with)) ≢ Stuck }
+    ensures ok { IfOk result (λ end. answers end state.new ≡ past state.old (replying code.now state.old wait change (clients.Resume (way_of with)))) }
+    ensures err { OnErr result (state.new ≡ state.old) }
+    ensures stays { IfOk result (λ end. Stays end state.old state.new) }
+{
+    // The thread in hand is on its stack.
+    let _ = &state.thread;
+    let entering = bring(code, with, room);
+    match look_back(state, code, entering, &mut wait, room, out)? {
+        Found::Refused(case) => Ok(StepEnd::Ended(change.lines, state.case_ending(case))),
+        Found::Lands(arrival) => resume_at(state, arrival, wait, change, out),
+    }
+}
+
+/// Where the thread's own stack goes on that is entered with what stands in the room, or why it does not, where its top frame waits
+/// so. Nothing changes.
+fn look_back<M: Memory, C: Determined>(
+    state: &mut State<M, C>,
+    code: &Checked,
+    entering: Entering,
+    wait: &mut Wait,
+    room: &Room,
+    out: &mut Slots,
+) -> Result<Found, AllocError>
+    requires there { IsSome (entered_by code.now (frames_of (waiting_frames state.old wait.old)) (entering_of entering room.now.types.members room.now.values.values)) }
+    ensures is { IfOk result (λ r. entered_by code.now (frames_of (waiting_frames state.old wait.old)) (entering_of entering room.now.types.members room.now.values.values) ≡ found r (frames_of (waiting_frames state.old wait.old)) out.new.values) }
+    ensures plain { IfOk result IsPlain }
+    ensures same { state.new ≡ state.old }
+    ensures wait { wait.new ≡ wait.old }
+{
+    exchange_on_top(&mut state.frames, wait);
+    let found = prepare(code, &state.frames, entering, room, out);
+    exchange_on_top(&mut state.frames, wait);
+    found
+}
+
+/// The thread's own stack goes on so, with the values in the list.
+fn resume_at<M: Memory, C: Determined>(
+    state: &mut State<M, C>,
+    arrival: Arrival,
+    mut wait: Wait,
+    change: Change,
+    out: &mut Slots,
+) -> Result<StepEnd, AllocError>
+    requires left { state.old.left ≡ true }
+    requires room { state.old.steps < state.old.budget }
+    requires lands { IsSome (arrives arrival (frames_of (waiting_frames state.old wait)) out.old.values) }
+    ensures ok { IfOk result (λ end. IfSome (arrives arrival (frames_of (waiting_frames state.old wait)) out.old.values) (λ r. answers end state.new ≡ past state.old (entering_then state.old wait (record { watched = change.watched; lines = change.lines }) state.old.stack r))) }
+    ensures err { OnErr result (state.new ≡ state.old) }
+    ensures stays { IfOk result (λ end. Stays end state.old state.new) }
+{
+    let leave = Event {
+        thread: state.thread,
+        kind: Kind::Leave { stack: state.stack },
+    };
+    let enter = Event {
+        thread: state.thread,
+        kind: Kind::Enter { stack: state.stack },
+    };
+    let mut lines = change.lines;
+    lines.push(Line::Event {
+        number: state.events + 1,
+        event: enter,
+    })?;
+    state.memory.reserve(state.thread, None, 2)?;
+    exchange_on_top(&mut state.frames, &mut wait);
+    arrive(&mut state.frames, &mut state.heap, arrival, out);
+    log_two(&mut state.memory, leave, enter);
+    state.watched = change.watched;
+    state.client.advance();
+    state.events += 2;
+    state.steps += 1;
+    Ok(StepEnd::Went(lines))
+}
+
+/// A stack is entered that a value names. It may be the trapped one.
+#[tactic(auto, using(crate::specs::TrapLaws::rebinding))]
+fn rebind<M: Memory, C: Determined>(
+    state: &mut State<M, C>,
+    alloc: Global,
+    code: &Checked,
+    stack: ClassedValue,
+    with: With,
+    wait: Wait,
+    change: Change,
+    room: &mut Room,
+    out: &mut Slots,
+) -> Result<StepEnd, AllocError>
+    requires left { state.old.left ≡ true }
+    requires room { state.old.steps < state.old.budget }
+    requires there { replying code.now state.old wait change (clients.Rebind (classed stack) (way_of with)) ≢ Stuck }
+    ensures ok { IfOk result (λ end. answers end state.new ≡ past state.old (replying code.now state.old wait change (clients.Rebind (classed stack) (way_of with)))) }
+    ensures err { OnErr result (state.new ≡ state.old) }
+    ensures stays { IfOk result (λ end. Stays end state.old state.new) }
+{
+    let scalar = target(&stack);
+    if names(scalar, state.stack) {
+        return resume(state, alloc, code, with, wait, change, room, out);
+    }
+    let entering = bring(code, with, room);
+    let Some(to) = state.ready_stack(scalar) else {
+        let ending = state.case_ending(Case::StackNotReady);
+        return Ok(StepEnd::Ended(change.lines, ending));
+    };
+    match look(&state.seats, to, code, entering, room, out)? {
+        Found::Refused(case) => Ok(StepEnd::Ended(change.lines, state.case_ending(case))),
+        Found::Lands(arrival) => {
+            rebind_to(
+                state, alloc, code, to, arrival, entering, wait, change, room, out,
+            )
         }
     }
+}
 
-    /// The client's answer where the thread's top frame waits so; None is misuse. Nothing changes.
-    fn consult(
-        &mut self,
-        alloc: Global,
-        view: &TrapView,
-        wait: &mut Wait,
-    ) -> Result<Option<Plan>, AllocError>
-        requires left { self.old.left ≡ true }
-        requires thread { view.now.thread ≡ self.old.thread }
-        requires asked { view.now.asked ≡ wait.old.waits }
-        ensures answer { IfOk result (λ plan. option_map planned plan ≡ answer_of view.now.tables (seen self.old view.now.watchpoint wait.old) self.old.client) }
-        ensures same { self.new ≡ self.old }
-        ensures wait { wait.new ≡ wait.old }
-    {
-        let waits = copied(alloc, view.asked())?;
-        exchange_on_top(&mut self.frames, wait);
-        self.seats
-            .exchange(self.thread, self.stack, &mut self.frames);
-        let answer = ask(
-            alloc,
-            &self.client,
-            view,
-            &mut self.seats,
-            self.thread,
-            self.stack,
-            waits,
-        );
-        self.seats
-            .exchange(self.thread, self.stack, &mut self.frames);
-        exchange_on_top(&mut self.frames, wait);
-        answer
+/// The same, where another stack is ready and goes on so, with the values in the list.
+fn rebind_to<M: Memory, C: Determined>(
+    state: &mut State<M, C>,
+    alloc: Global,
+    code: &Checked,
+    to: u32,
+    arrival: Arrival,
+    entering: Entering,
+    wait: Wait,
+    change: Change,
+    room: &mut Room,
+    out: &mut Slots,
+) -> Result<StepEnd, AllocError>
+    requires left { state.old.left ≡ true }
+    requires room { state.old.steps < state.old.budget }
+    requires other { to ≢ state.old.stack }
+    requires lands { entered_by code.now (frames_at (slice_get state.old.seats.stacks to)) (entering_of entering room.old.types.members room.old.values.values) ≡ found (Found.Lands arrival) (frames_at (slice_get state.old.seats.stacks to)) out.old.values }
+    requires ready { IsReady (slice_get state.old.seats.stacks to) }
+    requires there { IsSome (entered_by code.now (frames_at (slice_get state.old.seats.stacks to)) (entering_of entering room.old.types.members room.old.values.values)) }
+    ensures ok { IfOk result (λ end. IfSome (arrives arrival (frames_at (slice_get state.old.seats.stacks to)) out.old.values) (λ r. answers end state.new ≡ past state.old (entering_then state.old wait change to r))) }
+    ensures err { OnErr result (state.new ≡ state.old) }
+    ensures stays { IfOk result (λ end. Stays end state.old state.new) }
+{
+    let waits = copied(alloc, wait.waits())?;
+    let handing = hand_over(alloc, entering, room)?;
+    let mut lines = change.lines;
+    let enter = Event {
+        thread: state.thread,
+        kind: Kind::Enter { stack: to },
+    };
+    lines.push(Line::Event {
+        number: state.events + 1,
+        event: enter,
+    })?;
+    let end = move_to(state, lines, to, arrival, wait, waits, handing, room, out)?;
+    state.watched = change.watched;
+    state.client.advance();
+    Ok(end)
+}
+
+/// The thread stands at a watchpoint: where that is enabled the client is asked, and else the thread goes to a block.
+#[tactic(auto, using(crate::specs::TrapLaws::meeting))]
+pub(crate) fn meet<M: Memory, C: Determined>(
+    state: &mut State<M, C>,
+    alloc: Global,
+    code: &Checked,
+    watchpoint: u32,
+    block: u32,
+    room: &mut Room,
+    out: &mut Slots,
+) -> Result<StepEnd, AllocError>
+    requires left { state.old.left ≡ true }
+    requires room { state.old.steps < state.old.budget }
+    requires narrow { AreNarrow (graph_of code.now) }
+    requires classes { All (λ c. c < length (graph_of code.now)) room.old.waits.members }
+    requires there { told code.now state.old.client (acting code.now state.old (acts.Watches watchpoint room.old.waits.members (record { block = block; values = room.old.values.values }))) ≢ Stuck }
+    ensures ok { IfOk result (λ end. answers end state.new ≡ told code.now state.old.client (acting code.now state.old (acts.Watches watchpoint room.old.waits.members (record { block = block; values = room.old.values.values })))) }
+    ensures err { OnErr result (state.new ≡ state.old) }
+    ensures stays { IfOk result (λ end. Stays end state.old state.new) }
+{
+    if state.watched.contains(watchpoint) {
+        trap(state, alloc, code, Some(watchpoint), room, out)
+    } else {
+        Ok(state.go(alloc, block, &mut room.values))
     }
+}
 
-    /// The answer is misuse: the run ends, and nothing of it is recorded.
-    fn misuse(&self, alloc: Global, note: Note) -> Result<StepEnd, AllocError>
-        ensures is { IfOk result (λ end. (s : Held) → answers end s ≡ outcomes.End (written.Event (length self.now.log) (event self.now.thread (kinds.Leave self.now.stack)) ∷ written.Note note ∷ []) (undefined_at self.now cases.ClientMisuse)) }
-        ensures stays { IfOk result (λ end. Stays end self.now self.now) }
-    {
-        let leave = Event {
-            thread: self.thread,
-            kind: Kind::Leave { stack: self.stack },
-        };
-        let lines = trap_lines(alloc, self.events, leave, note, Notes::new(alloc))?;
-        Ok(StepEnd::Ended(lines, self.case_ending(Case::ClientMisuse)))
-    }
-
-    /// The answer is taken: its records and watches, and then its reply.
-    #[tactic(auto, using(crate::specs::TrapLaws::reply_stops))]
-    fn take(
-        &mut self,
-        alloc: Global,
-        code: &Checked,
-        plan: Plan,
-        note: Note,
-        wait: Wait,
-        room: &mut Room,
-        out: &mut Slots,
-    ) -> Result<StepEnd, AllocError>
-        requires left { self.old.left ≡ true }
-        requires room { self.old.steps < self.old.budget }
-        requires there { replying code.now self.old wait (record { watched = fold watch self.old.watched plan.watches; lines = written.Event (length self.old.log) (event self.old.thread (kinds.Leave self.old.stack)) ∷ written.Note note ∷ map written.Note plan.notes }) (end_planned plan.end) ≢ Stuck }
-        ensures ok { IfOk result (λ end. answers end self.new ≡ past self.old (replying code.now self.old wait (record { watched = fold watch self.old.watched plan.watches; lines = written.Event (length self.old.log) (event self.old.thread (kinds.Leave self.old.stack)) ∷ written.Note note ∷ map written.Note plan.notes }) (end_planned plan.end))) }
-        ensures err { OnErr result (self.new ≡ self.old) }
-        ensures stays { IfOk result (λ end. Stays end self.old self.new) }
-    {
-        let Plan {
-            notes,
-            watches,
-            end,
-        } = plan;
-        let leave = Event {
-            thread: self.thread,
-            kind: Kind::Leave { stack: self.stack },
-        };
-        let change = Change {
-            watched: self.watched.after(alloc, &watches)?,
-            lines: trap_lines(alloc, self.events, leave, note, notes)?,
-        };
-        match end {
-            End::Stop => Ok(StepEnd::Ended(change.lines, Ending::Stop)),
-            End::Exit => self.exit_ready(alloc, code, wait, change),
-            End::Resume(with) => self.resume(alloc, code, with, wait, change, room, out),
-            End::Rebind { target, with } => {
-                self.rebind(alloc, code, target, with, wait, change, room, out)
-            }
-        }
-    }
-
-    /// The thread ends, and its stack stays ready.
-    fn exit_ready(
-        &mut self,
-        alloc: Global,
-        code: &Checked,
-        mut wait: Wait,
-        change: Change,
-    ) -> Result<StepEnd, AllocError>
-        requires left { self.old.left ≡ true }
-        requires room { self.old.steps < self.old.budget }
-        requires there { replying code.now self.old wait change clients.Exit ≢ Stuck }
-        ensures ok { IfOk result (λ end. answers end self.new ≡ past self.old (replying code.now self.old wait change clients.Exit)) }
-        ensures err { OnErr result (self.new ≡ self.old) }
-        ensures stays { IfOk result (λ end. Stays end self.old self.new) }
-    {
-        let thread = self.thread;
-        let waits = copied(alloc, wait.waits())?;
-        let mut lines = change.lines;
-        lines.push(Line::Note(Note::Exited { thread }))?;
-        self.memory.reserve(thread, None, 1)?;
-        let leave = Event {
-            thread: self.thread,
-            kind: Kind::Leave { stack: self.stack },
-        };
-        exchange_on_top(&mut self.frames, &mut wait);
-        self.seats.exchange(thread, self.stack, &mut self.frames);
-        self.seats.exit(thread, self.stack, waits);
-        self.left = false;
-        commit_other::<M, Brand>(&mut self.memory, leave, Blank::new(1));
-        self.watched = change.watched;
-        self.client.advance();
-        self.events += 1;
-        self.steps += 1;
-        Ok(StepEnd::Went(lines))
-    }
-
-    /// The trapped stack is entered again.
-    #[tactic(auto, using(crate::specs::TrapLaws::resuming))]
-    fn resume(
-        &mut self,
-        alloc: Global,
-        code: &Checked,
-        with: With,
-        mut wait: Wait,
-        change: Change,
-        room: &mut Room,
-        out: &mut Slots,
-    ) -> Result<StepEnd, AllocError>
-        requires left { self.old.left ≡ true }
-        requires room { self.old.steps < self.old.budget }
-        requires there { replying code.now self.old wait change (clients.Resume (way_of with)) ≢ Stuck }
-        ensures ok { IfOk result (λ end. answers end self.new ≡ past self.old (replying code.now self.old wait change (clients.Resume (way_of with)))) }
-        ensures err { OnErr result (self.new ≡ self.old) }
-        ensures stays { IfOk result (λ end. Stays end self.old self.new) }
-    {
-        // The thread in hand is on its stack.
-        let _ = &self.thread;
-        let entering = bring(code, with, room);
-        match self.look_back(code, entering, &mut wait, room, out)? {
-            Found::Refused(case) => Ok(StepEnd::Ended(change.lines, self.case_ending(case))),
-            Found::Lands(arrival) => self.resume_at(arrival, wait, change, out),
-        }
-    }
-
-    /// Where the thread's own stack goes on that is entered with what stands in the room, or why it does not, where its top frame waits
-    /// so. Nothing changes.
-    fn look_back(
-        &mut self,
-        code: &Checked,
-        entering: Entering,
-        wait: &mut Wait,
-        room: &Room,
-        out: &mut Slots,
-    ) -> Result<Found, AllocError>
-        requires there { IsSome (entered_by code.now (frames_of (waiting_frames self.old wait.old)) (entering_of entering room.now.types.members room.now.values.values)) }
-        ensures is { IfOk result (λ r. entered_by code.now (frames_of (waiting_frames self.old wait.old)) (entering_of entering room.now.types.members room.now.values.values) ≡ found r (frames_of (waiting_frames self.old wait.old)) out.new.values) }
-        ensures plain { IfOk result IsPlain }
-        ensures same { self.new ≡ self.old }
-        ensures wait { wait.new ≡ wait.old }
-    {
-        exchange_on_top(&mut self.frames, wait);
-        let found = prepare(code, &self.frames, entering, room, out);
-        exchange_on_top(&mut self.frames, wait);
-        found
-    }
-
-    /// The thread's own stack goes on so, with the values in the list.
-    fn resume_at(
-        &mut self,
-        arrival: Arrival,
-        mut wait: Wait,
-        change: Change,
-        out: &mut Slots,
-    ) -> Result<StepEnd, AllocError>
-        requires left { self.old.left ≡ true }
-        requires room { self.old.steps < self.old.budget }
-        requires lands { IsSome (arrives arrival (frames_of (waiting_frames self.old wait)) out.old.values) }
-        ensures ok { IfOk result (λ end. IfSome (arrives arrival (frames_of (waiting_frames self.old wait)) out.old.values) (λ r. answers end self.new ≡ past self.old (entering_then self.old wait (record { watched = change.watched; lines = change.lines }) self.old.stack r))) }
-        ensures err { OnErr result (self.new ≡ self.old) }
-        ensures stays { IfOk result (λ end. Stays end self.old self.new) }
-    {
-        let leave = Event {
-            thread: self.thread,
-            kind: Kind::Leave { stack: self.stack },
-        };
-        let enter = Event {
-            thread: self.thread,
-            kind: Kind::Enter { stack: self.stack },
-        };
-        let mut lines = change.lines;
-        lines.push(Line::Event {
-            number: self.events + 1,
-            event: enter,
-        })?;
-        self.memory.reserve(self.thread, None, 2)?;
-        exchange_on_top(&mut self.frames, &mut wait);
-        arrive(&mut self.frames, &mut self.heap, arrival, out);
-        log_two(&mut self.memory, leave, enter);
-        self.watched = change.watched;
-        self.client.advance();
-        self.events += 2;
-        self.steps += 1;
-        Ok(StepEnd::Went(lines))
-    }
-
-    /// A stack is entered that a value names. It may be the trapped one.
-    #[tactic(auto, using(crate::specs::TrapLaws::rebinding))]
-    fn rebind(
-        &mut self,
-        alloc: Global,
-        code: &Checked,
-        stack: ClassedValue,
-        with: With,
-        wait: Wait,
-        change: Change,
-        room: &mut Room,
-        out: &mut Slots,
-    ) -> Result<StepEnd, AllocError>
-        requires left { self.old.left ≡ true }
-        requires room { self.old.steps < self.old.budget }
-        requires there { replying code.now self.old wait change (clients.Rebind (classed stack) (way_of with)) ≢ Stuck }
-        ensures ok { IfOk result (λ end. answers end self.new ≡ past self.old (replying code.now self.old wait change (clients.Rebind (classed stack) (way_of with)))) }
-        ensures err { OnErr result (self.new ≡ self.old) }
-        ensures stays { IfOk result (λ end. Stays end self.old self.new) }
-    {
-        let scalar = target(&stack);
-        if names(scalar, self.stack) {
-            return self.resume(alloc, code, with, wait, change, room, out);
-        }
-        let entering = bring(code, with, room);
-        let Some(to) = self.ready_stack(scalar) else {
-            let ending = self.case_ending(Case::StackNotReady);
-            return Ok(StepEnd::Ended(change.lines, ending));
-        };
-        match look(&self.seats, to, code, entering, room, out)? {
-            Found::Refused(case) => Ok(StepEnd::Ended(change.lines, self.case_ending(case))),
-            Found::Lands(arrival) => {
-                self.rebind_to(alloc, code, to, arrival, entering, wait, change, room, out)
-            }
-        }
-    }
-
-    /// The same, where another stack is ready and goes on so, with the values in the list.
-    fn rebind_to(
-        &mut self,
-        alloc: Global,
-        code: &Checked,
-        to: u32,
-        arrival: Arrival,
-        entering: Entering,
-        wait: Wait,
-        change: Change,
-        room: &mut Room,
-        out: &mut Slots,
-    ) -> Result<StepEnd, AllocError>
-        requires left { self.old.left ≡ true }
-        requires room { self.old.steps < self.old.budget }
-        requires other { to ≢ self.old.stack }
-        requires lands { entered_by code.now (frames_at (slice_get self.old.seats.stacks to)) (entering_of entering room.old.types.members room.old.values.values) ≡ found (Found.Lands arrival) (frames_at (slice_get self.old.seats.stacks to)) out.old.values }
-        requires ready { IsReady (slice_get self.old.seats.stacks to) }
-        requires there { IsSome (entered_by code.now (frames_at (slice_get self.old.seats.stacks to)) (entering_of entering room.old.types.members room.old.values.values)) }
-        ensures ok { IfOk result (λ end. IfSome (arrives arrival (frames_at (slice_get self.old.seats.stacks to)) out.old.values) (λ r. answers end self.new ≡ past self.old (entering_then self.old wait change to r))) }
-        ensures err { OnErr result (self.new ≡ self.old) }
-        ensures stays { IfOk result (λ end. Stays end self.old self.new) }
-    {
-        let waits = copied(alloc, wait.waits())?;
-        let handing = hand_over(alloc, entering, room)?;
-        let mut lines = change.lines;
-        let enter = Event {
-            thread: self.thread,
-            kind: Kind::Enter { stack: to },
-        };
-        lines.push(Line::Event {
-            number: self.events + 1,
-            event: enter,
-        })?;
-        let end = self.move_to(lines, to, arrival, wait, waits, handing, room, out)?;
-        self.watched = change.watched;
-        self.client.advance();
-        Ok(end)
-    }
-
-    /// The thread stands at a watchpoint: where that is enabled the client is asked, and else the thread goes to a block.
-    #[tactic(auto, using(crate::specs::TrapLaws::meeting))]
-    pub(crate) fn meet(
-        &mut self,
-        alloc: Global,
-        code: &Checked,
-        watchpoint: u32,
-        block: u32,
-        room: &mut Room,
-        out: &mut Slots,
-    ) -> Result<StepEnd, AllocError>
-        requires left { self.old.left ≡ true }
-        requires room { self.old.steps < self.old.budget }
-        requires narrow { AreNarrow (graph_of code.now) }
-        requires classes { All (λ c. c < length (graph_of code.now)) room.old.waits.members }
-        requires there { told code.now self.old.client (acting code.now self.old (acts.Watches watchpoint room.old.waits.members (record { block = block; values = room.old.values.values }))) ≢ Stuck }
-        ensures ok { IfOk result (λ end. answers end self.new ≡ told code.now self.old.client (acting code.now self.old (acts.Watches watchpoint room.old.waits.members (record { block = block; values = room.old.values.values })))) }
-        ensures err { OnErr result (self.new ≡ self.old) }
-        ensures stays { IfOk result (λ end. Stays end self.old self.new) }
-    {
-        if self.watched.contains(watchpoint) {
-            self.trap(alloc, code, Some(watchpoint), room, out)
-        } else {
-            Ok(self.go(alloc, block, &mut room.values))
-        }
-    }
-
-    /// The thread goes one way where a watchpoint is disabled, and else another one.
-    #[tactic(auto, using(crate::specs::TrapLaws::choosing))]
-    pub(crate) fn choose(
-        &mut self,
-        alloc: Global,
-        code: &Checked,
-        watchpoint: u32,
-        disabled: u32,
-        enabled: u32,
-        room: &mut Room,
-    ) -> StepEnd
-        requires left { self.old.left ≡ true }
-        requires room { self.old.steps < self.old.budget }
-        requires there { acting code.now self.old (acts.Chooses watchpoint (record { block = disabled; values = room.old.values.values }) (record { block = enabled; values = room.old.others.values })) ≢ Stuck }
-        ensures on { answers result self.new ≡ acting code.now self.old (acts.Chooses watchpoint (record { block = disabled; values = room.old.values.values }) (record { block = enabled; values = room.old.others.values })) }
-        ensures end { Stays result self.old self.new }
-    {
-        if self.watched.contains(watchpoint) {
-            self.go(alloc, enabled, &mut room.others)
-        } else {
-            self.go(alloc, disabled, &mut room.values)
-        }
+/// The thread goes one way where a watchpoint is disabled, and else another one.
+#[tactic(auto, using(crate::specs::TrapLaws::choosing))]
+pub(crate) fn choose<M: Memory, C: Determined>(
+    state: &mut State<M, C>,
+    alloc: Global,
+    code: &Checked,
+    watchpoint: u32,
+    disabled: u32,
+    enabled: u32,
+    room: &mut Room,
+) -> StepEnd
+    requires left { state.old.left ≡ true }
+    requires room { state.old.steps < state.old.budget }
+    requires there { acting code.now state.old (acts.Chooses watchpoint (record { block = disabled; values = room.old.values.values }) (record { block = enabled; values = room.old.others.values })) ≢ Stuck }
+    ensures on { answers result state.new ≡ acting code.now state.old (acts.Chooses watchpoint (record { block = disabled; values = room.old.values.values }) (record { block = enabled; values = room.old.others.values })) }
+    ensures end { Stays result state.old state.new }
+{
+    if state.watched.contains(watchpoint) {
+        state.go(alloc, enabled, &mut room.others)
+    } else {
+        state.go(alloc, disabled, &mut room.values)
     }
 }

@@ -8,18 +8,13 @@ ghost use Rattle.mu_model.specs.Configuration.{Active};
 ghost use Rattle.seats.specs.Seats.{IsOn};
 ghost use Rattle.mu_model.specs.Acts as acts;
 ghost use Rattle.mu_model.specs.Outcomes.{Stuck};
-ghost use Rattle.mu_step.specs.Outcome.{Stays};
-ghost use Rattle.mu_step.specs.Acting.{answers, acting};
-ghost use Rattle.mu_step.specs.Remembering.{initials};
-ghost use Rattle.mu_step.specs.StepLaws.{GoesOn};
+ghost use Rattle.thread_acts.specs.Outcome.{Stays};
+ghost use Rattle.thread_acts.specs.Acting.{answers, acting};
+ghost use Rattle.thread_acts.specs.Remembering.{initials};
+ghost use Rattle.thread_acts.specs.StepLaws.{GoesOn};
 ghost use Rattle.mu_step.specs.WakeLaws.{waking_at};
 ghost use Rattle.mu_step.specs.Waking.{frames_at, behind, stood, goes_behind, all_go, AreDistinct, AreThreads, wake_event, woken_event, logs_woken, woken_lines};
 
-use crate::accessing::commit_other;
-use crate::finding::case_of;
-use crate::flow::{Place, passing, stand};
-use crate::futexes::tell;
-use crate::state::State;
 use bundle_check::Checked;
 use client_hooks::Determined;
 use frames::Frames;
@@ -31,6 +26,11 @@ use seats::Seats;
 use std::alloc::{AllocError, Global};
 use std::marker::Brand;
 use std::sync::ledger::Blank;
+use thread_acts::accessing::commit_other;
+use thread_acts::finding::case_of;
+use thread_acts::flow::{Place, passing, stand};
+use thread_acts::futexes::tell;
+use thread_acts::state::State;
 use typed_heap::what_is_found_fits;
 
 /// The stack of a thread that is woken, and where its top frame stands behind its wait. The variables then are written to a list.
@@ -202,72 +202,70 @@ fn wake_lines(
     Ok(lines)
 }
 
-impl<M: Memory, C: Determined> State<M, C> {
-    /// The thread wakes those that have waited at a cell longest, so many at most, and goes on with how many they are.
-    pub(crate) fn wake(
-        &mut self,
-        alloc: Global,
-        code: &Checked,
-        many: u32,
-        cell: CellId,
-        values: &mut Slots,
-        out: &mut Slots,
-    ) -> Result<StepEnd, AllocError>
-        requires left { self.old.left ≡ true }
-        requires room { self.old.steps < self.old.budget }
-        requires goes_on { GoesOn self.old }
-        requires there { acting code.now self.old (acts.Wakes many cell) ≢ Stuck }
-        ensures ok { IfOk result (λ end. answers end self.new ≡ acting code.now self.old (acts.Wakes many cell)) }
-        ensures err { OnErr result (self.new ≡ self.old) }
-        ensures stays { IfOk result (λ end. Stays end self.old self.new) }
-    {
-        what_is_found_fits();
-        let place = Scalar::Place {
-            object: cell.object,
-            at: cell.at,
-        };
-        match self.heap.cell_of(place) {
-            Ok(cell) => {
-                let _cells = self.heap.size(cell.object);
-                self.wake_at(alloc, code, many, cell, values, out)
-            }
-            Err(fault) => self.refuse(alloc, code, case_of(fault), out),
+/// The thread wakes those that have waited at a cell longest, so many at most, and goes on with how many they are.
+pub(crate) fn wake<M: Memory, C: Determined>(
+    state: &mut State<M, C>,
+    alloc: Global,
+    code: &Checked,
+    many: u32,
+    cell: CellId,
+    values: &mut Slots,
+    out: &mut Slots,
+) -> Result<StepEnd, AllocError>
+    requires left { state.old.left ≡ true }
+    requires room { state.old.steps < state.old.budget }
+    requires goes_on { GoesOn state.old }
+    requires there { acting code.now state.old (acts.Wakes many cell) ≢ Stuck }
+    ensures ok { IfOk result (λ end. answers end state.new ≡ acting code.now state.old (acts.Wakes many cell)) }
+    ensures err { OnErr result (state.new ≡ state.old) }
+    ensures stays { IfOk result (λ end. Stays end state.old state.new) }
+{
+    what_is_found_fits();
+    let place = Scalar::Place {
+        object: cell.object,
+        at: cell.at,
+    };
+    match state.heap.cell_of(place) {
+        Ok(cell) => {
+            let _cells = state.heap.size(cell.object);
+            wake_at(state, alloc, code, many, cell, values, out)
         }
+        Err(fault) => state.refuse(alloc, code, case_of(fault), out),
     }
+}
 
-    /// The same at a cell that is there.
-    fn wake_at(
-        &mut self,
-        alloc: Global,
-        code: &Checked,
-        many: u32,
-        cell: CellId,
-        values: &mut Slots,
-        out: &mut Slots,
-    ) -> Result<StepEnd, AllocError>
-        requires left { self.old.left ≡ true }
-        requires room { self.old.steps < self.old.budget }
-        requires goes_on { GoesOn self.old }
-        requires cell { HasCell (initials self.old.objects) cell }
-        requires there { waking_at code.now self.old many cell ≢ Stuck }
-        ensures ok { IfOk result (λ end. answers end self.new ≡ waking_at code.now self.old many cell) }
-        ensures err { OnErr result (self.new ≡ self.old) }
-        ensures stays { IfOk result (λ end. Stays end self.old self.new) }
-    {
-        self.seats.waiters_are_apart();
-        let waking = self.seats.waking(cell, many);
-        let woken = waking.as_slice();
-        let count = waking.count();
-        let lines = wake_lines(alloc, self.thread, cell, self.events, woken)?;
-        tell(count as u128, values)?;
-        let place = passing(code, self.frames.top(), values, out)?;
-        self.memory.reserve(self.thread, None, count + 1)?;
-        go_on_all(alloc, code, &mut self.seats, &mut self.frames, woken)?;
-        let _gone = self.seats.wake(cell, many);
-        log_wake(&mut self.memory, self.thread, cell, self.events, woken);
-        stand(&mut self.frames, place, out);
-        self.events += count + 1;
-        self.steps += 1;
-        Ok(StepEnd::Went(lines))
-    }
+/// The same at a cell that is there.
+fn wake_at<M: Memory, C: Determined>(
+    state: &mut State<M, C>,
+    alloc: Global,
+    code: &Checked,
+    many: u32,
+    cell: CellId,
+    values: &mut Slots,
+    out: &mut Slots,
+) -> Result<StepEnd, AllocError>
+    requires left { state.old.left ≡ true }
+    requires room { state.old.steps < state.old.budget }
+    requires goes_on { GoesOn state.old }
+    requires cell { HasCell (initials state.old.objects) cell }
+    requires there { waking_at code.now state.old many cell ≢ Stuck }
+    ensures ok { IfOk result (λ end. answers end state.new ≡ waking_at code.now state.old many cell) }
+    ensures err { OnErr result (state.new ≡ state.old) }
+    ensures stays { IfOk result (λ end. Stays end state.old state.new) }
+{
+    state.seats.waiters_are_apart();
+    let waking = state.seats.waking(cell, many);
+    let woken = waking.as_slice();
+    let count = waking.count();
+    let lines = wake_lines(alloc, state.thread, cell, state.events, woken)?;
+    tell(count as u128, values)?;
+    let place = passing(code, state.frames.top(), values, out)?;
+    state.memory.reserve(state.thread, None, count + 1)?;
+    go_on_all(alloc, code, &mut state.seats, &mut state.frames, woken)?;
+    let _gone = state.seats.wake(cell, many);
+    log_wake(&mut state.memory, state.thread, cell, state.events, woken);
+    stand(&mut state.frames, place, out);
+    state.events += count + 1;
+    state.steps += 1;
+    Ok(StepEnd::Went(lines))
 }

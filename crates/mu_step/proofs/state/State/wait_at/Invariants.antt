@@ -1,4 +1,0 @@
-use Rattle.mu_step.proofs.state.State.wait_at.Given as goal
-
-abbrev pub ghosts-newest : goal.ghosts-newest
-ghosts-newest g a = record { name = a.blank.name; parts = a.blank.parts }

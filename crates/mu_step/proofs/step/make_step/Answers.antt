@@ -1,0 +1,13 @@
+use Rattle.std.proofs.Common.{◌≡◌, IfOk, ◌∙◌, subst}
+use Rattle.mu_model.specs.Step.{step}
+use Rattle.model_numbers.specs.Numbered.{numbered}
+use Rattle.thread_acts.specs.Held.{configuration}
+use Rattle.thread_acts.specs.Outcome.{outcome_of}
+use Rattle.thread_acts.specs.Acting.{told}
+use Rattle.thread_acts.specs.Hand.{settled}
+use Rattle.mu_step.proofs.step.make_step.Goals as goal
+
+pub returns-clause-ok : goal.returns-clause-ok
+returns-clause-ok g c =
+    subst (λ k. IfOk c.turn-end.result (λ end. outcome_of end (configuration c.settle.new.state) ≡ told c.args.code.now k (step (numbered c.args.code.now) (configuration c.args.state.now)))) c.pick_thread.ensures.client
+    (settled c.args.code.now c.pick_thread.new.state.client c.turn-end.result c.args.state.now c.pick_thread.new.state c.turn-end.new.state c.settle.new.state (c.pick_thread.ensures.step c.args.code.now) c.turn-end.ensures.ok (λ e. c.settle.ensures.made (c.is_made.ensures ∙ e)))

@@ -1,5 +1,0 @@
-use Rattle.mu_step.specs.Kept.{kept_even}
-use Rattle.mu_step.proofs.waiting.kept.Goals as goal
-
-pub new-requires : goal.new-requires
-new-requires c = kept_even c.args.types.now c.of.result c.args.names.now _ c.in_ok-read_kept.ensures

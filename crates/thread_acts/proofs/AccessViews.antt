@@ -1,0 +1,192 @@
+-- Lemmas of accesses, over the view of a state and its parts.
+use Rattle.std.proofs.Common.{◌≡◌, ◌≢◌, ℕ, zero, suc, ◌+◌, ◌<◌, ◌≤◌, true, false, List, [], ◌∷◌, drop, Option, Some, None, IsSome, IsSomeAnd, Result, Ok, Err, IfOk, length, slice_get, refl, sym, ◌∙◌, ap, subst, arith, add-one}
+use Rattle.std.specs.Prelude.{reverse}
+use Rattle.ir_tree.specs.declared.items.Item.{Item}
+use Rattle.mu_values.specs.declared.scalars.Scalar.{Scalar}
+use Rattle.mu_values.specs.declared.scalars.Scalar.TheVariants.{Place}
+use Rattle.heap_cells.specs.declared.cells.CellId.{CellId}
+use Rattle.typed_heap.specs.declared.faults.PlaceFault.{PlaceFault}
+use Rattle.typed_heap.specs.Objects.{HeapObject}
+use Rattle.typed_heap.specs.Places.{cell_of}
+use Rattle.frames.specs.Activations.{Value, Activation}
+use Rattle.frames.specs.Chains.{Chain, stands}
+use Rattle.mem_axioms.specs.declared.types.Rule.{Rule}
+use Rattle.mu_base.specs.declared.order.Order.{Order}
+use Rattle.mem_axioms.specs.declared.types.Kind.{Kind}
+use Rattle.mem_axioms.specs.declared.types.Kind.TheVariants.{Fence}
+use Rattle.mem_axioms.specs.declared.types.Event.{Event}
+use Rattle.mem_axioms.specs.declared.types.Wanted.{Wanted}
+use Rattle.mem_axioms.specs.declared.types.Chosen.{Chosen}
+use Rattle.mem_axioms.specs.Objects.{initial_of, HasCell}
+use Rattle.mem_axioms.specs.Choices.{choices}
+use Rattle.mem_axioms.specs.Races.{race}
+use Rattle.mem_axioms.specs.EventFits.{is_thread, EventFits}
+use Rattle.mem_axioms.specs.Rooms.{HasRoom}
+use Rattle.mu_threads.specs.Picks.{pick}
+use Rattle.mu_model.specs.declared.lines.Line.{Line}
+use Rattle.mu_model.specs.declared.lines.Line.TheVariants as lines
+use Rattle.mu_model.specs.declared.endings.StepEnd.{StepEnd}
+use Rattle.mu_model.specs.declared.endings.StepEnd.TheVariants.{Went}
+use Rattle.mu_model.specs.declared.endings.Case.{Case}
+use Rattle.mu_model.specs.declared.endings.Ending.{Ending}
+use Rattle.mu_model.specs.Acts.{Access, Accesses, Faults, Fences}
+use Rattle.mu_model.specs.Accesses.{wanted, kind_of, access_results}
+use Rattle.mu_model.specs.Changes.{event}
+use Rattle.mu_model.specs.Outcomes.{Outcome, Next, End, Stuck, case_of_fault}
+use Rattle.thread_acts.specs.Held.{Held, ahead}
+use Rattle.thread_acts.specs.Acting.{left_configuration, answers, went_with, acting, goes_on}
+use Rattle.thread_acts.specs.Remembering.{initials, has_cell}
+use Rattle.thread_acts.specs.Accessing.{options_of, picking, accesses_found, race_at, logs_unless, logs}
+use Rattle.thread_acts.specs.StepLaws.{configuration_left}
+use Rattle.thread_acts.specs.AccessLaws.{cell_there, access_is, option_there, option_is, position_low, access_fits, access_room, fence_there, fence_is}
+
+-- ---- the cell
+
+pub place_there : (bundle : List Item) (s v : Held) (a : Access) (cell : CellId) → v ≡ s → acting bundle s (Accesses a cell) ≢ Stuck → IsSome (cell_of v.objects (Place cell.object cell.at))
+place_there bundle s v a cell view h = subst (λ (s : Held). IsSome (cell_of s.objects (Place cell.object cell.at))) (sym view) (cell_there bundle s a cell h)
+
+pub object_there : (P : HeapObject → Type 0) (os : List HeapObject) (n : ℕ) → IsSomeAnd (slice_get os n) P → n < length os
+object_there P [] n h = absurd h
+object_there P (o ∷ os) zero h = omega arith
+object_there P (o ∷ os) (suc n) h = omega (arith, object_there P os n h)
+
+at_low : (o : Option HeapObject) (at k : ℕ) → IsSomeAnd o (λ o. (at < length o.leaves) × (o.dead ≡ false)) → IsSomeAnd o (λ o. length o.leaves ≡ k) → at < k
+at_low None at k h many = absurd h
+at_low (Some o) at k h many = omega (arith, h.0, many)
+
+pub cell_known : (os : List HeapObject) (cell : CellId) (k : ℕ) → IsSomeAnd (slice_get os cell.object) (λ o. (cell.at < length o.leaves) × (o.dead ≡ false)) → IsSomeAnd (slice_get os cell.object) (λ o. length o.leaves ≡ k)
+    → IsSomeAnd (slice_get os cell.object) (λ o. length o.initial ≡ k) → HasCell (initials os) cell
+cell_known os cell k h leaves many = has_cell os (initials os) cell.object cell.at k refl many (at_low (slice_get os cell.object) cell.at k h leaves)
+
+pub found_picks : (bundle : List Item) (s v : Held) (a : Access) (cell there : CellId) (r : Result CellId PlaceFault) → v ≡ s → acting bundle s (Accesses a cell) ≢ Stuck → cell_of v.objects (Place cell.object cell.at) ≡ Some r → r ≡ Ok there
+    → acting bundle s (Accesses a cell) ≡ picking bundle s a there
+found_picks bundle s v a cell there r view h e is =
+    access_is bundle s a cell r h (ap (λ (s : Held). cell_of s.objects (Place cell.object cell.at)) (sym view) ∙ e) ∙ ap (accesses_found bundle s a) is
+
+pub found_fails : (bundle : List Item) (s v : Held) (a : Access) (cell : CellId) (f : PlaceFault) (k : Case) (r : Result CellId PlaceFault) → v ≡ s → acting bundle s (Accesses a cell) ≢ Stuck → cell_of v.objects (Place cell.object cell.at) ≡ Some r → r ≡ Err f
+    → k ≡ case_of_fault f → acting bundle s (Accesses a cell) ≡ acting bundle s (Faults k)
+found_fails bundle s v a cell f k r view h e is case =
+    access_is bundle s a cell r h (ap (λ (s : Held). cell_of s.objects (Place cell.object cell.at)) (sym view) ∙ e) ∙ ap (accesses_found bundle s a) is ∙ ap (λ k. acting bundle s (Faults k)) (sym case)
+
+pub there_so : (o p : Outcome) → o ≢ Stuck → o ≡ p → p ≢ Stuck
+there_so o p h e = λ stuck. h (e ∙ stuck)
+
+pub answered_so : {E : Type 0} (r : Result StepEnd E) (t : Held) (o p : Outcome) → IfOk r (λ end. answers end t ≡ p) → o ≡ p → IfOk r (λ end. answers end t ≡ o)
+answered_so (Ok end) t o p h e = h ∙ sym e
+answered_so (Err f) t o p h e = tt
+
+-- ---- the option that is picked
+
+-- what a memory and a schedule answered
+pub record Looked (s v : Held) (a : Access) (cell : CellId) (w : Wanted) (known : List (List Scalar)) (options : ℕ) (k : Chosen) : Type 0 where
+  pub view : v ≡ s
+  pub knows : known ≡ initials v.objects
+  pub wants : w ≡ wanted a
+  pub count : options ≡ length (choices v.rule (initial_of known) v.log v.thread cell w)
+  pub choice : slice_get (choices v.rule (initial_of known) v.log v.thread cell w) (pick options (drop v.skip v.picks)).0 ≡ Some k
+
+module _ (bundle : List Item) (s v : Held) (a : Access) (cell : CellId) (w : Wanted) (known : List (List Scalar)) (options : ℕ) (k : Chosen) (q : Looked s v a cell w known options k) where
+  same : choices v.rule (initial_of known) v.log v.thread cell w ≡ options_of s a cell
+  same =
+      ap (λ known. choices v.rule (initial_of known) v.log v.thread cell w) q.knows ∙ ap (λ w. choices v.rule (initial_of (initials v.objects)) v.log v.thread cell w) q.wants
+      ∙ ap (λ (s : Held). options_of s a cell) q.view
+
+  many : options ≡ length (options_of s a cell)
+  many = q.count ∙ ap length same
+
+  number : (pick options (drop v.skip v.picks)).0 ≡ (pick (length (options_of s a cell)) (ahead s)).0
+  number =
+      ap (λ m. (pick m (ahead v)).0) many ∙ ap (λ (x : Held). (pick (length (options_of s a cell)) (ahead x)).0) q.view
+
+  chosen : slice_get (options_of s a cell) (pick (length (options_of s a cell)) (ahead s)).0 ≡ Some k
+  chosen = ap (slice_get (options_of s a cell)) (sym number) ∙ ap (λ ks. slice_get ks (pick options (drop v.skip v.picks)).0) (sym same) ∙ q.choice
+
+  pub low : (count : ℕ) → count ≡ length v.log → count ≤ 100000000 → k.position < 4294967295
+  low count e short =
+      let log : length v.log ≡ length s.log = ap (λ (s : Held). length s.log) q.view in
+      let at = position_low s a cell (pick (length (options_of s a cell)) (ahead s)).0 k chosen in
+      omega (arith, at, e, log, short)
+
+  pub kind_there : picking bundle s a cell ≢ Stuck → IsSome (kind_of a cell k)
+  kind_there h = (option_there bundle s a cell k h chosen).0
+
+  pub goes_there : (f : Activation) (vs : List Value) → f ≡ v.frames.top → vs ≡ access_results a k → picking bundle s a cell ≢ Stuck → IsSome (goes_on bundle f vs)
+  goes_there f vs top results h =
+      let is : f ≡ s.frames.top = top ∙ ap (λ (s : Held). s.frames.top) q.view in
+      subst (λ f. IsSome (goes_on bundle f vs)) (sym is) (subst (λ vs. IsSome (goes_on bundle s.frames.top vs)) (sym results) (option_there bundle s a cell k h chosen).1)
+
+  thread : s.thread ≡ v.thread
+  thread = ap (λ (s : Held). s.thread) (sym q.view)
+
+  pub fits : (x : Kind) → is_thread v.log v.thread ≡ true → HasCell (initials s.objects) cell → kind_of a cell k ≡ Some x → EventFits s.rule (initials s.objects) s.log (event v.thread x)
+  fits x own there e =
+      let same : is_thread s.log s.thread ≡ true = subst (λ (s : Held). is_thread s.log s.thread ≡ true) q.view own in
+      subst (λ i. EventFits s.rule (initials s.objects) s.log (event i x)) thread (access_fits s a cell (pick (length (options_of s a cell)) (ahead s)).0 k x same there chosen e)
+
+  pub room : (x : Kind) → is_thread v.log v.thread ≡ true → HasCell (initials s.objects) cell → kind_of a cell k ≡ Some x → HasRoom (record { thread = s.thread; cell = Some cell; events = 1 }) (event v.thread x)
+  room x own there e =
+      let same : is_thread s.log s.thread ≡ true = subst (λ (s : Held). is_thread s.log s.thread ≡ true) q.view own in
+      subst (λ i. HasRoom (record { thread = s.thread; cell = Some cell; events = 1 }) (event i x)) thread (access_room s a cell (pick (length (options_of s a cell)) (ahead s)).0 k x same there chosen e)
+
+  pub picked : {E : Type 0} (r : Result StepEnd E) (t : Held) (x : Kind) (f : Activation) (vs out : List Value) (block at : ℕ) → picking bundle s a cell ≢ Stuck → kind_of a cell k ≡ Some x → f ≡ v.frames.top → vs ≡ access_results a k
+      → goes_on bundle f vs ≡ Some (stands f block at out)
+      → IfOk r (λ end. answers end t ≡ logs s (event v.thread x) (pick options (ahead s)).1 (record s.frames { top = stands s.frames.top block at out })) → IfOk r (λ end. answers end t ≡ picking bundle s a cell)
+  picked (Err e') t x f vs out block at h kind top results way answer = tt
+  picked (Ok end) t x f vs out block at h kind top results way answer =
+      let is : f ≡ s.frames.top = top ∙ ap (λ (s : Held). s.frames.top) q.view in
+      let on : goes_on bundle s.frames.top (access_results a k) ≡ Some (stands s.frames.top block at out) =
+      ap (goes_on bundle s.frames.top) (sym results) ∙ subst (λ f. goes_on bundle f vs ≡ Some (stands f block at out)) is way in
+      answer ∙ ap (λ i. logs s (event i x) (pick options (ahead s)).1 (record s.frames { top = stands s.frames.top block at out })) (sym thread)
+      ∙ ap (λ m. logs s (event s.thread x) (pick m (ahead s)).1 (record s.frames { top = stands s.frames.top block at out })) many
+      ∙ sym (option_is bundle s a cell k x (stands s.frames.top block at out) h chosen kind on)
+
+-- ---- an event that is logged, or races
+
+pub logs_race : (s v : Held) (e : Event) (picks : List ℕ) (fr : Chain) (lg : List Event) (rl : Rule) (n : ℕ) (k : Ending) (o : Outcome) → v ≡ s → lg ≡ v.log → rl ≡ v.rule → race rl lg e ≡ Some n → k ≡ race_at v e n → o ≡ End [] k → o ≡ logs s e picks fr
+unfolding logs
+logs_race s v e picks fr lg rl n k o view log rule races ending is =
+    let found : race v.rule v.log e ≡ Some n = ap (λ rl. race rl v.log e) (sym rule) ∙ ap (λ lg. race rl lg e) (sym log) ∙ races in
+    is ∙ ap (End []) ending ∙ ap (logs_unless v e picks fr) (sym found) ∙ ap (λ (s : Held). logs_unless s e picks fr (race s.rule s.log e)) view
+
+pub answers_lines : (t : Held) (ls : List Line) → t.left ≡ true → answers (Went ls) (record t { steps = t.steps + 1 }) ≡ went_with t (reverse ls)
+unfolding answers went_with
+answers_lines t ls e =
+    ap (λ c. Next (record c { lines = reverse ls })) (configuration_left (record t { steps = t.steps + 1 }) e) ∙ ap (λ n. Next (record (left_configuration (record t { steps = n })) { lines = reverse ls })) (add-one t.steps)
+
+-- the state with what was changed
+abbrev logged_state : Held → Chain → List Event → List ℕ → Rule → Held
+logged_state v fr lg picks rl = record v { frames = fr; log = lg; picks = picks; skip = 0; rule = rl; steps = v.steps + 1 }
+
+pub logs_on : (s v : Held) (e : Event) (options block at number : ℕ) (out : List Value) (fr : Chain) (lg after : List Event) (rl kept : Rule) (ps : List ℕ) (ls : List Line) → v ≡ s → s.left ≡ true → lg ≡ v.log → rl ≡ v.rule → race rl lg e ≡ None
+    → after ≡ e ∷ lg → kept ≡ rl → fr ≡ record v.frames { top = stands v.frames.top block at out } → ps ≡ (pick options (ahead v)).1 → number ≡ length v.log → ls ≡ lines.Event number e ∷ []
+    → answers (Went ls) (logged_state v fr after ps kept) ≡ logs s e (pick options (ahead s)).1 (record s.frames { top = stands s.frames.top block at out })
+unfolding logs
+logs_on s v e options block at number out fr lg after rl kept ps ls view left log rule alone added same frames picks count written =
+    let standing = record v.frames { top = stands v.frames.top block at out } in
+    let taken = (pick options (ahead v)).1 in
+    let none : race v.rule v.log e ≡ None = ap (λ rl. race rl v.log e) (sym rule) ∙ ap (λ lg. race rl lg e) (sym log) ∙ alone in
+    ap (λ ls. answers (Went ls) (logged_state v fr after ps kept)) written
+    ∙ ap (λ fr. answers (Went (lines.Event number e ∷ [])) (logged_state v fr after ps kept)) frames
+    ∙ ap (λ lg. answers (Went (lines.Event number e ∷ [])) (logged_state v standing lg ps kept)) (added ∙ ap (λ lg. e ∷ lg) log)
+    ∙ ap (λ ps. answers (Went (lines.Event number e ∷ [])) (logged_state v standing (e ∷ v.log) ps kept)) picks
+    ∙ ap (λ rl. answers (Went (lines.Event number e ∷ [])) (logged_state v standing (e ∷ v.log) taken rl)) (same ∙ rule)
+    ∙ answers_lines (record v { frames = standing; log = e ∷ v.log; picks = taken; skip = 0 }) (lines.Event number e ∷ []) (ap (λ (s : Held). s.left) view ∙ left)
+    ∙ ap (λ n. went_with (record v { frames = standing; log = e ∷ v.log; picks = taken; skip = 0 }) (lines.Event n e ∷ [])) count
+    ∙ ap (logs_unless v e taken standing) (sym none)
+    ∙ ap (λ (s : Held). logs_unless s e (pick options (ahead s)).1 (record s.frames { top = stands s.frames.top block at out }) (race s.rule s.log e)) view
+
+-- ---- a fence
+
+pub fence_goes_there : (bundle : List Item) (s v : Held) (o : Order) (f : Activation) (vs : List Value) → v ≡ s → acting bundle s (Fences o) ≢ Stuck → f ≡ v.frames.top → vs ≡ [] → IsSome (goes_on bundle f vs)
+fence_goes_there bundle s v o f vs view h top none =
+    let is : f ≡ s.frames.top = top ∙ ap (λ (s : Held). s.frames.top) view in
+    subst (λ f. IsSome (goes_on bundle f vs)) (sym is) (subst (λ vs. IsSome (goes_on bundle s.frames.top vs)) (sym none) (fence_there bundle s o h))
+
+pub fenced : {E : Type 0} (bundle : List Item) (s v t : Held) (o : Order) (f : Activation) (vs out : List Value) (block at : ℕ) (r : Result StepEnd E) → v ≡ s → acting bundle s (Fences o) ≢ Stuck → f ≡ v.frames.top → vs ≡ []
+    → goes_on bundle f vs ≡ Some (stands f block at out)
+    → IfOk r (λ end. answers end t ≡ logs s (event v.thread (Fence o)) (pick 1 (ahead s)).1 (record s.frames { top = stands s.frames.top block at out })) → IfOk r (λ end. answers end t ≡ acting bundle s (Fences o))
+fenced bundle s v t o f vs out block at (Err e) view h top none way answer = tt
+fenced bundle s v t o f vs out block at (Ok end) view h top none way answer =
+    let is : f ≡ s.frames.top = top ∙ ap (λ (s : Held). s.frames.top) view in
+    let on : goes_on bundle s.frames.top [] ≡ Some (stands s.frames.top block at out) = ap (goes_on bundle s.frames.top) (sym none) ∙ subst (λ f. goes_on bundle f vs ≡ Some (stands f block at out)) is way in
+    answer ∙ ap (λ i. logs s (event i (Fence o)) (pick 1 (ahead s)).1 (record s.frames { top = stands s.frames.top block at out })) (ap (λ (s : Held). s.thread) view) ∙ sym (fence_is bundle s o (stands s.frames.top block at out) h on)

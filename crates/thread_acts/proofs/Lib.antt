@@ -1,0 +1,8 @@
+pub mod AccessViews
+pub mod ActViews
+mod CellsAsked
+pub mod FutexViews
+mod ObjectViews
+pub mod Passing
+mod Signatures
+mod StackViews

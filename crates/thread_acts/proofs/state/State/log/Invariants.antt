@@ -1,0 +1,4 @@
+use Rattle.thread_acts.proofs.state.State.log.Given as goal
+
+abbrev pub ghosts-commit : goal.ghosts-commit
+ghosts-commit g a = record { name = a.blank.name; parts = a.blank.parts }

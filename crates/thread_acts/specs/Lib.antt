@@ -1,0 +1,17 @@
+pub mod AccessLaws
+pub mod Accessing
+pub mod ActLaws
+pub mod Acting
+pub mod FutexLaws
+pub mod Hand
+pub mod Held
+pub mod Kept
+pub mod Lists
+pub mod Making
+pub mod ObjectLaws
+pub mod Outcome
+pub mod Remembering
+pub mod StackLaws
+pub mod Starting
+pub mod StepLaws
+pub mod Unwinding

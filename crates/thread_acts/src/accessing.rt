@@ -1,0 +1,388 @@
+// Accesses of memory, and fences.
+ghost use Rattle.std.specs.Prelude.{◌≡◌, ◌≢◌, suc, ℕ, ◌+◌, ◌-◌, ◌<◌, [], ◌∷◌, IsSome, IsNone, Some, None, MatchOption, IfOk, OnOk, OnErr, length, slice_get, drop, true, false};
+ghost use Rattle.mem_axioms.specs.declared.types.Mode.TheVariants.{Read};
+ghost use Rattle.mem_axioms.specs.declared.types.Kind.TheVariants as kinds;
+ghost use Rattle.mem_axioms.specs.Objects.{HasCell, initial_of};
+ghost use Rattle.mem_axioms.specs.Choices.{choices};
+ghost use Rattle.mem_axioms.specs.Races.{race};
+ghost use Rattle.mem_axioms.specs.EventFits.{EventFits, is_thread};
+ghost use Rattle.mem_axioms.specs.Rooms.{HasRoom, one_less};
+ghost use Rattle.mem_axioms.specs.Synchronizes.{makes_thread};
+ghost use Rattle.mem_axioms.specs.Lemmas.Kept.{is_any_access};
+ghost use Rattle.mu_model.specs.declared.lines.Line.TheVariants as written;
+ghost use Rattle.mu_model.specs.Acts as acts;
+ghost use Rattle.mu_model.specs.Accesses.{wanted, updated, kind_of, access_results};
+ghost use Rattle.mu_threads.specs.Picks.{pick};
+ghost use Rattle.mu_model.specs.Outcomes.{Stuck};
+ghost use Rattle.frames.specs.Chains.{stands};
+ghost use Rattle.step_forms.specs.Asked.{access_of};
+ghost use Rattle.thread_acts.specs.Held.{ahead};
+ghost use Rattle.thread_acts.specs.Outcome.{Stays};
+ghost use Rattle.thread_acts.specs.Acting.{answers, acting};
+ghost use Rattle.thread_acts.specs.Remembering.{initials};
+ghost use Rattle.thread_acts.specs.Accessing.{picking, race_at, logs};
+
+use crate::finding::case_of;
+use crate::flow::{Place, passing, stand};
+use crate::state::{State, ended};
+use bundle_check::Checked;
+use client_hooks::Determined;
+use heap_cells::CellId;
+use mem_axioms::{Chosen, Event, Kind, Memory, Mode, Race, Wanted};
+use mu_base::{Order, Steps};
+use mu_model::{Case, Ending, Line, Lines, Raced, StepEnd};
+use mu_threads::Schedule;
+use mu_values::{Scalar, Slots, UpdateOp};
+use std::alloc::{AllocError, Global};
+use std::marker::Brand;
+use std::sync::ledger::{Blank, Ledger};
+use step_forms::Access;
+use typed_heap::what_is_found_fits;
+
+/// An access in the words of memory.
+fn wanted(access: Access) -> Wanted
+    ensures { result ≡ wanted (access_of access) }
+{
+    match access {
+        Access::Loads { order } => Wanted::Load { order },
+        Access::Stores { .. } | Access::Updates { .. } => Wanted::Swap,
+        Access::Compares {
+            weak,
+            success,
+            failure,
+            expected,
+            ..
+        } => Wanted::Compare {
+            success,
+            failure,
+            expected,
+            weak,
+        },
+    }
+}
+
+/// What an update makes of the scalar that it reads.
+#[tactic(auto, using(crate::specs::AccessLaws::update_there))]
+fn updated(op: UpdateOp, old: Scalar, operand: Scalar) -> Scalar
+    requires { IsSome (updated op old operand) }
+    ensures { updated op old operand ≡ Some result }
+{
+    match (op, old, operand) {
+        (UpdateOp::Xchg, _, _) => operand,
+        (_, Scalar::Int { width, bits }, Scalar::Int { bits: by, .. }) => Scalar::Int {
+            width,
+            bits: mu_values::updated(op, width, bits, by),
+        },
+        _ => unreachable!(),
+    }
+}
+
+/// A read of the scalar that was chosen.
+pub(crate) fn read(cell: CellId, order: Order, chosen: Chosen) -> Kind
+    ensures { result ≡ kinds.Access Read cell order chosen.position chosen.value }
+{
+    Kind::Access {
+        mode: Mode::Read,
+        cell,
+        order,
+        position: chosen.position,
+        value: chosen.value,
+    }
+}
+
+/// A write or update that makes the position behind the one that was chosen.
+fn make(mode: Mode, cell: CellId, order: Order, chosen: Chosen, value: Scalar) -> Kind
+    requires { chosen.position < 4294967295 }
+    ensures { result ≡ kinds.Access mode cell order (suc chosen.position) value }
+{
+    Kind::Access {
+        mode,
+        cell,
+        order,
+        position: chosen.position + 1,
+        value,
+    }
+}
+
+/// What is logged of an access of a cell by the option that was chosen.
+fn kind_of(access: Access, cell: CellId, chosen: Chosen) -> Kind
+    requires next { chosen.position < 4294967295 }
+    requires there { IsSome (kind_of (access_of access) cell chosen) }
+    ensures { kind_of (access_of access) cell chosen ≡ Some result }
+{
+    match access {
+        Access::Loads { order } => read(cell, order, chosen),
+        Access::Stores { order, scalar } => make(Mode::Write, cell, order, chosen, scalar),
+        Access::Compares {
+            success,
+            failure,
+            desired,
+            ..
+        } => {
+            if chosen.success {
+                make(Mode::Update, cell, success, chosen, desired)
+            } else {
+                read(cell, failure, chosen)
+            }
+        }
+        Access::Updates { order, op, operand } => {
+            let made = updated(op, chosen.value, operand);
+            make(Mode::Update, cell, order, chosen, made)
+        }
+    }
+}
+
+/// What an access gives by the option that was chosen, in place of what the list held.
+fn write_results(access: Access, chosen: Chosen, values: &mut Slots) -> Result<(), AllocError>
+    ensures { OnOk result (values.new.values ≡ access_results (access_of access) chosen) }
+{
+    values.clear();
+    match access {
+        Access::Stores { .. } => Ok(()),
+        Access::Loads { .. } | Access::Updates { .. } => values.push_scalar(chosen.value),
+        Access::Compares { .. } => {
+            values.push_scalar(chosen.value)?;
+            values.push_scalar(Scalar::Int {
+                width: 1,
+                bits: if chosen.success { 1 } else { 0 },
+            })
+        }
+    }
+}
+
+/// The line of an event with that number.
+pub fn line_of(alloc: Global, number: u32, event: Event) -> Result<Lines, AllocError>
+    ensures { IfOk result (λ lines. lines ≡ written.Event number event ∷ []) }
+{
+    let mut lines = Lines::new(alloc);
+    lines.push(Line::Event { number, event })?;
+    Ok(lines)
+}
+
+/// How many options an access of a cell has, and the one that is picked.
+fn option_picked<M: Memory, L: Ledger>(
+    memory: &M,
+    thread: u32,
+    picks: &Schedule,
+    skip: u32,
+    cell: CellId,
+    wanted: &Wanted,
+    blank: Blank,
+) -> (u32, Chosen)
+    requires name { blank.name ≡ L.name }
+    requires parts { blank.parts ≡ L.parts }
+    requires one { L.parts ≡ 1 }
+    requires thread { is_thread (M.log memory.now) thread ≡ true }
+    requires cell { HasCell (M.objects memory.now) cell }
+    requires events { length (M.log memory.now) + 1 < 4294967295 }
+    ensures count { result.0 ≡ length (choices (M.rule memory.now) (initial_of (M.objects memory.now)) (M.log memory.now) thread cell wanted.now) }
+    ensures some { 0 < result.0 }
+    ensures option { slice_get (choices (M.rule memory.now) (initial_of (M.objects memory.now)) (M.log memory.now) thread cell wanted.now) (pick result.0 (drop skip picks.now)).0 ≡ Some result.1 }
+{
+    let mut counter = Steps::<L>::new(blank);
+    let options = memory.options(thread, cell, wanted, &mut counter);
+    let picked = picks.look(skip, options);
+    let chosen = memory.choose(thread, cell, wanted, picked, &mut counter);
+    (options, chosen)
+}
+
+/// A memory gets an event; where it races, that is the answer, and the memory is as before.
+pub(crate) fn commit<M: Memory, L: Ledger>(
+    memory: &mut M,
+    event: Event,
+    blank: Blank,
+) -> Option<Race>
+    requires name { blank.name ≡ L.name }
+    requires parts { blank.parts ≡ L.parts }
+    requires one { L.parts ≡ 1 }
+    requires fits { EventFits (M.rule memory.old) (M.objects memory.old) (M.log memory.old) event }
+    requires room { HasRoom (M.room memory.old) event }
+    requires count { length (M.log memory.old) + 1 < 4294967295 }
+    ensures race { MatchOption result (race (M.rule memory.old) (M.log memory.old) event ≡ None) (λ found. race (M.rule memory.old) (M.log memory.old) event ≡ Some found.earlier) }
+    ensures added { IsNone result → M.log memory.new ≡ event ∷ M.log memory.old }
+    ensures raced { IsSome result → M.log memory.new ≡ M.log memory.old }
+    ensures left { IsNone result → M.room memory.new ≡ one_less (M.room memory.old) }
+    ensures same_objects { M.objects memory.new ≡ M.objects memory.old }
+    ensures same_rule { M.rule memory.new ≡ M.rule memory.old }
+{
+    let mut counter = Steps::<L>::new(blank);
+    memory.commit(event, &mut counter)
+}
+
+/// A memory gets an event that is no access, and so races with none.
+#[tactic(auto, using(crate::specs::AccessLaws::others_alone))]
+pub fn commit_other<M: Memory, L: Ledger>(memory: &mut M, event: Event, blank: Blank)
+    requires name { blank.name ≡ L.name }
+    requires parts { blank.parts ≡ L.parts }
+    requires one { L.parts ≡ 1 }
+    requires other { is_any_access event ≡ false }
+    requires fits { EventFits (M.rule memory.old) (M.objects memory.old) (M.log memory.old) event }
+    requires room { 0 < (M.room memory.old).events }
+    requires count { length (M.log memory.old) + 1 < 4294967295 }
+    ensures added { M.log memory.new ≡ event ∷ M.log memory.old }
+    ensures left { (M.room memory.new).events ≡ (M.room memory.old).events - 1 }
+    ensures same_objects { M.objects memory.new ≡ M.objects memory.old }
+    ensures same_rule { M.rule memory.new ≡ M.rule memory.old }
+{
+    match commit::<M, L>(memory, event, blank) {
+        None => {}
+        Some(_race) => unreachable!(),
+    }
+}
+
+/// So many picks are taken, and then one among so many options.
+fn take_picks(picks: &mut Schedule, skip: u32, options: u32)
+    requires { 0 < options }
+    ensures { picks.new ≡ (pick options (drop skip picks.old)).1 }
+{
+    picks.skip(skip);
+    picks.pick(options);
+}
+
+impl<M: Memory, C: Determined> State<M, C> {
+    /// The thread accesses a cell.
+    #[tactic(auto, using(crate::specs::AccessLaws::accessing))]
+    pub fn access(
+        &mut self,
+        alloc: Global,
+        code: &Checked,
+        access: Access,
+        cell: CellId,
+        values: &mut Slots,
+        out: &mut Slots,
+    ) -> Result<StepEnd, AllocError>
+        requires left { self.old.left ≡ true }
+        requires room { self.old.steps < self.old.budget }
+        requires there { acting code.now self.old (acts.Accesses (access_of access) cell) ≢ Stuck }
+        ensures ok { IfOk result (λ end. answers end self.new ≡ acting code.now self.old (acts.Accesses (access_of access) cell)) }
+        ensures err { OnErr result (self.new ≡ self.old) }
+        ensures stays { IfOk result (λ end. Stays end self.old self.new) }
+    {
+        what_is_found_fits();
+        let place = Scalar::Place {
+            object: cell.object,
+            at: cell.at,
+        };
+        match self.heap.cell_of(place) {
+            Ok(cell) => {
+                let _cells = self.heap.size(cell.object);
+                self.access_cell(alloc, code, access, cell, values, out)
+            }
+            Err(fault) => self.refuse(alloc, code, case_of(fault), out),
+        }
+    }
+
+    /// The thread accesses a cell that is there.
+    fn access_cell(
+        &mut self,
+        alloc: Global,
+        code: &Checked,
+        access: Access,
+        cell: CellId,
+        values: &mut Slots,
+        out: &mut Slots,
+    ) -> Result<StepEnd, AllocError>
+        requires left { self.old.left ≡ true }
+        requires room { self.old.steps < self.old.budget }
+        requires cell { HasCell (initials self.old.objects) cell }
+        requires there { picking code.now self.old (access_of access) cell ≢ Stuck }
+        ensures ok { IfOk result (λ end. answers end self.new ≡ picking code.now self.old (access_of access) cell) }
+        ensures err { OnErr result (self.new ≡ self.old) }
+        ensures stays { IfOk result (λ end. Stays end self.old self.new) }
+    {
+        let (options, chosen) = option_picked::<M, Brand>(
+            &self.memory,
+            self.thread,
+            &self.picks,
+            self.skip,
+            cell,
+            &wanted(access),
+            Blank::new(1),
+        );
+        let event = Event {
+            thread: self.thread,
+            kind: kind_of(access, cell, chosen),
+        };
+        write_results(access, chosen, values)?;
+        let place = passing(code, self.frames.top(), values, out)?;
+        self.log(alloc, event, Some(cell), options, place, out)
+    }
+
+    /// The ending of a run whose last event races.
+    pub(crate) fn race_ending(&self, event: Event, race: Race) -> Ending
+        ensures { result ≡ race_at self.now event race.earlier }
+    {
+        let top = self.frames.top();
+        Ending::Undefined {
+            case: Case::DataRace,
+            thread: self.thread,
+            block: top.block,
+            at: top.at,
+            race: Some(Raced {
+                event,
+                earlier: race.earlier,
+            }),
+        }
+    }
+
+    /// The thread's event is logged, and it goes on at a place, with the values in the list for its variables; a pick among so many
+    /// options is taken. Where the event races that is the ending.
+    pub(crate) fn log(
+        &mut self,
+        alloc: Global,
+        event: Event,
+        cell: Option<CellId>,
+        options: u32,
+        place: Place,
+        out: &mut Slots,
+    ) -> Result<StepEnd, AllocError>
+        requires left { self.old.left ≡ true }
+        requires room { self.old.steps < self.old.budget }
+        requires makes { (i : ℕ) → makes_thread i event ≡ false }
+        requires fits { EventFits self.old.rule (initials self.old.objects) self.old.log event }
+        requires cell { HasRoom (record { thread = self.old.thread; cell = cell; events = 1 }) event }
+        requires options { 0 < options }
+        ensures ok { IfOk result (λ end. answers end self.new ≡ logs self.old event (pick options (ahead self.old)).1 (record self.old.frames { top = stands self.old.frames.top place.block place.at out.old.values })) }
+        ensures err { OnErr result (self.new ≡ self.old) }
+        ensures stays { IfOk result (λ end. Stays end self.old self.new) }
+    {
+        let lines = line_of(alloc, self.events, event)?;
+        self.memory.reserve(self.thread, cell, 1)?;
+        match commit::<M, Brand>(&mut self.memory, event, Blank::new(1)) {
+            Some(race) => Ok(ended(alloc, self.race_ending(event, race))),
+            None => {
+                stand(&mut self.frames, place, out);
+                take_picks(&mut self.picks, self.skip, options);
+                self.skip = 0;
+                self.events += 1;
+                self.steps += 1;
+                Ok(StepEnd::Went(lines))
+            }
+        }
+    }
+
+    /// The thread passes a fence.
+    pub fn fence(
+        &mut self,
+        alloc: Global,
+        code: &Checked,
+        order: Order,
+        values: &mut Slots,
+        out: &mut Slots,
+    ) -> Result<StepEnd, AllocError>
+        requires left { self.old.left ≡ true }
+        requires room { self.old.steps < self.old.budget }
+        requires there { acting code.now self.old (acts.Fences order) ≢ Stuck }
+        ensures ok { IfOk result (λ end. answers end self.new ≡ acting code.now self.old (acts.Fences order)) }
+        ensures err { OnErr result (self.new ≡ self.old) }
+        ensures stays { IfOk result (λ end. Stays end self.old self.new) }
+    {
+        let event = Event {
+            thread: self.thread,
+            kind: Kind::Fence { order },
+        };
+        values.clear();
+        let place = passing(code, self.frames.top(), values, out)?;
+        self.log(alloc, event, None, 1, place, out)
+    }
+}

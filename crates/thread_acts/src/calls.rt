@@ -1,0 +1,106 @@
+// Calls.
+ghost use Rattle.std.specs.Prelude.{◌≡◌, ◌≢◌, ◌<◌, IsSome, Some, IfOk, IfSome, OnErr, true};
+ghost use Rattle.mu_model.specs.Outcomes.{Stuck};
+ghost use Rattle.mu_model.specs.Acts as acts;
+ghost use Rattle.thread_acts.specs.Held.{Held};
+ghost use Rattle.thread_acts.specs.Outcome.{Stays};
+ghost use Rattle.thread_acts.specs.Acting.{answers, went_on, acting, awaited, entered, entered_above, objects_end};
+
+use crate::objects::end_objects;
+use crate::state::State;
+use crate::waiting::{enter, entered, waiting};
+use bundle_check::Checked;
+use client_hooks::Determined;
+use frames::Frames;
+use mem_axioms::Memory;
+use mu_model::{Case, StepEnd};
+use mu_values::Slots;
+use std::alloc::{AllocError, Global};
+use std::mem;
+
+/// The top frame is that of a function that is entered with these values at that block.
+fn replace_top(frames: &mut Frames, block: u32, values: &mut Slots)
+    ensures { frames.new ≡ record frames.old { top = entered block values.old.values } }
+{
+    frames.jump(block, values);
+    frames.top_mut().cells.clear();
+}
+
+impl<M: Memory, C: Determined> State<M, C> {
+    /// The thread calls a function.
+    #[tactic(auto, using(crate::specs::ActLaws::calling))]
+    pub fn call(
+        &mut self,
+        alloc: Global,
+        code: &Checked,
+        function: u32,
+        values: &mut Slots,
+    ) -> Result<StepEnd, AllocError>
+        requires left { self.old.left ≡ true }
+        requires room { self.old.steps < self.old.budget }
+        requires there { acting code.now self.old (acts.Calls function values.old.values) ≢ Stuck }
+        ensures ok { IfOk result (λ end. answers end self.new ≡ acting code.now self.old (acts.Calls function values.old.values)) }
+        ensures err { OnErr result (self.new ≡ self.old) }
+        ensures stays { IfOk result (λ end. Stays end self.old self.new) }
+    {
+        match code.function(function).first {
+            None => Ok(self.undefined(alloc, Case::NoBody)),
+            Some(block) => self.call_at(alloc, code, function, block, values),
+        }
+    }
+
+    /// The thread calls a function with that first block.
+    fn call_at(
+        &mut self,
+        alloc: Global,
+        code: &Checked,
+        function: u32,
+        block: u32,
+        values: &mut Slots,
+    ) -> Result<StepEnd, AllocError>
+        requires left { self.old.left ≡ true }
+        requires room { self.old.steps < self.old.budget }
+        requires there { IsSome (awaited code.now self.old.frames.top function) }
+        ensures ok { IfOk result (λ end. IfSome (awaited code.now self.old.frames.top function) (λ w. answers end self.new ≡ went_on (record self.old { frames = entered_above self.old.frames (entered block values.old.values) w }))) }
+        ensures err { OnErr result (self.new ≡ self.old) }
+        ensures stays { IfOk result (λ end. Stays end self.old self.new) }
+    {
+        let waiting = waiting(alloc, code, self.frames.top(), function)?;
+        let values = mem::replace(values, Slots::new(alloc));
+        enter(&mut self.frames, entered(alloc, block, values), waiting)?;
+        Ok(self.went(alloc))
+    }
+
+    /// The thread calls a function in place of its top frame.
+    #[tactic(auto, using(crate::specs::ActLaws::replacing))]
+    pub fn call_in_place(
+        &mut self,
+        alloc: Global,
+        code: &Checked,
+        function: u32,
+        values: &mut Slots,
+    ) -> StepEnd
+        requires left { self.old.left ≡ true }
+        requires room { self.old.steps < self.old.budget }
+        requires there { acting code.now self.old (acts.Replaces function values.old.values) ≢ Stuck }
+        ensures on { answers result self.new ≡ acting code.now self.old (acts.Replaces function values.old.values) }
+        ensures end { Stays result self.old self.new }
+    {
+        match code.function(function).first {
+            None => self.undefined(alloc, Case::NoBody),
+            Some(block) => self.replace_at(alloc, block, values),
+        }
+    }
+
+    /// The top frame ends, and that of a function with that first block stands in its place.
+    fn replace_at(&mut self, alloc: Global, block: u32, values: &mut Slots) -> StepEnd
+        requires left { self.old.left ≡ true }
+        requires room { self.old.steps < self.old.budget }
+        ensures on { answers result self.new ≡ went_on (record self.old { frames = record self.old.frames { top = entered block values.old.values }; objects = objects_end self.old.objects self.old.frames.top.objects }) }
+        ensures end { (s t : Held) → Stays result s t }
+    {
+        end_objects(&mut self.heap, self.frames.top().cells.as_slice());
+        replace_top(&mut self.frames, block, values);
+        self.went(alloc)
+    }
+}

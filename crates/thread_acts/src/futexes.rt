@@ -1,0 +1,200 @@
+// Waits at a cell, wakes, and the end of a wait with a limit.
+ghost use Rattle.std.specs.Prelude.{◌≡◌, ◌≢◌, ◌+◌, ◌<◌, [], ◌∷◌, IsSomeAnd, Some, None, IfOk, OnOk, OnErr, find, length, slice_get, true, false, ℕ};
+ghost use Rattle.mu_base.specs.declared.order.Order.TheVariants.{Relaxed};
+ghost use Rattle.mu_values.specs.declared.scalars.Scalar.TheVariants.{Int};
+ghost use Rattle.mem_axioms.specs.declared.types.Wanted.TheVariants.{Load};
+ghost use Rattle.mem_axioms.specs.Objects.{HasCell, initial_of};
+ghost use Rattle.mem_axioms.specs.Choices.{choices};
+ghost use Rattle.mem_axioms.specs.EventFits.{EventFits, is_thread};
+ghost use Rattle.mem_axioms.specs.Rooms.{HasRoom};
+ghost use Rattle.mem_axioms.specs.Synchronizes.{makes_thread};
+ghost use Rattle.mu_model.specs.Acts as acts;
+ghost use Rattle.mu_model.specs.Outcomes.{Stuck};
+ghost use Rattle.mu_model.specs.Waiting.{is_of};
+ghost use Rattle.thread_acts.specs.Outcome.{Stays};
+ghost use Rattle.thread_acts.specs.Acting.{answers, acting, stepping};
+ghost use Rattle.thread_acts.specs.Remembering.{initials};
+ghost use Rattle.thread_acts.specs.StepLaws.{GoesOn};
+ghost use Rattle.thread_acts.specs.FutexLaws.{waiting_at, waits_with};
+
+use crate::accessing::{commit, line_of, read};
+use crate::finding::case_of;
+use crate::flow::{passing, stand};
+use crate::results::line;
+use crate::state::{State, ended};
+use bundle_check::Checked;
+use client_hooks::Determined;
+use heap_cells::CellId;
+use mem_axioms::event_facts::is_same_scalar;
+use mem_axioms::{Chosen, Event, Memory, Wanted};
+use mu_base::{Order, Steps};
+use mu_model::{Note, StepEnd};
+use mu_values::{Scalar, Slots};
+use std::alloc::{AllocError, Global};
+use std::marker::Brand;
+use std::sync::ledger::{Blank, Ledger};
+use typed_heap::what_is_found_fits;
+
+/// What a thread gets whose wait found another value, that is -1.
+const ANOTHER: u128 = 4294967295;
+
+/// What a thread gets whose wait with a limit is over, that is -3.
+const OVER: u128 = 4294967293;
+
+/// One result, of an integer of 32 bits.
+pub fn tell(bits: u128, values: &mut Slots) -> Result<(), AllocError>
+    ensures { OnOk result (values.new.values ≡ (Int 32 bits ∷ []) ∷ []) }
+{
+    values.clear();
+    values.push_scalar(Scalar::Int { width: 32, bits })
+}
+
+/// The newest position that a relaxed load of a cell may read.
+fn newest<M: Memory, L: Ledger>(memory: &M, thread: u32, cell: CellId, blank: Blank) -> Chosen
+    requires name { blank.name ≡ L.name }
+    requires parts { blank.parts ≡ L.parts }
+    requires one { L.parts ≡ 1 }
+    requires thread { is_thread (M.log memory.now) thread ≡ true }
+    requires cell { HasCell (M.objects memory.now) cell }
+    requires events { length (M.log memory.now) + 1 < 4294967295 }
+    ensures { slice_get (choices (M.rule memory.now) (initial_of (M.objects memory.now)) (M.log memory.now) thread cell (Load Relaxed)) 0 ≡ Some result }
+{
+    let mut counter = Steps::<L>::new(blank);
+    let wanted = Wanted::Load {
+        order: Order::Relaxed,
+    };
+    let _many = memory.options(thread, cell, &wanted, &mut counter);
+    memory.choose(thread, cell, &wanted, 0, &mut counter)
+}
+
+impl<M: Memory, C: Determined> State<M, C> {
+    /// The thread's wait with a limit at this cell is over.
+    #[tactic(auto, using(crate::specs::FutexLaws::fewer_sound))]
+    pub fn time_out(
+        &mut self,
+        alloc: Global,
+        code: &Checked,
+        cell: CellId,
+        values: &mut Slots,
+        out: &mut Slots,
+    ) -> Result<StepEnd, AllocError>
+        requires left { self.old.left ≡ true }
+        requires room { self.old.steps < self.old.budget }
+        requires waits { IsSomeAnd (find (is_of self.old.thread) self.old.seats.waiters) (λ w. w.cell ≡ cell) }
+        requires there { stepping code.now self.old ≢ Stuck }
+        ensures ok { IfOk result (λ end. answers end self.new ≡ stepping code.now self.old) }
+        ensures err { OnErr result (self.new ≡ self.old) }
+        ensures stays { IfOk result (λ end. Stays end self.old self.new) }
+    {
+        let thread = self.thread;
+        let lines = line(alloc, Note::TimedOut { thread, cell })?;
+        tell(OVER, values)?;
+        let place = passing(code, self.frames.top(), values, out)?;
+        self.seats.stop(thread);
+        stand(&mut self.frames, place, out);
+        self.steps += 1;
+        Ok(StepEnd::Went(lines))
+    }
+
+    /// The thread waits at a cell where that holds the expected value; else it goes on.
+    pub fn wait(
+        &mut self,
+        alloc: Global,
+        code: &Checked,
+        timed: bool,
+        expected: Scalar,
+        cell: CellId,
+        values: &mut Slots,
+        out: &mut Slots,
+    ) -> Result<StepEnd, AllocError>
+        requires left { self.old.left ≡ true }
+        requires room { self.old.steps < self.old.budget }
+        requires goes_on { GoesOn self.old }
+        requires there { acting code.now self.old (acts.Waits timed expected cell) ≢ Stuck }
+        ensures ok { IfOk result (λ end. answers end self.new ≡ acting code.now self.old (acts.Waits timed expected cell)) }
+        ensures err { OnErr result (self.new ≡ self.old) }
+        ensures stays { IfOk result (λ end. Stays end self.old self.new) }
+    {
+        what_is_found_fits();
+        let place = Scalar::Place {
+            object: cell.object,
+            at: cell.at,
+        };
+        match self.heap.cell_of(place) {
+            Ok(cell) => {
+                let _cells = self.heap.size(cell.object);
+                self.wait_at(alloc, code, timed, expected, cell, values, out)
+            }
+            Err(fault) => self.refuse(alloc, code, case_of(fault), out),
+        }
+    }
+
+    /// The same at a cell that is there.
+    fn wait_at(
+        &mut self,
+        alloc: Global,
+        code: &Checked,
+        timed: bool,
+        expected: Scalar,
+        cell: CellId,
+        values: &mut Slots,
+        out: &mut Slots,
+    ) -> Result<StepEnd, AllocError>
+        requires left { self.old.left ≡ true }
+        requires room { self.old.steps < self.old.budget }
+        requires goes_on { GoesOn self.old }
+        requires cell { HasCell (initials self.old.objects) cell }
+        requires there { waiting_at code.now self.old timed expected cell ≢ Stuck }
+        ensures ok { IfOk result (λ end. answers end self.new ≡ waiting_at code.now self.old timed expected cell) }
+        ensures err { OnErr result (self.new ≡ self.old) }
+        ensures stays { IfOk result (λ end. Stays end self.old self.new) }
+    {
+        let chosen = newest::<M, Brand>(&self.memory, self.thread, cell, Blank::new(1));
+        let event = Event {
+            thread: self.thread,
+            kind: read(cell, Order::Relaxed, chosen),
+        };
+        if is_same_scalar(chosen.value, expected) {
+            return self.stand_waiting(alloc, event, cell, timed);
+        }
+        tell(ANOTHER, values)?;
+        let place = passing(code, self.frames.top(), values, out)?;
+        self.log(alloc, event, Some(cell), 1, place, out)
+    }
+
+    /// The thread's read is logged, and it waits where it stands. Where the read races that is the ending, and it does not wait.
+    #[tactic(auto, using(crate::specs::FutexLaws::more_sound))]
+    fn stand_waiting(
+        &mut self,
+        alloc: Global,
+        event: Event,
+        cell: CellId,
+        timed: bool,
+    ) -> Result<StepEnd, AllocError>
+        requires left { self.old.left ≡ true }
+        requires room { self.old.steps < self.old.budget }
+        requires goes_on { GoesOn self.old }
+        requires makes { (i : ℕ) → makes_thread i event ≡ false }
+        requires fits { EventFits self.old.rule (initials self.old.objects) self.old.log event }
+        requires cell { HasRoom (record { thread = self.old.thread; cell = Some cell; events = 1 }) event }
+        ensures ok { IfOk result (λ end. answers end self.new ≡ waits_with self.old event cell timed) }
+        ensures err { OnErr result (self.new ≡ self.old) }
+        ensures stays { IfOk result (λ end. Stays end self.old self.new) }
+    {
+        let lines = line_of(alloc, self.events, event)?;
+        self.memory.reserve(self.thread, Some(cell), 1)?;
+        // It waits first, as that may be refused. Of what races nothing is left, so it stops again then.
+        self.seats.wait(self.thread, cell, timed)?;
+        match commit::<M, Brand>(&mut self.memory, event, Blank::new(1)) {
+            Some(race) => {
+                self.seats.stop(self.thread);
+                Ok(ended(alloc, self.race_ending(event, race)))
+            }
+            None => {
+                self.events += 1;
+                self.steps += 1;
+                Ok(StepEnd::Went(lines))
+            }
+        }
+    }
+}

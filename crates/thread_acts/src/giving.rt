@@ -1,0 +1,111 @@
+// What the thread's instruction gives, and where the thread goes on.
+ghost use Rattle.std.specs.Prelude.{◌≡◌, ◌≢◌, ◌+◌, ◌<◌, [], ◌∷◌, ◌++◌, IfOk, OnErr, true};
+ghost use Rattle.frames.specs.Chains.{stands};
+ghost use Rattle.mu_model.specs.Outcomes.{Stuck};
+ghost use Rattle.mu_model.specs.Acts as acts;
+ghost use Rattle.thread_acts.specs.Held.{Held};
+ghost use Rattle.thread_acts.specs.Outcome.{Stays};
+ghost use Rattle.thread_acts.specs.Acting.{answers, went_on, acting};
+
+use crate::flow::{passing, push_on_top, stand};
+use crate::state::State;
+use bundle_check::Checked;
+use client_hooks::Determined;
+use mem_axioms::Memory;
+use mu_model::StepEnd;
+use mu_values::{Scalar, Slots};
+use std::alloc::{AllocError, Global};
+
+impl<M: Memory, C: Determined> State<M, C> {
+    /// The thread's instruction has these results.
+    #[tactic(auto, using(crate::specs::ActLaws::giving))]
+    pub fn give(
+        &mut self,
+        alloc: Global,
+        code: &Checked,
+        results: &Slots,
+        out: &mut Slots,
+    ) -> Result<StepEnd, AllocError>
+        requires left { self.old.left ≡ true }
+        requires room { self.old.steps < self.old.budget }
+        requires there { acting code.now self.old (acts.Gives results.now.values) ≢ Stuck }
+        ensures ok { IfOk result (λ end. answers end self.new ≡ acting code.now self.old (acts.Gives results.now.values)) }
+        ensures err { OnErr result (self.new ≡ self.old) }
+        ensures stays { IfOk result (λ end. (s t : Held) → Stays end s t) }
+    {
+        let place = passing(code, self.frames.top(), results, out)?;
+        stand(&mut self.frames, place, out);
+        Ok(self.went(alloc))
+    }
+
+    /// The thread's instruction has one result, of one scalar, and goes on at the next place.
+    fn push(&mut self, alloc: Global, scalar: Scalar) -> Result<StepEnd, AllocError>
+        requires left { self.old.left ≡ true }
+        requires room { self.old.steps < self.old.budget }
+        ensures ok { IfOk result (λ end. answers end self.new ≡ went_on (record self.old { frames = record self.old.frames { top = stands self.old.frames.top self.old.frames.top.block (self.old.frames.top.at + 1) (self.old.frames.top.vars ++ (scalar ∷ []) ∷ []) } })) }
+        ensures err { OnErr result (self.new ≡ self.old) }
+        ensures stays { IfOk result (λ end. (s t : Held) → Stays end s t) }
+    {
+        push_on_top(&mut self.frames, scalar)?;
+        Ok(self.went(alloc))
+    }
+
+    /// The same by way of the lists, where it goes on elsewhere.
+    fn give_one(
+        &mut self,
+        alloc: Global,
+        code: &Checked,
+        scalar: Scalar,
+        values: &mut Slots,
+        out: &mut Slots,
+    ) -> Result<StepEnd, AllocError>
+        requires left { self.old.left ≡ true }
+        requires room { self.old.steps < self.old.budget }
+        requires there { acting code.now self.old (acts.Gives ((scalar ∷ []) ∷ [])) ≢ Stuck }
+        ensures ok { IfOk result (λ end. answers end self.new ≡ acting code.now self.old (acts.Gives ((scalar ∷ []) ∷ []))) }
+        ensures err { OnErr result (self.new ≡ self.old) }
+        ensures stays { IfOk result (λ end. (s t : Held) → Stays end s t) }
+    {
+        values.clear();
+        values.push_scalar(scalar)?;
+        self.give(alloc, code, values, out)
+    }
+
+    /// The thread's instruction has one result, of one scalar.
+    #[tactic(auto, using(crate::specs::ActLaws::giving_next))]
+    pub fn give_scalar(
+        &mut self,
+        alloc: Global,
+        code: &Checked,
+        scalar: Scalar,
+        values: &mut Slots,
+        out: &mut Slots,
+    ) -> Result<StepEnd, AllocError>
+        requires left { self.old.left ≡ true }
+        requires room { self.old.steps < self.old.budget }
+        requires there { acting code.now self.old (acts.Gives ((scalar ∷ []) ∷ [])) ≢ Stuck }
+        ensures ok { IfOk result (λ end. answers end self.new ≡ acting code.now self.old (acts.Gives ((scalar ∷ []) ∷ []))) }
+        ensures err { OnErr result (self.new ≡ self.old) }
+        ensures stays { IfOk result (λ end. (s t : Held) → Stays end s t) }
+    {
+        let top = self.frames.top();
+        if top.fresh {
+            return self.give_one(alloc, code, scalar, values, out);
+        }
+        match &code.code(top.block, top.at).normal {
+            None => self.push(alloc, scalar),
+            Some(_) => self.give_one(alloc, code, scalar, values, out),
+        }
+    }
+
+    /// The thread goes to a block with these values.
+    pub fn go(&mut self, alloc: Global, block: u32, values: &mut Slots) -> StepEnd
+        requires left { self.old.left ≡ true }
+        requires room { self.old.steps < self.old.budget }
+        ensures on { answers result self.new ≡ went_on (record self.old { frames = record self.old.frames { top = stands self.old.frames.top block 0 values.old.values } }) }
+        ensures end { (s t : Held) → Stays result s t }
+    {
+        self.frames.jump(block, values);
+        self.went(alloc)
+    }
+}

@@ -1,0 +1,135 @@
+// The first state of a run.
+ghost use Rattle.std.specs.Prelude.{◌≡◌, ℕ, ◌-◌, ◌<◌, ◌≤◌, ◌++◌, ◌∷◌, [], IsSome, IsSomeAnd, Some, IfOk, OnOk, length};
+ghost use Rattle.type_laws.specs.Same.{IsGraph};
+ghost use Rattle.bundle_check.specs.Checking.{bundle_tables};
+ghost use Rattle.typed_heap.specs.Objects.{leaf_classes, object_of};
+ghost use Rattle.typed_heap.specs.Heap.{AreNarrow};
+ghost use Rattle.mu_model.specs.Run.{global_objects, cells_taken};
+ghost use Rattle.model_numbers.specs.Numbered.{numbered};
+ghost use Rattle.thread_acts.specs.Acting.{entered};
+ghost use Rattle.thread_acts.specs.Held.{configuration};
+ghost use Rattle.thread_acts.specs.Starting.{global_object, starting};
+
+use crate::making::remember_all;
+use crate::objects::MOST_OBJECTS;
+use crate::state::State;
+use crate::waiting::entered;
+use bundle_check::Checked;
+use bundle_facts::{globals_are_types, widths_are_narrow};
+use client_hooks::Determined;
+use frames::Frames;
+use mem_axioms::Memory;
+use mu_threads::Schedule;
+use mu_types::{Classes, TypeDef};
+use mu_values::Slots;
+use seats::Seats;
+use std::alloc::{AllocError, Global};
+use trap_answers::Watched;
+use typed_heap::Heap;
+
+/// Adds the object of a global with the leaves of that type.
+fn add_object(classes: &Classes, t: u32, heap: &mut Heap) -> Result<(), AllocError>
+    requires graph { IsGraph classes.now.definitions }
+    requires narrow { AreNarrow classes.now.definitions }
+    requires t { t < length classes.now.definitions }
+    ensures objects { OnOk result (heap.new.objects ≡ heap.old.objects ++ object_of classes.now.definitions (leaf_classes classes.now.definitions t) ∷ []) }
+    ensures left { OnOk result (heap.new.left ≡ heap.old.left) }
+{
+    if u32::try_from(classes.leaves(t).len()).is_err() || heap.objects() >= MOST_OBJECTS {
+        return Err(AllocError);
+    }
+    heap.add_global(classes, t)?;
+    Ok(())
+}
+
+/// Adds the object of a global whose places have that class.
+#[tactic(auto, using(crate::specs::Starting::irefs))]
+fn add_global(classes: &Classes, class: u32, heap: &mut Heap) -> Result<(), AllocError>
+    requires graph { IsGraph classes.now.definitions }
+    requires narrow { AreNarrow classes.now.definitions }
+    requires class { class < length classes.now.definitions }
+    ensures objects { OnOk result (heap.new.objects ≡ heap.old.objects ++ global_object classes.now.definitions class ∷ []) }
+    ensures left { OnOk result (heap.new.left ≡ heap.old.left) }
+{
+    match classes.definition(class) {
+        TypeDef::Iref(t) => add_object(classes, *t, heap),
+        _ => Err(AllocError),
+    }
+}
+
+/// A heap with the objects of the globals, in text order, in which so many cells may be made besides.
+#[tactic(auto, using(crate::specs::Starting::globals))]
+pub fn first_heap(alloc: Global, code: &Checked, cells: u32) -> Result<Heap, AllocError>
+    ensures objects { IfOk result (λ heap. heap.objects ≡ global_objects (bundle_tables code.now)) }
+    ensures left { IfOk result (λ heap. heap.left ≡ cells) }
+{
+    let _items = code.items();
+    widths_are_narrow();
+    globals_are_types();
+    let classes = code.classes();
+    let mut heap = Heap::new(alloc, cells);
+    for class in code.tables().global_cells.as_slice() {
+        add_global(classes, *class, &mut heap)?;
+    }
+    Ok(heap)
+}
+
+/// The frames of a stack whose function begins with that block.
+fn first_frames(alloc: Global, block: u32) -> Result<Frames, AllocError>
+    ensures top { IfOk result (λ frames. frames.top ≡ entered block []) }
+    ensures below { IfOk result (λ frames. frames.below ≡ []) }
+{
+    match Frames::new(alloc, entered(alloc, block, Slots::new(alloc))) {
+        Ok(frames) => Ok(frames),
+        Err(_refused) => Err(AllocError),
+    }
+}
+
+impl<M: Memory + Drop, C: Determined + Drop> State<M, C> {
+    /// Thread 0 on stack 0, in that function, with the objects of a heap, of which the memory is told.
+    #[tactic(auto, using(crate::specs::Starting::starts, crate::specs::Starting::first_sound))]
+    pub fn start(
+        alloc: Global,
+        code: &Checked,
+        entry: u32,
+        heap: Heap,
+        mut memory: M,
+        client: C,
+        picks: Schedule,
+        budget: u32,
+    ) -> Result<State<M, C>, AllocError>
+        requires log { M.log memory ≡ [] }
+        requires objects { M.objects memory ≡ [] }
+        requires budget { budget ≤ 1000000 }
+        requires there { IsSomeAnd ((numbered code.now).body entry) IsSome }
+        ensures whole { IfOk result (λ state. state.skip ≡ 0) }
+        ensures first { IfOk result (λ state. (cells : ℕ) → heap.left ≡ cells - cells_taken (bundle_tables code.now) heap.objects → starting code.now (record { objects = heap.objects; client = C.stands_for client; picks = picks; cells = cells; budget = budget; rule = M.rule memory }) entry ≡ Some (configuration state)) }
+    {
+        match code.function(entry).first {
+            None => unreachable!(),
+            Some(block) => {
+                remember_all(alloc, &heap, &mut memory)?;
+                let hand = first_frames(alloc, block)?;
+                let first = first_frames(alloc, block)?;
+                let seats = Seats::new(alloc, first)?;
+                let watched = Watched::new(alloc);
+                Ok(State {
+                    thread: 0,
+                    stack: 0,
+                    frames: hand,
+                    left: false,
+                    seats,
+                    heap,
+                    memory,
+                    watched,
+                    client,
+                    picks,
+                    skip: 0,
+                    events: 0,
+                    steps: 0,
+                    budget,
+                })
+            }
+        }
+    }
+}

@@ -1,0 +1,274 @@
+// Objects that are made.
+ghost use Rattle.std.specs.Prelude.{◌≡◌, ◌≢◌, ◌+◌, ◌-◌, ◌^◌, ◌<◌, ◌≤◌, ◌∷◌, ◌++◌, [], IsSome, Some, IsSomeAnd, IfOk, IfErr, OnOk, OnErr, length, take, slice_get, true};
+ghost use Rattle.typed_heap.specs.Objects.{object_of};
+ghost use Rattle.typed_heap.specs.Heap.{AreNarrow};
+ghost use Rattle.frames.specs.FrameOf.{frame_of};
+ghost use Rattle.mu_model.specs.declared.endings.Ending.TheVariants as endings;
+ghost use Rattle.mu_model.specs.Outcomes.{Stuck};
+ghost use Rattle.thread_acts.specs.Outcome.{Stays};
+ghost use Rattle.thread_acts.specs.Acting.{answers, acting, faulting, goes_on};
+ghost use Rattle.thread_acts.specs.Making.{graph_of, owns, IsFull, act_of, leaves_made, result_made, frame_made};
+ghost use Rattle.thread_acts.specs.Remembering.{initials};
+
+use crate::flow::{passing, stand};
+use crate::objects::MOST_OBJECTS;
+use crate::state::State;
+use bundle_check::Checked;
+use client_hooks::Determined;
+use frames::{Frame, Frames};
+use heap_cells::CellId;
+use mem_axioms::Memory;
+use mu_model::{Ending, StepEnd};
+use mu_values::{Scalar, Slots, Value};
+use std::alloc::{AllocError, Global};
+use typed_heap::{Heap, HeapFault};
+
+/// How an object is made: of a type of fixed size, as a hybrid with so many elements, or as an object of the thread's top frame.
+#[derive(Clone, Copy, Debug, PartialEq, Eq)]
+pub enum Making {
+    Object,
+    Hybrid { many: u128 },
+    Own,
+}
+
+/// What the cells of an object begin with.
+#[tactic(auto, using(crate::specs::Remembering::scalars))]
+fn initial_scalars(alloc: Global, heap: &Heap, object: u32) -> Result<Value, AllocError>
+    requires { object < length heap.now.objects }
+    ensures { IfOk result (λ value. IsSomeAnd (slice_get heap.now.objects object) (λ o. o.initial ≡ value.members)) }
+{
+    let mut value = Value::new(alloc);
+    for at in 0..heap.size(object) {
+        value.push(heap.initial(CellId { object, at }))?;
+    }
+    Ok(value)
+}
+
+/// A memory is told of the newest object of a heap.
+#[tactic(auto, using(crate::specs::Remembering::newest_known))]
+fn remember<M: Memory>(
+    alloc: Global,
+    heap: &Heap,
+    number: u32,
+    memory: &mut M,
+) -> Result<(), AllocError>
+    requires number { number + 1 ≡ length heap.now.objects }
+    requires known { M.objects memory.old ≡ initials (take number heap.now.objects) }
+    ensures ok { OnOk result (M.objects memory.new ≡ initials heap.now.objects) }
+    ensures err { OnErr result (M.objects memory.new ≡ M.objects memory.old) }
+    ensures log { M.log memory.new ≡ M.log memory.old }
+    ensures rule { M.rule memory.new ≡ M.rule memory.old }
+{
+    memory.add_object(initial_scalars(alloc, heap, number)?)
+}
+
+/// A memory is told of all objects of a heap.
+#[tactic(auto, using(crate::specs::Remembering::remembering))]
+pub(crate) fn remember_all<M: Memory>(
+    alloc: Global,
+    heap: &Heap,
+    memory: &mut M,
+) -> Result<(), AllocError>
+    requires { M.objects memory.old ≡ [] }
+    ensures objects { OnOk result (M.objects memory.new ≡ initials heap.now.objects) }
+    ensures log { M.log memory.new ≡ M.log memory.old }
+    ensures rule { M.rule memory.new ≡ M.rule memory.old }
+{
+    for object in 0..heap.objects() {
+        memory.add_object(initial_scalars(alloc, heap, object)?)?;
+    }
+    Ok(())
+}
+
+/// Makes the next object of a type.
+#[tactic(auto, using(crate::specs::ObjectLaws::made_there, crate::specs::ObjectLaws::full_so))]
+fn new_object(heap: &mut Heap, code: &Checked, class: u32, making: Making) -> Result<u32, HeapFault>
+    requires narrow { AreNarrow (graph_of code.now) }
+    requires class { class < length (graph_of code.now) }
+    ensures number { IfOk result (λ n. n ≡ length heap.old.objects) }
+    ensures objects { OnOk result (heap.new.objects ≡ heap.old.objects ++ object_of (graph_of code.now) (leaves_made (graph_of code.now) class making) ∷ []) }
+    ensures left { OnOk result (heap.new.left ≡ heap.old.left - length (leaves_made (graph_of code.now) class making)) }
+    ensures enough { OnOk result (length (leaves_made (graph_of code.now) class making) ≤ heap.old.left) }
+    ensures few_left { OnOk result (heap.old.left < 2 ^ 32) }
+    ensures full { IfErr result (λ fault. IsFull fault (length (leaves_made (graph_of code.now) class making)) heap.old.left) }
+    ensures err { OnErr result (heap.new ≡ heap.old) }
+{
+    if heap.objects() >= MOST_OBJECTS {
+        return Err(HeapFault::Memory);
+    }
+    match making {
+        Making::Hybrid { many } => heap.new_hybrid(code.classes(), class, many),
+        Making::Object | Making::Own => heap.new_object(code.classes(), class),
+    }
+}
+
+/// The frame has the newest object for its own, of which a memory is told.
+fn own<M: Memory>(
+    alloc: Global,
+    heap: &Heap,
+    number: u32,
+    memory: &mut M,
+    frame: &mut Frame,
+) -> Result<(), AllocError>
+    requires number { number + 1 ≡ length heap.now.objects }
+    requires known { M.objects memory.old ≡ initials (take number heap.now.objects) }
+    ensures frame { OnOk result (frame_of frame.new ≡ owns (frame_of frame.old) number) }
+    ensures ok { OnOk result (M.objects memory.new ≡ initials heap.now.objects) }
+    ensures same { OnErr result (frame_of frame.new ≡ frame_of frame.old) }
+    ensures err { OnErr result (M.objects memory.new ≡ M.objects memory.old) }
+    ensures log { M.log memory.new ≡ M.log memory.old }
+    ensures rule { M.rule memory.new ≡ M.rule memory.old }
+{
+    frame.cells.reserve(1)?;
+    remember(alloc, heap, number, memory)?;
+    frame.cells.push(number)
+}
+
+/// A memory is told of the newest object, which the top frame has for its own where it is made so.
+fn tell<M: Memory>(
+    alloc: Global,
+    heap: &Heap,
+    number: u32,
+    making: Making,
+    memory: &mut M,
+    frames: &mut Frames,
+) -> Result<(), AllocError>
+    requires number { number + 1 ≡ length heap.now.objects }
+    requires known { M.objects memory.old ≡ initials (take number heap.now.objects) }
+    ensures frames { OnOk result (frames.new ≡ record frames.old { top = frame_made making frames.old.top number }) }
+    ensures ok { OnOk result (M.objects memory.new ≡ initials heap.now.objects) }
+    ensures same { OnErr result (frames.new ≡ frames.old) }
+    ensures err { OnErr result (M.objects memory.new ≡ M.objects memory.old) }
+    ensures log { M.log memory.new ≡ M.log memory.old }
+    ensures rule { M.rule memory.new ≡ M.rule memory.old }
+{
+    match making {
+        Making::Own => own(alloc, heap, number, memory, frames.top_mut()),
+        Making::Object | Making::Hybrid { .. } => remember(alloc, heap, number, memory),
+    }
+}
+
+/// What the instruction that made an object has for its result: the object, or the first place of one of the frame's own.
+fn result_of(making: Making, number: u32) -> Scalar
+    ensures { result ≡ result_made making number }
+{
+    match making {
+        Making::Own => Scalar::Place {
+            object: number,
+            at: 0,
+        },
+        Making::Object | Making::Hybrid { .. } => Scalar::Object(number),
+    }
+}
+
+/// The top frame's instruction has its result of the newest object, and a memory is told of it.
+#[tactic(auto, using(crate::specs::ObjectLaws::frames_made))]
+fn give<M: Memory>(
+    alloc: Global,
+    code: &Checked,
+    heap: &Heap,
+    number: u32,
+    making: Making,
+    memory: &mut M,
+    frames: &mut Frames,
+    values: &mut Slots,
+    out: &mut Slots,
+) -> Result<(), AllocError>
+    requires number { number + 1 ≡ length heap.now.objects }
+    requires known { M.objects memory.old ≡ initials (take number heap.now.objects) }
+    requires there { IsSome (goes_on code.now (frame_made making frames.old.top number) ((result_made making number ∷ []) ∷ [])) }
+    ensures top { OnOk result (goes_on code.now (frame_made making frames.old.top number) ((result_made making number ∷ []) ∷ []) ≡ Some frames.new.top) }
+    ensures below { frames.new.below ≡ frames.old.below }
+    ensures ok { OnOk result (M.objects memory.new ≡ initials heap.now.objects) }
+    ensures same { OnErr result (frames.new ≡ frames.old) }
+    ensures err { OnErr result (M.objects memory.new ≡ M.objects memory.old) }
+    ensures log { M.log memory.new ≡ M.log memory.old }
+    ensures rule { M.rule memory.new ≡ M.rule memory.old }
+{
+    values.clear();
+    values.push_scalar(result_of(making, number))?;
+    let place = passing(code, frames.top(), values, out)?;
+    tell(alloc, heap, number, making, memory, frames)?;
+    stand(frames, place, out);
+    Ok(())
+}
+
+impl<M: Memory, C: Determined> State<M, C> {
+    /// The thread's instruction is refused so many cells, where so many are left. A number that a fault of the heap does not tell
+    /// exactly is want of memory.
+    fn refuse_cells(
+        &mut self,
+        alloc: Global,
+        code: &Checked,
+        asked: u128,
+        left: u32,
+        out: &mut Slots,
+    ) -> Result<StepEnd, AllocError>
+        requires left { self.old.left ≡ true }
+        requires room { self.old.steps < self.old.budget }
+        requires there { asked < 2 ^ 128 - 1 → faulting code.now self.old (endings.HeapFull self.old.thread asked left) ≢ Stuck }
+        ensures exact { OnOk result (asked < 2 ^ 128 - 1) }
+        ensures ok { IfOk result (λ end. answers end self.new ≡ faulting code.now self.old (endings.HeapFull self.old.thread asked left)) }
+        ensures err { OnErr result (self.new ≡ self.old) }
+        ensures stays { IfOk result (λ end. Stays end self.old self.new) }
+    {
+        if asked == u128::MAX {
+            return Err(AllocError);
+        }
+        self.fault(
+            alloc,
+            code,
+            Ending::HeapFull {
+                thread: self.thread,
+                asked,
+                left,
+            },
+            out,
+        )
+    }
+
+    /// The thread makes an object.
+    pub fn make(
+        &mut self,
+        alloc: Global,
+        code: &Checked,
+        class: u32,
+        making: Making,
+        values: &mut Slots,
+        out: &mut Slots,
+    ) -> Result<StepEnd, AllocError>
+        requires left { self.old.left ≡ true }
+        requires room { self.old.steps < self.old.budget }
+        requires narrow { AreNarrow (graph_of code.now) }
+        requires class { class < length (graph_of code.now) }
+        requires there { acting code.now self.old (act_of class making) ≢ Stuck }
+        ensures ok { IfOk result (λ end. answers end self.new ≡ acting code.now self.old (act_of class making)) }
+        ensures err { OnErr result (self.new ≡ self.old) }
+        ensures stays { IfOk result (λ end. Stays end self.old self.new) }
+    {
+        match new_object(&mut self.heap, code, class, making) {
+            Ok(number) => {
+                let given = give(
+                    alloc,
+                    code,
+                    &self.heap,
+                    number,
+                    making,
+                    &mut self.memory,
+                    &mut self.frames,
+                    values,
+                    out,
+                );
+                if let Err(refused) = given {
+                    self.heap.take_back();
+                    return Err(refused);
+                }
+                Ok(self.went(alloc))
+            }
+            Err(HeapFault::HeapFull { asked, left }) => {
+                self.refuse_cells(alloc, code, asked, left, out)
+            }
+            Err(HeapFault::Memory) => Err(AllocError),
+        }
+    }
+}

@@ -1,0 +1,300 @@
+// Stacks that are made and killed, a thread's own object, and what a thread tells of itself.
+ghost use Rattle.std.specs.Prelude.{◌≡◌, ◌≢◌, ◌<◌, IsSome, IsSomeAnd, Some, Err, IfOk, IfSome, IfNone, OnOk, OnErr, slice_get, true};
+ghost use Rattle.mu_values.specs.declared.scalars.Scalar.TheVariants as scalars;
+ghost use Rattle.bundle_check.specs.Checking.{bundle_functions, bundle_tables};
+ghost use Rattle.frames.specs.FrameOf.{frame_of};
+ghost use Rattle.mu_model.specs.declared.endings.Case.TheVariants.{StackNotReady};
+ghost use Rattle.mu_model.specs.EnteringStacks.{ready};
+ghost use Rattle.mu_model.specs.Outcomes.{Stuck};
+ghost use Rattle.mu_model.specs.Types.{classes_taken};
+ghost use Rattle.mu_model.specs.Acts as acts;
+ghost use Rattle.seats.specs.Seats.{IsReady};
+ghost use Rattle.thread_acts.specs.Held.{held_stacks};
+ghost use Rattle.thread_acts.specs.Outcome.{Stays};
+ghost use Rattle.thread_acts.specs.Acting.{answers, acting};
+ghost use Rattle.thread_acts.specs.StackLaws.{waiting_frame, with_stack};
+
+use crate::accessing::{commit_other, line_of};
+use crate::flow::{passing, stand};
+use crate::objects::end_frames;
+use crate::results::line;
+use crate::state::State;
+use bundle_check::Checked;
+use client_hooks::Determined;
+use frames::{Frame, Frames};
+use mem_axioms::{Event, Kind, Memory};
+use mu_base::{Ids, Types};
+use mu_model::{Case, Note, StepEnd};
+use mu_values::{Passed, Scalar, Slots};
+use seats::Seats;
+use std::alloc::{AllocError, Global};
+use std::marker::Brand;
+use std::sync::ledger::Blank;
+
+/// The classes of what a function takes.
+fn classes_taken(alloc: Global, code: &Checked, function: u32) -> Result<Types, AllocError>
+    ensures { IfOk result (λ classes. classes.members ≡ classes_taken (bundle_tables code.now) function) }
+{
+    let tables = code.tables();
+    let Some(number) = tables.functions.as_slice().get(function as usize) else {
+        return Ok(Types::new(alloc));
+    };
+    let Some(signature) = tables.signatures.as_slice().get(*number as usize) else {
+        return Ok(Types::new(alloc));
+    };
+    let classes = Vec::from_slice(alloc, signature.takes.as_slice())?;
+    Ok(Types::from_vec(classes))
+}
+
+/// A frame that waits for parameters of these classes, before the first instruction of its block.
+fn waiting_frame(alloc: Global, block: u32, waits: Types) -> Frame
+    ensures { frame_of result ≡ waiting_frame block waits.members }
+{
+    Frame {
+        block,
+        at: 0,
+        slots: Slots::new(alloc),
+        fresh: true,
+        waits,
+        handler: None,
+        kept: Passed::new(Types::new(alloc), Slots::new(alloc)),
+        cells: Ids::new(alloc),
+    }
+}
+
+/// There is one stack more, ready for the parameters of a function with that first block. It is refused for want of memory alone; then
+/// nothing changes.
+fn add_stack(
+    alloc: Global,
+    code: &Checked,
+    function: u32,
+    block: u32,
+    seats: &mut Seats,
+) -> Result<(), AllocError>
+    ensures ok { OnOk result (seats.new ≡ with_stack block (classes_taken (bundle_tables code.now) function) seats.old) }
+    ensures err { OnErr result (seats.new ≡ seats.old) }
+{
+    let waits = classes_taken(alloc, code, function)?;
+    let also = classes_taken(alloc, code, function)?;
+    match Frames::new(alloc, waiting_frame(alloc, block, waits)) {
+        Ok(frames) => {
+            seats.make(frames, also)?;
+            Ok(())
+        }
+        Err((_frame, refusal)) => Err(refusal),
+    }
+}
+
+impl<M: Memory, C: Determined> State<M, C> {
+    /// The thread's stack is told.
+    #[tactic(auto, using(crate::specs::StackLaws::tells_stack))]
+    pub fn tell_stack(
+        &mut self,
+        alloc: Global,
+        code: &Checked,
+        values: &mut Slots,
+        out: &mut Slots,
+    ) -> Result<StepEnd, AllocError>
+        requires left { self.old.left ≡ true }
+        requires room { self.old.steps < self.old.budget }
+        requires there { acting code.now self.old acts.Tells ≢ Stuck }
+        ensures ok { IfOk result (λ end. answers end self.new ≡ acting code.now self.old acts.Tells) }
+        ensures err { OnErr result (self.new ≡ self.old) }
+        ensures stays { IfOk result (λ end. Stays end self.old self.new) }
+    {
+        let stack = Scalar::Stack(self.stack);
+        self.give_scalar(alloc, code, stack, values, out)
+    }
+
+    /// The thread's own object is told.
+    #[tactic(auto, using(crate::specs::StackLaws::telling_own))]
+    pub fn tell_own(
+        &mut self,
+        alloc: Global,
+        code: &Checked,
+        values: &mut Slots,
+        out: &mut Slots,
+    ) -> Result<StepEnd, AllocError>
+        requires left { self.old.left ≡ true }
+        requires room { self.old.steps < self.old.budget }
+        requires there { acting code.now self.old acts.TellsOwn ≢ Stuck }
+        ensures ok { IfOk result (λ end. answers end self.new ≡ acting code.now self.old acts.TellsOwn) }
+        ensures err { OnErr result (self.new ≡ self.old) }
+        ensures stays { IfOk result (λ end. Stays end self.old self.new) }
+    {
+        let own = self.seats.own(self.thread);
+        self.give_scalar(alloc, code, own, values, out)
+    }
+
+    /// The thread has another own object from now on.
+    #[tactic(auto, using(crate::specs::StackLaws::setting_own))]
+    pub fn set_own(
+        &mut self,
+        alloc: Global,
+        code: &Checked,
+        own: Scalar,
+        values: &mut Slots,
+        out: &mut Slots,
+    ) -> Result<StepEnd, AllocError>
+        requires left { self.old.left ≡ true }
+        requires room { self.old.steps < self.old.budget }
+        requires there { acting code.now self.old (acts.SetsOwn own) ≢ Stuck }
+        ensures ok { IfOk result (λ end. answers end self.new ≡ acting code.now self.old (acts.SetsOwn own)) }
+        ensures err { OnErr result (self.new ≡ self.old) }
+        ensures stays { IfOk result (λ end. Stays end self.old self.new) }
+    {
+        values.clear();
+        let place = passing(code, self.frames.top(), values, out)?;
+        self.seats.set_own(self.thread, own);
+        stand(&mut self.frames, place, out);
+        Ok(self.went(alloc))
+    }
+
+    /// The thread ends.
+    #[tactic(auto, using(crate::specs::ActLaws::exit_finishes))]
+    pub fn exit(&mut self, alloc: Global, code: &Checked) -> Result<StepEnd, AllocError>
+        requires left { self.old.left ≡ true }
+        requires room { self.old.steps < self.old.budget }
+        requires there { acting code.now self.old acts.Exits ≢ Stuck }
+        ensures ok { IfOk result (λ end. answers end self.new ≡ acting code.now self.old acts.Exits) }
+        ensures err { OnErr result (self.new ≡ self.old) }
+        ensures stays { IfOk result (λ end. Stays end self.old self.new) }
+    {
+        let thread = self.thread;
+        let lines = line(alloc, Note::Exited { thread })?;
+        self.end_thread();
+        self.steps += 1;
+        Ok(StepEnd::Went(lines))
+    }
+
+    /// The thread makes a stack of a function.
+    #[tactic(auto, using(crate::specs::StackLaws::makes_stack))]
+    pub fn make_stack(
+        &mut self,
+        alloc: Global,
+        code: &Checked,
+        function: u32,
+        values: &mut Slots,
+        out: &mut Slots,
+    ) -> Result<StepEnd, AllocError>
+        requires left { self.old.left ≡ true }
+        requires room { self.old.steps < self.old.budget }
+        requires there { acting code.now self.old (acts.MakesStack function) ≢ Stuck }
+        ensures ok { IfOk result (λ end. answers end self.new ≡ acting code.now self.old (acts.MakesStack function)) }
+        ensures err { OnErr result (self.new ≡ self.old) }
+        ensures stays { IfOk result (λ end. Stays end self.old self.new) }
+    {
+        match code.function(function).first {
+            None => Ok(self.undefined(alloc, Case::NoBody)),
+            Some(block) => self.make_stack_at(alloc, code, function, block, values, out),
+        }
+    }
+
+    /// The thread makes a stack of a function with that first block.
+    fn make_stack_at(
+        &mut self,
+        alloc: Global,
+        code: &Checked,
+        function: u32,
+        block: u32,
+        values: &mut Slots,
+        out: &mut Slots,
+    ) -> Result<StepEnd, AllocError>
+        requires left { self.old.left ≡ true }
+        requires room { self.old.steps < self.old.budget }
+        requires there { acting code.now self.old (acts.MakesStack function) ≢ Stuck }
+        requires first { IsSomeAnd (slice_get (bundle_functions code.now) function) (λ f. f.first ≡ Some block) }
+        ensures ok { IfOk result (λ end. answers end self.new ≡ acting code.now self.old (acts.MakesStack function)) }
+        ensures err { OnErr result (self.new ≡ self.old) }
+        ensures stays { IfOk result (λ end. Stays end self.old self.new) }
+    {
+        let stack = self.seats.count();
+        values.clear();
+        values.push_scalar(Scalar::Stack(stack))?;
+        let place = passing(code, self.frames.top(), values, out)?;
+        let event = Event {
+            thread: self.thread,
+            kind: Kind::NewStack { stack },
+        };
+        let lines = line_of(alloc, self.events, event)?;
+        self.memory.reserve(self.thread, None, 1)?;
+        add_stack(alloc, code, function, block, &mut self.seats)?;
+        commit_other::<M, Brand>(&mut self.memory, event, Blank::new(1));
+        stand(&mut self.frames, place, out);
+        self.events += 1;
+        self.steps += 1;
+        Ok(StepEnd::Went(lines))
+    }
+
+    /// The number of the stack that a scalar names, where that is ready. None comes exactly where it is not.
+    #[tactic(auto, using(crate::specs::StackLaws::names_stack))]
+    pub fn ready_stack(&self, scalar: Scalar) -> Option<u32>
+        requires there { IsSome (ready (held_stacks self.now) scalar) }
+        ensures named { IfSome result (λ n. scalar ≡ scalars.Stack n) }
+        ensures other { IfSome result (λ n. n ≢ self.now.stack) }
+        ensures ready { IfSome result (λ n. IsReady (slice_get self.now.seats.stacks n)) }
+        ensures none { IfNone result (ready (held_stacks self.now) scalar ≡ Some (Err StackNotReady)) }
+    {
+        match scalar {
+            Scalar::Stack(stack) => {
+                // The thread's own stack is active.
+                if stack == self.stack {
+                    return None;
+                }
+                self.seats.ready(stack).map(|_| stack)
+            }
+            _ => None,
+        }
+    }
+
+    /// The thread kills a stack.
+    #[tactic(auto, using(crate::specs::StackLaws::kills_stack))]
+    pub fn kill_stack(
+        &mut self,
+        alloc: Global,
+        code: &Checked,
+        scalar: Scalar,
+        values: &mut Slots,
+        out: &mut Slots,
+    ) -> Result<StepEnd, AllocError>
+        requires left { self.old.left ≡ true }
+        requires room { self.old.steps < self.old.budget }
+        requires there { acting code.now self.old (acts.KillsStack scalar) ≢ Stuck }
+        ensures ok { IfOk result (λ end. answers end self.new ≡ acting code.now self.old (acts.KillsStack scalar)) }
+        ensures err { OnErr result (self.new ≡ self.old) }
+        ensures stays { IfOk result (λ end. Stays end self.old self.new) }
+    {
+        match self.ready_stack(scalar) {
+            None => Ok(self.undefined(alloc, Case::StackNotReady)),
+            Some(stack) => self.kill_ready(alloc, code, scalar, stack, values, out),
+        }
+    }
+
+    /// The thread kills a stack that is ready, which the scalar names.
+    fn kill_ready(
+        &mut self,
+        alloc: Global,
+        code: &Checked,
+        scalar: Scalar,
+        stack: u32,
+        values: &mut Slots,
+        out: &mut Slots,
+    ) -> Result<StepEnd, AllocError>
+        requires left { self.old.left ≡ true }
+        requires room { self.old.steps < self.old.budget }
+        requires there { acting code.now self.old (acts.KillsStack scalar) ≢ Stuck }
+        requires named { scalar ≡ scalars.Stack stack }
+        requires other { stack ≢ self.old.stack }
+        requires ready { IsReady (slice_get self.old.seats.stacks stack) }
+        ensures ok { IfOk result (λ end. answers end self.new ≡ acting code.now self.old (acts.KillsStack scalar)) }
+        ensures err { OnErr result (self.new ≡ self.old) }
+        ensures stays { IfOk result (λ end. Stays end self.old self.new) }
+    {
+        values.clear();
+        let place = passing(code, self.frames.top(), values, out)?;
+        let frames = self.seats.kill(stack);
+        end_frames(&frames, &mut self.heap);
+        stand(&mut self.frames, place, out);
+        Ok(self.went(alloc))
+    }
+}
