@@ -9,36 +9,44 @@ use Rattle.mu_texts.specs.declared.what.What.{What}
 use Rattle.mu_texts.specs.declared.what.What.TheVariants.{Bundle, Hail, Client, Schedule}
 use Rattle.mu_texts.specs.declared.ready.Ready.{Ready}
 use Rattle.mu_texts.specs.declared.ready.Ready.TheVariants as ready
+use Rattle.mu_texts.specs.declared.ready.Telling.TheVariants.{Lines, Counts}
 use Rattle.mu_texts.specs.Answer.{Part, ◌>>=◌, as_written, accepted, for_check, for_print, entered, loaded, client_part, scheduled, is_end, ready_part}
 use Rattle.mu_texts.proofs.Accepting.{StopsSo, then, writing, accepting, entering_named, loading, scripting, scheduling}
 use Rattle.mu_command.specs.declared.job.Job.{Job}
-use Rattle.mu_command.specs.declared.job.Job.TheVariants.{Check, Print, Run}
+use Rattle.trial_text.specs.Trial.{trial_text}
+use Rattle.mu_command.specs.declared.job.Job.TheVariants.{Check, Print, Run, Trial}
 use Rattle.mu_command.specs.declared.job.RunJob.{RunJob}
 use Rattle.mu_command.specs.Job.{job_of, word}
-use Rattle.mu_command.specs.Answer.{Outcomes, fetched, judged, begun, found, answer_of}
+use Rattle.mu_command.specs.Answer.{Outcomes, fetched, judged, begun, trial_begun, found, answer_of}
 use Rattle.mu_command.specs.Allowed.{Seen, AllowsJob}
 use Rattle.mu_command.specs.Written.{IsWhole}
 use Rattle.mu_command.proofs.Way.{after_entry, after_objects, after_client, after_picks}
+use Rattle.mu_command.proofs.Trials.{entry_word, usual_run, no_files}
 use Rattle.mu_command.specs.Central.{Answered, OfJob, IsAccepted}
 
 -- what is found on the way ends so where what is fetched does
-module _ (P : Status → Type 0) (refused : P Refused) (memory : P Memory) (words : List (List ℕ)) (o : Outcomes) (fetching : (what : What) → StopsSo P (fetched what (o what))) where
-  judging : {A : Type 0} (what : What) (part : List ℕ → Part A) → ((bytes : List ℕ) → StopsSo P (part bytes)) → StopsSo P (judged what part (o what))
-  judging what part h = then P (fetched what (o what)) part (fetching what) h
+module _ (P : Status → Type 0) (refused : P Refused) (memory : P Memory) where
+  judging : {A : Type 0} (what : What) (o : Outcome) (part : List ℕ → Part A) → StopsSo P (fetched what o) → ((bytes : List ℕ) → StopsSo P (part bytes)) → StopsSo P (judged what part o)
+  judging what o part s h = then P (fetched what o) part s h
 
-  beginning : (r : RunJob) (code : List Item) → StopsSo P (begun words r code o)
-  beginning r code =
+  beginning : (words : List (List ℕ)) (o : Outcomes) → ((what : What) → StopsSo P (fetched what (o what))) → (r : RunJob) (code : List Item) → StopsSo P (begun words r code o)
+  beginning words o fetching r code =
       then P (entered code (word words r.entry)) (after_entry r code o) (entering_named P refused memory code (word words r.entry))
-      (λ n. then P (judged Hail (loaded code r.cells) (o Hail)) (after_objects r code o n) (judging Hail (loaded code r.cells) (loading P refused memory code r.cells))
-      (λ objects. then P (judged Client (client_part code r.auto) (o Client)) (after_client r code o n objects) (judging Client (client_part code r.auto) (scripting P refused memory code r.auto))
-      (λ client. then P (judged Schedule scheduled (o Schedule)) (after_picks r code o n objects client) (judging Schedule scheduled (scheduling P refused memory)) (λ picks. tt))))
+      (λ n. then P (judged Hail (loaded code r.cells) (o Hail)) (after_objects r code o n) (judging Hail (o Hail) (loaded code r.cells) (fetching Hail) (loading P refused memory code r.cells))
+      (λ objects. then P (judged Client (client_part code r.auto) (o Client)) (after_client r code o n objects) (judging Client (o Client) (client_part code r.auto) (fetching Client) (scripting P refused memory code r.auto))
+      (λ client. then P (judged Schedule scheduled (o Schedule)) (after_picks r code o n objects client) (judging Schedule (o Schedule) scheduled (fetching Schedule) (scheduling P refused memory)) (λ picks. tt))))
 
-  pub finding_all : (job : Job) → StopsSo P (found words job o)
-  finding_all (Check file) = judging Bundle for_check (λ bytes. then P (accepted bytes) (λ code. Ok ready.Accepted) (accepting P refused memory bytes) (λ code. tt))
-  finding_all (Print file) = judging Bundle for_print (λ bytes. then P (as_written bytes) (λ bundle. Ok (ready.Canonical bundle)) (writing P refused memory bytes) (λ bundle. tt))
-  finding_all (Run r) =
-      then P (judged Bundle accepted (o Bundle)) (λ code. begun words r code o >>= λ start. Ok (ready.Entered code start)) (judging Bundle accepted (accepting P refused memory))
-      (λ code. then P (begun words r code o) (λ start. Ok (ready.Entered code start)) (beginning r code) (λ start. tt))
+  pub finding_all : (words : List (List ℕ)) (o : Outcomes) → ((what : What) → StopsSo P (fetched what (o what))) → (job : Job) → StopsSo P (found words job o)
+  finding_all words o fetching (Check file) =
+      judging Bundle (o Bundle) for_check (fetching Bundle) (λ bytes. then P (accepted bytes) (λ code. Ok ready.Accepted) (accepting P refused memory bytes) (λ code. tt))
+  finding_all words o fetching (Print file) =
+      judging Bundle (o Bundle) for_print (fetching Bundle) (λ bytes. then P (as_written bytes) (λ bundle. Ok (ready.Canonical bundle)) (writing P refused memory bytes) (λ bundle. tt))
+  finding_all words o fetching (Run r) =
+      then P (judged Bundle accepted (o Bundle)) (λ code. begun words r code o >>= λ start. Ok (ready.Entered code start Lines)) (judging Bundle (o Bundle) accepted (fetching Bundle) (accepting P refused memory))
+      (λ code. then P (begun words r code o) (λ start. Ok (ready.Entered code start Lines)) (beginning words o fetching r code) (λ start. tt))
+  finding_all words o fetching (Trial n) =
+      then P (accepted (trial_text n)) (λ code. trial_begun code >>= λ start. Ok (ready.Entered code start (Counts n))) (accepting P refused memory (trial_text n))
+      (λ code. then P (trial_begun code) (λ start. Ok (ready.Entered code start (Counts n))) (beginning entry_word no_files (λ what. tt) usual_run code) (λ start. tt))
 
 -- ---- no early end has a status of what is accepted
 

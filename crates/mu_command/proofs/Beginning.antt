@@ -1,5 +1,6 @@
 -- A run is that from its first configuration.
 use Rattle.std.proofs.Common.{◌≡◌, ℕ, suc, ◌+◌, ◌-◌, List, ap, subst, sym, ◌∙◌, add-one, Option, Some, None}
+use Rattle.std.specs.Prelude.{Result, Ok, Err, IfOk}
 use Rattle.ir_tree.specs.declared.items.Item.{Item}
 use Rattle.typed_heap.specs.Places.{with_some}
 use Rattle.mu_model.specs.Acts.{Program}
@@ -23,6 +24,11 @@ unfolding run_of
 run_is code n s c h =
     let b : c.budget ≡ s.budget = budget_of (named code) s n c ((named code).body n) h in
     ap (run_from (named code)) h ∙ ap (λ (k : ℕ). run (named code) (suc k) c) b ∙ ap (λ (k : ℕ). run (named code) k c) (sym (add-one s.budget))
+
+-- what follows of a result follows where there is one
+pub if_ok : {A E : Type 0} (P Q : A → Type 0) → ((a : A) → P a → Q a) → (r : Result A E) → IfOk r P → IfOk r Q
+if_ok P Q f (Ok a) h = f a h
+if_ok P Q f (Err e) h = tt
 
 -- a machine that was made of what a run begins with stands at its beginning
 pub begins_so : (code : List Item) (v s : Started) (rule : Rule) (c : Configuration) → v ≡ s → rule ≡ v.setting.rule → s.left ≡ s.setting.cells - cells_taken (bundle_tables code) s.setting.objects

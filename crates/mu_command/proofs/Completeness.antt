@@ -6,7 +6,7 @@ use Rattle.mu_base.specs.declared.status.Status.{Status}
 use Rattle.mu_base.specs.Files.{Files, file}
 use Rattle.mu_base.specs.Outcome.{Outcome, got, failed, too_long, Allows}
 use Rattle.mu_command.specs.declared.job.Job.{Job}
-use Rattle.mu_command.specs.declared.job.Job.TheVariants.{Check, Print, Run}
+use Rattle.mu_command.specs.declared.job.Job.TheVariants.{Check, Print, Run, Trial}
 use Rattle.mu_texts.specs.Answer.{ready_part}
 use Rattle.mu_command.specs.Answer.{Outcomes, found, answer_of}
 use Rattle.mu_texts.specs.declared.what.What.{What}
@@ -44,6 +44,7 @@ same_found : (words : List (List ℕ)) (job : Job) (o p : Outcomes) → ((what :
 same_found words (Check file) o p same = rw (same Bundle) refl
 same_found words (Print file) o p same = rw (same Bundle) refl
 same_found words (Run r) o p same = rw (same Bundle, same Hail, same Client, same Schedule) refl
+same_found words (Trial n) o p same = refl
 
 outcomes_are_told : (seen : Seen) (files : Files) (words : List (List ℕ)) (job : Option Job) (o : Outcomes) → seen.told ≡ Some files → ((s : ℕ) → IsQuiet seen s) →
     AllowsJob seen words job o → answer_of words job o ≡ answer_of words job (outcomes_of files words job)

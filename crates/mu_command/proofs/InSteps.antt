@@ -18,7 +18,7 @@ use Rattle.mu_model.specs.Programs.{named}
 use Rattle.mu_model.specs.Run.{Run, Ends, Breaks, Unfinished, behind, goes_on, run}
 use Rattle.run_texts.specs.Texts.{ending_status}
 use Rattle.run_texts.specs.Pieces.{lines_text}
-use Rattle.mu_step.specs.Outcome.{outcome_of}
+use Rattle.thread_acts.specs.Outcome.{outcome_of}
 use Rattle.mu_texts.specs.Answer.{Answer, run_answer}
 use Rattle.model_laws.specs.Bounds.{HasEnding}
 use Rattle.mu_command.specs.Written.{joined, cuts_from, AppendsEnds, Wrote, WrotePart, IsWhole, Writes}
@@ -111,16 +111,16 @@ lines_aside p (suc n) c ls = refl
 twice : (ls : List Line) → reverse (reverse ls) ≡ ls
 twice ls = reverse-reverse ls
 
-run_goes : (p : Program) (n : ℕ) (c d : Configuration) (ls : List Line) → answered_step p c ≡ Next (record d { lines = reverse ls }) → run p (suc n) c ≡ behind ls (run p n d)
+pub run_goes : (p : Program) (n : ℕ) (c d : Configuration) (ls : List Line) → answered_step p c ≡ Next (record d { lines = reverse ls }) → run p (suc n) c ≡ behind ls (run p n d)
 run_goes p n c d ls e =
     ap (goes_on (run p n)) e
     ∙ ap (λ (r : Run). behind (reverse (reverse ls)) r) (lines_aside p n d (reverse ls))
     ∙ ap (λ (l : List Line). behind l (run p n d)) (twice ls)
 
-run_ends : (p : Program) (n : ℕ) (c : Configuration) (ls : List Line) (e : Ending) → answered_step p c ≡ End ls e → run p (suc n) c ≡ Ends [] ls e
+pub run_ends : (p : Program) (n : ℕ) (c : Configuration) (ls : List Line) (e : Ending) → answered_step p c ≡ End ls e → run p (suc n) c ≡ Ends [] ls e
 run_ends p n c ls e h = ap (goes_on (run p n)) h
 
-behind_ends : (ls : List Line) (r : Run) → HasEnding (behind ls r) → HasEnding r
+pub behind_ends : (ls : List Line) (r : Run) → HasEnding (behind ls r) → HasEnding r
 behind_ends ls (Ends steps lines e) h = tt
 behind_ends ls Breaks h = h
 behind_ends ls Unfinished h = h

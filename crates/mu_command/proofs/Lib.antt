@@ -11,3 +11,5 @@ pub mod Reading
 pub mod Moments
 pub mod Files
 pub mod Beginnings
+pub mod Trials
+pub mod Tallies

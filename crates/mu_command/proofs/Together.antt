@@ -10,13 +10,15 @@ use Rattle.mu_texts.specs.declared.stop.Stop.{Stop}
 use Rattle.mu_texts.specs.declared.stop.Stop.TheVariants.{Line, Memory}
 use Rattle.mu_texts.specs.declared.ready.Ready.{Ready}
 use Rattle.mu_texts.specs.declared.ready.Ready.TheVariants.{Entered}
+use Rattle.mu_texts.specs.declared.ready.Telling.TheVariants.{Lines}
 use Rattle.mu_texts.specs.Start.{Started}
 use Rattle.mu_texts.specs.Answer.{Answer, Part, ◌>>=◌, line, for_check, for_print, accepted, ready_part, ready_answer}
 use Rattle.mu_command.specs.declared.job.Job.{Job}
-use Rattle.mu_command.specs.declared.job.Job.TheVariants.{Check, Print, Run}
+use Rattle.mu_command.specs.declared.job.Job.TheVariants.{Check, Print, Run, Trial}
 use Rattle.mu_command.specs.declared.job.RunJob.{RunJob}
 use Rattle.mu_command.specs.Job.{job_of, file_of}
-use Rattle.mu_command.specs.Answer.{Outcomes, judged, begun, found}
+use Rattle.mu_texts.specs.Comes.{Comes}
+use Rattle.mu_command.specs.Answer.{Outcomes, judged, begun, trial_found, found}
 use Rattle.mu_command.specs.Allowed.{Seen, AllowsFile}
 use Rattle.mu_command.specs.Parts.{IsJudged, IsBegun, IsAnswer, IsFound, OfFile, OfRun, SameSlot}
 use Rattle.mu_command.proofs.Beginnings.{same_slot, some_named, outcomes_with}
@@ -54,6 +56,18 @@ module _ (seen : Seen) (words : List (List ℕ)) (file : ℕ) where
   print_found (Err (Line text status)) is h = together seen words (Print file) (only h.outcome) _ is (print_allowed h.outcome h.allowed) (rw h.comes refl)
   print_found (Err Memory) is h = tt
 
+-- a trial, which has no file
+none_allowed : (seen : Seen) (words : List (List ℕ)) (n : ℕ) (what : What) → AllowsFile seen words what (file_of (Trial n) what) (got [])
+none_allowed seen words n Bundle = refl
+none_allowed seen words n Hail = refl
+none_allowed seen words n Client = refl
+none_allowed seen words n Schedule = refl
+
+pub trial_is_found : (seen : Seen) (words : List (List ℕ)) (n : ℕ) (r : Result Ready Stop) → job_of words ≡ Some (Trial n) → Comes (trial_found n) r → IsFound seen words r
+trial_is_found seen words n (Ok ready) is h = together seen words (Trial n) (λ what. got []) _ is (none_allowed seen words n) (rw h refl)
+trial_is_found seen words n (Err (Line text status)) is h = together seen words (Trial n) (λ what. got []) _ is (none_allowed seen words n) (rw h refl)
+trial_is_found seen words n (Err Memory) is h = tt
+
 -- a run: the outcome of the bundle, and those of the other files
 abbrev with_bundle : Outcome → Outcomes → Outcomes
 with_bundle o more Bundle = o
@@ -90,7 +104,7 @@ module _ (last : Seen) (words : List (List ℕ)) (r : RunJob) (is : job_of words
         (same_slot after last words Schedule r.schedule (h.outcomes Schedule) same_schedule h.schedule)) (rw (bundle.comes, h.comes) refl)
 
     -- it begins
-    pub run_found : (start : Started) → OfRun after words r code (Ok start) → IsAnswer last words (ready_answer (Entered code start))
+    pub run_found : (start : Started) → OfRun after words r code (Ok start) → IsAnswer last words (ready_answer (Entered code start Lines))
     run_found start h =
         together last words (Run r) (with_bundle bundle.outcome h.outcomes) _ is
         (run_allowed last words r bundle.outcome h.outcomes (same_slot seen last words Bundle (Some r.file) bundle.outcome same bundle.allowed)
@@ -101,4 +115,4 @@ module _ (last : Seen) (words : List (List ℕ)) (r : RunJob) (is : job_of words
 pub no_job : (seen : Seen) (words : List (List ℕ)) (text : List ℕ) → text ≡ codes "usage" → job_of words ≡ None → IsAnswer seen words (line text Usage)
 no_job seen words text e is = record { outcomes = only (got []); allowed = rw is tt; is = rw (is, e) refl }
 
-pub ruleset together_rules = (check_found, print_found, no_code, not_begun, run_found, no_job)
+pub ruleset together_rules = (check_found, print_found, trial_is_found, no_code, not_begun, run_found, no_job)

@@ -1,5 +1,5 @@
 -- To believe: what the program answers to its words, and to what the fetches of its files come to.
-use Rattle.std.specs.Prelude.{ℕ, List, ◌++◌, Option, None, Some, Ok, Err, codes}
+use Rattle.std.specs.Prelude.{ℕ, List, [], ◌++◌, false, Option, None, Some, Ok, Err, codes}
 use Rattle.mu_base.specs.declared.status.Status.TheVariants.{Usage, ReadFault, TooLong}
 use Rattle.mu_base.specs.Outcome.{Outcome, got, failed, too_long}
 use Rattle.mu_texts.specs.declared.what.What.{What}
@@ -7,13 +7,16 @@ use Rattle.ir_tree.specs.declared.items.Item.{Item}
 use Rattle.mu_texts.specs.declared.what.What.TheVariants.{Bundle, Hail, Client, Schedule}
 use Rattle.mu_texts.specs.declared.ready.Ready.{Ready}
 use Rattle.mu_texts.specs.declared.ready.Ready.TheVariants.{Entered}
+use Rattle.mu_texts.specs.declared.ready.Telling.TheVariants.{Lines, Counts}
 use Rattle.mu_texts.specs.Start.{Started}
 use Rattle.mu_texts.specs.What.{name_of}
 use Rattle.mu_texts.specs.Answer.{Answer, Part, ◌>>=◌, line, for_check, for_print, accepted, entered, loaded, client_part, scheduled, started, ready_part}
+use Rattle.mem_axioms.specs.declared.types.Rule.TheVariants.{C11}
+use Rattle.trial_text.specs.Trial.{trial_text}
 use Rattle.mu_command.specs.declared.job.Job.{Job}
-use Rattle.mu_command.specs.declared.job.Job.TheVariants.{Check, Print, Run}
+use Rattle.mu_command.specs.declared.job.Job.TheVariants.{Check, Print, Run, Trial}
 use Rattle.mu_command.specs.declared.job.RunJob.{RunJob}
-use Rattle.mu_command.specs.Job.{word}
+use Rattle.mu_command.specs.Job.{word, usual_steps, usual_cells}
 
 -- a fetch gives the file's bytes, or a line that names the file
 abbrev pub fetched : What → Outcome → Part (List ℕ)
@@ -38,11 +41,25 @@ begun words r code o =
     judged Schedule scheduled (o Schedule) >>= λ picks.
     Ok (started code n (record { objects = objects; client = client; picks = picks; cells = r.cells; budget = r.budget; rule = r.rule }))
 
+-- how the run of a made bundle begins: as that from `@main` where no other file is named, within the usual limits
+abbrev pub trial_begun : List Item → Part Started
+trial_begun code =
+    entered code (codes "@main") >>= λ n.
+    loaded code usual_cells [] >>= λ objects.
+    client_part code false [] >>= λ client.
+    scheduled [] >>= λ picks.
+    Ok (started code n (record { objects = objects; client = client; picks = picks; cells = usual_cells; budget = usual_steps; rule = C11 }))
+
+-- the made bundle with n pairs is read and judged as any other
+abbrev pub trial_found : ℕ → Part Ready
+trial_found n = accepted (trial_text n) >>= λ code. trial_begun code >>= λ start. Ok (Entered code start (Counts n))
+
 -- what is found on the way: what the command asks of its files, one after the other
 abbrev pub found : List (List ℕ) → Job → Outcomes → Part Ready
 found words (Check file) o = judged Bundle for_check (o Bundle)
 found words (Print file) o = judged Bundle for_print (o Bundle)
-found words (Run r) o = judged Bundle accepted (o Bundle) >>= λ code. begun words r code o >>= λ start. Ok (Entered code start)
+found words (Run r) o = judged Bundle accepted (o Bundle) >>= λ code. begun words r code o >>= λ start. Ok (Entered code start Lines)
+found words (Trial n) o = trial_found n
 
 -- The answer to the words and the outcomes: no job; the first fetch that gives no file; the first refusal; else the run.
 abbrev pub answer_of : List (List ℕ) → Option Job → Outcomes → Answer

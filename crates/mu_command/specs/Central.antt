@@ -1,5 +1,5 @@
 -- To believe: the one statement about the program, and the causes of its statuses.
-use Rattle.std.specs.Prelude.{◌≡◌, ◌⊎◌, ℕ, ◌-◌, ◌^◌, ◌<◌, List, [], length, Option, None, Some, Ok, Err, nat_le, if◌then◌else◌}
+use Rattle.std.specs.Prelude.{◌≡◌, ◌≢◌, ◌⊎◌, ℕ, ◌-◌, ◌^◌, ◌<◌, List, [], length, Option, None, Some, Ok, Err, nat_le, if◌then◌else◌}
 use Rattle.mu_base.specs.declared.status.Status.{Status}
 use Rattle.mu_base.specs.declared.status.Status.TheVariants.{Refused}
 use Rattle.mu_base.specs.Faults.{Rose}
@@ -8,9 +8,17 @@ use Rattle.mu_base.specs.Outcome.{Outcome, got, failed, too_long, IsLonger}
 use Rattle.mu_command.specs.declared.job.Job.{Job}
 use Rattle.ir_tree.specs.declared.items.Item.{Item}
 use Rattle.mu_model.specs.Programs.{named}
-use Rattle.text_programs.specs.Moments.{MomentsAreSound}
+use Rattle.mu_model.specs.Acts.{Program}
+use Rattle.mu_model.specs.Accesses.{initial}
+use Rattle.mu_model.specs.Configuration.{Configuration}
+use Rattle.mu_model.specs.Outcomes.{Stuck}
+use Rattle.mu_model.specs.Step.{step}
+use Rattle.mu_model.specs.Run.{first_configuration, client_answers}
+use Rattle.model_laws.specs.Laws.{OneOwner}
+use Rattle.text_programs.specs.Moments.{Reaches, IsSoundLog}
 use Rattle.mu_texts.specs.declared.ready.Ready.{Ready}
-use Rattle.mu_texts.specs.declared.ready.Ready.TheVariants as ready
+use Rattle.mu_texts.specs.declared.ready.Ready.TheVariants.{Entered}
+use Rattle.mu_texts.specs.declared.ready.Telling.{Telling}
 use Rattle.mu_texts.specs.declared.what.What.{What}
 use Rattle.mu_texts.specs.What.{slot_of}
 use Rattle.mu_command.specs.Job.{job_of, file_of, word}
@@ -64,12 +72,26 @@ OfJob P (Some job) = P job
 
 -- ---- the run that is told
 
--- Whatever bytes the files have, by which a run begins: at each of its moments the log meets the axioms, no two of its events race,
--- each of its reads was an option of its past, and the next step has a rule.
-abbrev pub RunsAreSound : List (List ℕ) → Type 0
-RunsAreSound words =
-    (job : Job) (outcomes : Outcomes) (code : List Item) (start : Started) → job_of words ≡ Some job → found words job outcomes ≡ Ok (ready.Entered code start) →
-    MomentsAreSound (named code) start.setting start.entry
+-- That holds at each moment of the run that the words ask for, whatever bytes its files have. A moment is a configuration to which
+-- steps lead from the first.
+abbrev pub EachMoment : (Program → Configuration → Type 0) → List (List ℕ) → Type 0
+EachMoment P words =
+    (job : Job) (outcomes : Outcomes) (code : List Item) (start : Started) (telling : Telling) (first moment : Configuration) →
+    job_of words ≡ Some job → found words job outcomes ≡ Ok (Entered code start telling) →
+    first_configuration (named code) start.setting start.entry ≡ Some first → Reaches (named code) first moment → P (named code) moment
+
+-- The log meets the axioms of memory, no two of its events race, and each of its reads was an option of its past and has the value that
+-- stood there.
+abbrev pub HasSoundLog : Program → Configuration → Type 0
+HasSoundLog p c = IsSoundLog c.rule (initial c) c.log
+
+-- No two threads are on one stack, and no thread is on two.
+abbrev pub HasOneOwner : Program → Configuration → Type 0
+HasOneOwner p c = OneOwner c
+
+-- The next step has a rule.
+abbrev pub IsNotStuck : Program → Configuration → Type 0
+IsNotStuck p c = client_answers p c.client (step p c) ≢ Stuck
 
 -- ---- completeness
 

@@ -4,7 +4,7 @@ use Rattle.mu_base.specs.declared.status.Status.TheVariants.{Usage, ReadFault, T
 use Rattle.mu_base.specs.Outcome.{got, failed, too_long}
 use Rattle.mem_axioms.specs.declared.types.Rule.TheVariants.{C11, Rmw}
 use Rattle.mu_texts.specs.declared.what.What.TheVariants.{Bundle, Hail, Client, Schedule}
-use Rattle.mu_command.specs.declared.job.Job.TheVariants.{Run}
+use Rattle.mu_command.specs.declared.job.Job.TheVariants.{Run, Trial}
 use Rattle.mu_command.specs.declared.job.RunJob.{RunJob}
 use Rattle.mu_command.specs.Job.{job_of, file_of}
 use Rattle.mu_command.specs.Answer.{answer_of}
@@ -61,6 +61,18 @@ no_entry = refl
 another_command : job_of (codes "judge" ∷ codes "b" ∷ codes "--entry" ∷ codes "@main" ∷ []) ≡ None
 unfolding job_of
 another_command = refl
+
+a_trial : job_of (codes "trial" ∷ codes "1000" ∷ []) ≡ Some (Trial 1000)
+unfolding job_of
+a_trial = refl
+
+no_pairs : job_of (codes "trial" ∷ codes "0" ∷ []) ≡ None
+unfolding job_of
+no_pairs = refl
+
+too_many_pairs : job_of (codes "trial" ∷ codes "1001" ∷ []) ≡ None
+unfolding job_of
+too_many_pairs = refl
 
 usage : answer_of words None (λ _. got []) ≡ record { pieces = codes "usage\n" ∷ []; status = Usage }
 usage = refl

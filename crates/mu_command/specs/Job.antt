@@ -5,7 +5,7 @@ use Rattle.mem_axioms.specs.declared.types.Rule.{Rule}
 use Rattle.mem_axioms.specs.declared.types.Rule.TheVariants.{C11, Rmw}
 use Rattle.mu_command.specs.declared.job.Job.{Job}
 use Rattle.mu_command.specs.declared.job.RunJob.{RunJob}
-use Rattle.mu_command.specs.declared.job.Job.TheVariants.{Check, Print, Run}
+use Rattle.mu_command.specs.declared.job.Job.TheVariants.{Check, Print, Run, Trial}
 use Rattle.mu_command.specs.declared.options.Options.{Options}
 use Rattle.mu_texts.specs.declared.what.What.{What}
 use Rattle.mu_texts.specs.declared.what.What.TheVariants.{Bundle, Hail, Client, Schedule}
@@ -123,20 +123,33 @@ run_with options =
       cells = unwrap_or options.cells usual_cells;
     })) options.entry
 
--- `check FILE`, `print FILE`, and `run FILE` with options in any order, each at most once: `--entry NAME`, which is required,
+-- how many pairs a made bundle may have
+abbrev pub most_pairs : ℕ
+most_pairs = 1000
+
+-- one pair at least
+abbrev pub from_one : ℕ → Option ℕ
+from_one n = if nat_le 1 n then Some n else None
+
+abbrev pub pairs_asked : List ℕ → Option ℕ
+pairs_asked text = option_and_then from_one (number_up_to most_pairs text)
+
+-- `check FILE`, `print FILE`, `trial N`, and `run FILE` with options in any order, each at most once: `--entry NAME`, which is required,
 -- `--hail F`, `--client F` or `--auto`, `--schedule F`, `--release-sequences c11` or `rmw`, `--steps N` and `--cells N`; all other words
 -- ask for nothing
 unfoldable pub job_of : List (List ℕ) → Option Job
 job_of words =
     if nat_eq (length words) 2 && is_word words 0 (codes "check") then Some (Check 1)
     else (if nat_eq (length words) 2 && is_word words 0 (codes "print") then Some (Print 1)
-    else (if nat_le 2 (length words) && is_word words 0 (codes "run") then option_and_then run_with (with_all no_options 2 (drop 2 words)) else None))
+    else (if nat_eq (length words) 2 && is_word words 0 (codes "trial") then option_map Trial (pairs_asked (word words 1))
+    else (if nat_le 2 (length words) && is_word words 0 (codes "run") then option_and_then run_with (with_all no_options 2 (drop 2 words)) else None)))
 
 -- the words that name the bundle, the script that fills the heap, the one that is the client, and the schedule
-abbrev pub bundle_word : Job → ℕ
-bundle_word (Check file) = file
-bundle_word (Print file) = file
-bundle_word (Run r) = r.file
+abbrev pub bundle_word : Job → Option ℕ
+bundle_word (Check file) = Some file
+bundle_word (Print file) = Some file
+bundle_word (Run r) = Some r.file
+bundle_word (Trial n) = None
 
 abbrev pub hail_word : Job → Option ℕ
 hail_word (Run r) = r.hail
@@ -152,7 +165,7 @@ schedule_word _ = None
 
 -- the word that names a file of the job, where the job has that file
 abbrev pub file_of : Job → What → Option ℕ
-file_of job Bundle = Some (bundle_word job)
+file_of job Bundle = bundle_word job
 file_of job Hail = hail_word job
 file_of job Client = client_word job
 file_of job Schedule = schedule_word job
@@ -171,6 +184,7 @@ abbrev pub AreThere : List (List ℕ) → Job → Type 0
 AreThere words (Check file) = file < length words
 AreThere words (Print file) = file < length words
 AreThere words (Run r) = IsThere (length words) r
+AreThere words (Trial n) = Unit {0}
 
 -- the same of options
 pub record OptionsAreThere (count : ℕ) (options : Options) : Type 0 where

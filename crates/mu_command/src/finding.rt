@@ -10,13 +10,14 @@ ghost use Rattle.mu_command.specs.Parts.{IsJudged, IsBegun, IsFound, objects_in}
 
 use crate::job::{Job, RunJob};
 use crate::loading::load;
+use crate::made::find_trial;
 use crate::words::read_words;
 use bundle_check::Checked;
 use client_script::RunClient;
 use mu_base::{Inputs, Status, Words};
 use mu_texts::{
-    Ready, Start, Stop, What, enter, judge_client, judge_for_check, judge_for_print, judge_for_run,
-    judge_heap_script, judge_schedule,
+    Ready, Start, Stop, Telling, What, enter, judge_client, judge_for_check, judge_for_print,
+    judge_for_run, judge_heap_script, judge_schedule, let_code_go,
 };
 use mu_threads::Schedule;
 use std::alloc::Global;
@@ -137,7 +138,7 @@ fn find_picks<I: Inputs>(
     judge_schedule(alloc, &bytes)
 }
 
-// How the run of a bundle begins. A checked bundle is lent, so that one function alone drops it.
+// How the run of a bundle begins.
 #[tactic(auto, using(crate::proofs::Beginnings::beginnings))]
 fn find_start<I: Inputs>(
     alloc: Global,
@@ -169,7 +170,7 @@ fn find_start<I: Inputs>(
     })
 }
 
-// The run that is asked for.
+// The run that is asked for. Each `?` at a value of many parts would make the proof longer.
 #[tactic(auto, using(crate::proofs::Together::together_rules))]
 fn find_run<I: Inputs>(
     alloc: Global,
@@ -184,9 +185,18 @@ fn find_run<I: Inputs>(
     ensures found { IsFound (record { told = I.holds inputs.old; before = I.faults inputs.old; now = I.faults inputs.new }) words.now result }
     ensures there { IfOk result CanRun }
 {
-    let code = find_code(alloc, words, run.file, inputs)?;
-    match find_start(alloc, words, run, &code, inputs) {
-        Ok(start) => Ok(Ready::Entered { code, start }),
+    match find_code(alloc, words, run.file, inputs) {
+        Ok(code) => match find_start(alloc, words, run, &code, inputs) {
+            Ok(start) => Ok(Ready::Entered {
+                code,
+                start,
+                telling: Telling::Lines,
+            }),
+            Err(stop) => {
+                let_code_go(code);
+                Err(stop)
+            }
+        },
         Err(stop) => Err(stop),
     }
 }
@@ -210,6 +220,7 @@ fn find_job<I: Inputs>(
         Job::Check { file } => find_checked(alloc, words, file, inputs),
         Job::Print { file } => find_printed(alloc, words, file, inputs),
         Job::Run(run) => find_run(alloc, words, run, inputs),
+        Job::Trial { n } => find_trial(alloc, n),
     }
 }
 

@@ -10,6 +10,8 @@ pub enum Job {
     Print { file: usize },
     /// Runs the bundle in a file.
     Run(RunJob),
+    /// Runs the made bundle with `n` pairs, and tells of the run in one line. It has no file.
+    Trial { n: u32 },
 }
 
 /// A run of the bundle in a file, from the function with that name, over the heap that the script in a file fills, with the client

@@ -1,9 +1,12 @@
 //! The program as one call: reads its words, fetches its files, and writes what they come to.
 #![tactic(auto)]
 
+mod counting;
 mod finding;
 mod job;
+mod letting_go;
 mod loading;
+mod made;
 mod options;
 mod program;
 mod running;

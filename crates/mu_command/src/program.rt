@@ -2,9 +2,10 @@
 ghost use Rattle.std.specs.Prelude.{◌≡◌, ◌≤◌, ℕ, true, None, Some};
 ghost use Rattle.mu_base.specs.Faults.{Rose};
 ghost use Rattle.mu_base.specs.Files.{Files};
+ghost use Rattle.text_programs.specs.Moments.{EndsSoundly};
 ghost use Rattle.mu_texts.specs.Answer.{is_end};
 ghost use Rattle.mu_command.specs.Answer.{answer_of};
-ghost use Rattle.mu_command.specs.Central.{Answered, MayFail, IsPast, SomeFile, OfJob, IsAccepted, IsRefused, IsQuiet, outcomes_of, OneAnswer, RunsAreSound};
+ghost use Rattle.mu_command.specs.Central.{Answered, MayFail, IsPast, SomeFile, OfJob, IsAccepted, IsRefused, IsQuiet, outcomes_of, OneAnswer, EachMoment, HasSoundLog, HasOneOwner, IsNotStuck};
 ghost use Rattle.mu_command.specs.Job.{job_of};
 ghost use Rattle.mu_command.specs.Written.{IsWhole, Writes};
 
@@ -40,6 +41,9 @@ fn answer<I: Inputs, S: Sink>(alloc: Global, words: &Words, inputs: &mut I, out:
 /// - `check FILE`: the bundle in the file is read and checked; `ok` is written.
 /// - `print FILE`: it is read, and written as its canonical text.
 /// - `run FILE --entry NAME` with options: it is read, checked, and run from the function with that name; the text of the run is written.
+/// - `trial N`, for a number N from 1 to 1,000: a bundle with N pairs of a value and a flag is made, read, checked, and run from `@main`
+///   as `run` does without options; one line is written, `trial N steps S events E ENDING`, which tells how many steps were made, of how
+///   many events their lines tell, and the ending. The status is that of the ending.
 ///
 /// The options of a run come in any order, each at most once:
 ///
@@ -75,8 +79,15 @@ pub fn mu<I: Inputs, S: Sink>(alloc: Global, words: &Words, inputs: &mut I, out:
         (IsAccepted (record { told = I.holds inputs.old; before = I.faults inputs.old; now = I.faults inputs.new }) words.now result) (job_of words.now) }
     ensures sink_fault { result ≡ Status.SinkFault → Rose (S.faults out.old) (S.faults out.new) }
 
-    // What holds of the run that is told, at each of its moments.
-    ensures moments { RunsAreSound words.now }
+    // What holds at each moment of the run that the words ask for, whatever bytes its files have.
+    // The log meets the axioms of memory, no two of its events race, and each of its reads was an option of its past.
+    ensures sound_logs { EachMoment HasSoundLog words.now }
+    // No two threads are on one stack, and no thread is on two.
+    ensures one_owner { EachMoment HasOneOwner words.now }
+    // The next step has a rule.
+    ensures never_stuck { EachMoment IsNotStuck words.now }
+    // Where the next step gives the ending, it logs nothing, or that a thread left its stack, and the log that is left is sound too.
+    ensures sound_endings { EachMoment EndsSoundly words.now }
 
     // What the inputs tell stays, and no count of faults falls.
     ensures inputs_stay { I.holds inputs.new ≡ I.holds inputs.old }

@@ -6,13 +6,15 @@ ghost use Rattle.mu_model.specs.Outcomes.{Stuck};
 ghost use Rattle.mu_model.specs.Programs.{named};
 ghost use Rattle.mu_model.specs.Run.{first_configuration, run};
 ghost use Rattle.run_texts.specs.Texts.{ending_status};
-ghost use Rattle.mu_texts.specs.Answer.{Answer, run_of, run_answer, ready_answer};
+ghost use Rattle.mu_texts.specs.Answer.{Answer, run_of, run_answer, told_answer, ready_answer};
 ghost use Rattle.model_laws.specs.Bounds.{HasEnding};
 ghost use Rattle.mu_texts.specs.Comes.{IsRunnable, CanRun};
 ghost use Rattle.mu_texts.specs.declared.ready.Ready.TheVariants as ready;
 ghost use Rattle.mu_command.specs.Written.{Wrote, Writes, IsWhole};
 ghost use Rattle.mu_command.specs.Steps.{step_pieces, last_piece, behind_pieces, answered_step, Goes, IsOver};
 
+use crate::counting::write_counts;
+use crate::letting_go::let_machine_go;
 use crate::writing::{put_line, put_whole_text};
 use bundle_check::Checked;
 use client_hooks::Determined;
@@ -24,7 +26,7 @@ use mem_views::ViewMemory;
 use mu_base::{PutFault, Sink, Status};
 use mu_model::{Ending, Line, StepEnd};
 use mu_step::Machine;
-use mu_texts::{Ready, Start};
+use mu_texts::{Ready, Start, Telling, let_bundle_go, let_code_go};
 use run_print::{ending_status, ending_text, lines_text};
 use std::alloc::{AllocError, Global};
 
@@ -175,7 +177,7 @@ fn begin(
     ensures first { IfOk result (λ m. first_configuration (named code.now) start.setting start.entry ≡ Some m.configuration) }
 {
     let memory = ViewMemory::new(alloc, start.rule);
-    let machine = Machine::new(
+    Machine::new(
         alloc,
         code,
         start.entry,
@@ -184,21 +186,52 @@ fn begin(
         start.client,
         start.picks,
         start.budget,
-    )?;
-    Ok(machine)
+    )
 }
 
-// Makes a run, and writes its lines and its ending.
+// Makes the steps of a run up to its ending, which comes within so many, and writes what is to be told of it.
+fn write_told<S: Sink, M: Memory + Drop, C: Determined + Drop>(
+    alloc: Global,
+    out: &mut S,
+    code: &Checked,
+    machine: &mut Machine<M, C>,
+    steps: u64,
+    telling: Telling,
+) -> Status
+    requires same { machine.old.bundle ≡ code.now }
+    requires ends { HasEnding (run (named code.now) steps machine.old.configuration) }
+    ensures writes { Writes (told_answer telling code.now (run (named code.now) steps machine.old.configuration))
+        (S.written out.old) (S.written out.new) (S.ends out.old) (S.ends out.new) result }
+    ensures never_falls { S.faults out.old ≤ S.faults out.new }
+    ensures fault { result ≡ Status.SinkFault → Rose (S.faults out.old) (S.faults out.new) }
+{
+    match telling {
+        Telling::Lines => write_steps(alloc, out, code, machine, steps),
+        Telling::Counts { n } => write_counts(alloc, out, n, code, machine, steps),
+    }
+}
+
+// Makes a run, and writes what is to be told of it.
 #[tactic(auto, using(crate::proofs::InSteps::running))]
-fn write_run<S: Sink>(alloc: Global, out: &mut S, code: &Checked, start: Start) -> Status
+fn write_run<S: Sink>(
+    alloc: Global,
+    out: &mut S,
+    code: &Checked,
+    start: Start,
+    telling: Telling,
+) -> Status
     requires { IsRunnable code.now start }
-    ensures writes { Writes (run_answer code.now (run_of code.now start.entry start.setting)) (S.written out.old) (S.written out.new) (S.ends out.old) (S.ends out.new) result }
+    ensures writes { Writes (told_answer telling code.now (run_of code.now start.entry start.setting)) (S.written out.old) (S.written out.new) (S.ends out.old) (S.ends out.new) result }
     ensures never_falls { S.faults out.old ≤ S.faults out.new }
     ensures fault { result ≡ Status.SinkFault → Rose (S.faults out.old) (S.faults out.new) }
 {
     let steps = start.budget as u64 + 1;
     match begin(alloc, code, start) {
-        Ok(mut machine) => write_steps(alloc, out, code, &mut machine, steps),
+        Ok(mut machine) => {
+            let status = write_told(alloc, out, code, &mut machine, steps, telling);
+            let_machine_go(machine);
+            status
+        }
         Err(_) => Status::Memory,
     }
 }
@@ -228,7 +261,19 @@ pub fn write<S: Sink>(alloc: Global, ready: Ready, out: &mut S) -> Status
             Ok(text) => put_line(out, text, Status::Done),
             Err(_) => Status::Memory,
         },
-        Ready::Canonical(bundle) => write_canonical(alloc, &bundle, out),
-        Ready::Entered { code, start } => write_run(alloc, out, &code, start),
+        Ready::Canonical(bundle) => {
+            let status = write_canonical(alloc, &bundle, out);
+            let_bundle_go(bundle);
+            status
+        }
+        Ready::Entered {
+            code,
+            start,
+            telling,
+        } => {
+            let status = write_run(alloc, out, &code, start, telling);
+            let_code_go(code);
+            status
+        }
     }
 }

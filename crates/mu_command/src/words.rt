@@ -1,23 +1,26 @@
 // Reads the words of the command line.
 ghost use Rattle.std.specs.Prelude.{◌≡◌, ◌<◌, ◌≤◌, IfSome, length, drop};
-ghost use Rattle.mu_command.specs.Job.{word, is_digit, digits_up_to, number_up_to, no_options, with_option, with_all, rule_named, run_with, job_of, AreThere, OptionsAreThere};
+ghost use Rattle.mu_command.specs.Job.{word, is_digit, digits_up_to, number_up_to, pairs_asked, no_options, with_option, with_all, rule_named, run_with, job_of, AreThere, OptionsAreThere};
 
 use crate::job::{Job, RunJob};
 use crate::options::Options;
 use mem_axioms::Rule;
 use mu_base::Words;
 
-// How many steps a run may make where no word says it.
-const USUAL_STEPS: u32 = 200_000;
+/// How many steps a run may make where no word says it.
+pub const USUAL_STEPS: u32 = 200_000;
 
 // How many steps a word may say.
 const MOST_STEPS: u32 = 1_000_000;
 
-// How many cells a run may make beside those of the globals where no word says it.
-const USUAL_CELLS: u32 = 100_000;
+/// How many cells a run may make beside those of the globals where no word says it.
+pub const USUAL_CELLS: u32 = 100_000;
 
 // How many cells a word may say.
 const MOST_CELLS: u32 = 1_000_000;
+
+// How many pairs a made bundle may have.
+const MOST_PAIRS: u32 = 1_000;
 
 fn is_digit(byte: u8) -> bool
     ensures { result ≡ is_digit byte }
@@ -56,6 +59,14 @@ fn number_up_to(limit: u32, text: &[u8]) -> Option<u32>
     } else {
         None
     }
+}
+
+// How many pairs a word asks for: one to ten decimal digits, of a number from 1 on.
+fn pairs_asked(text: &[u8]) -> Option<u32>
+    ensures { result ≡ pairs_asked text.now }
+{
+    let n = number_up_to(MOST_PAIRS, text)?;
+    if 1 <= n { Some(n) } else { None }
 }
 
 // The rule of release sequences that a word names.
@@ -148,10 +159,10 @@ fn run_with(options: Options) -> Option<Job>
     }))
 }
 
-/// What the words ask for: `check FILE`, `print FILE`, or `run FILE` with options in any order, each at most once: `--entry NAME`,
-/// which is required, `--hail F`, `--client F` or `--auto`, `--schedule F`, `--release-sequences c11` or `rmw`, `--steps N` and
-/// `--cells N`. `--auto` has no value; the value of another option is the next word, whatever it is. None exactly where they are no such
-/// words. It takes no memory.
+/// What the words ask for: `check FILE`, `print FILE`, `trial N`, or `run FILE` with options in any order, each at most once:
+/// `--entry NAME`, which is required, `--hail F`, `--client F` or `--auto`, `--schedule F`, `--release-sequences c11` or `rmw`, `--steps N`
+/// and `--cells N`. `--auto` has no value; the value of another option is the next word, whatever it is. The N of a trial is a number from
+/// 1 to 1,000. None exactly where they are no such words. It takes no memory.
 #[tactic(auto, unfolding(crate::specs::Job::job_of))]
 pub fn read_words(words: &Words) -> Option<Job>
     ensures job { result ≡ job_of words.now }
@@ -161,6 +172,11 @@ pub fn read_words(words: &Words) -> Option<Job>
         Some(Job::Check { file: 1 })
     } else if words.len() == 2 && words.word(0) == "print" {
         Some(Job::Print { file: 1 })
+    } else if words.len() == 2 && words.word(0) == "trial" {
+        match pairs_asked(words.word(1).as_bytes()) {
+            Some(n) => Some(Job::Trial { n }),
+            None => None,
+        }
     } else if 2 <= words.len() && words.word(0) == "run" {
         match all_options(words) {
             Some(options) => run_with(options),

@@ -1,5 +1,5 @@
 -- What is ready to be written is no refusal.
-use Rattle.std.proofs.Common.{◌≡◌, ◌⊎◌, inl, inr, true, List, refl}
+use Rattle.std.proofs.Common.{◌≡◌, ◌⊎◌, inl, inr, ℕ, true, List, refl}
 use Rattle.mu_base.specs.declared.status.Status.TheVariants.{Refused, Memory}
 use Rattle.ir_tree.specs.declared.items.Item.{Item}
 use Rattle.mu_model.specs.declared.endings.Ending.{Ending}
@@ -8,7 +8,9 @@ use Rattle.mu_model.specs.Run.{Run, Ends, Breaks, Unfinished}
 use Rattle.run_texts.specs.Texts.{ending_status}
 use Rattle.mu_texts.specs.declared.ready.Ready.{Ready}
 use Rattle.mu_texts.specs.declared.ready.Ready.TheVariants as ready
-use Rattle.mu_texts.specs.Answer.{is_end, ready_answer, run_answer, run_of}
+use Rattle.mu_texts.specs.declared.ready.Telling.{Telling}
+use Rattle.mu_texts.specs.declared.ready.Telling.TheVariants.{Lines, Counts}
+use Rattle.mu_texts.specs.Answer.{is_end, ready_answer, run_answer, trial_answer, told_answer, run_of}
 
 no_ending_is_refused : (ending : Ending) → ending_status ending ≡ Refused → ⊥
 no_ending_is_refused endings.Done e = cc
@@ -24,10 +26,19 @@ no_run_is_refused bundle (Ends steps lines ending) e = no_ending_is_refused endi
 no_run_is_refused bundle Breaks e = cc
 no_run_is_refused bundle Unfinished e = cc
 
+no_trial_is_refused : (n : ℕ) (bundle : List Item) (r : Run) → (trial_answer n bundle r).status ≡ Refused → ⊥
+no_trial_is_refused n bundle (Ends steps lines ending) e = no_ending_is_refused ending e
+no_trial_is_refused n bundle Breaks e = cc
+no_trial_is_refused n bundle Unfinished e = cc
+
+nothing_told_is_refused : (telling : Telling) (bundle : List Item) (r : Run) → (told_answer telling bundle r).status ≡ Refused → ⊥
+nothing_told_is_refused Lines bundle r e = no_run_is_refused bundle r e
+nothing_told_is_refused (Counts n) bundle r e = no_trial_is_refused n bundle r e
+
 pub nothing_ready_is_refused : (r : Ready) → (ready_answer r).status ≡ Refused → ⊥
 nothing_ready_is_refused ready.Accepted e = cc
 nothing_ready_is_refused (ready.Canonical bundle) e = cc
-nothing_ready_is_refused (ready.Entered code start) e = no_run_is_refused code (run_of code start.entry start.setting) e
+nothing_ready_is_refused (ready.Entered code start telling) e = nothing_told_is_refused telling code (run_of code start.entry start.setting) e
 
 -- ---- what is ready ends with a status of what was accepted, or would find no memory
 
@@ -45,7 +56,16 @@ run_ends bundle (Ends steps lines e) = inl (ending_ends e)
 run_ends bundle Breaks = inr refl
 run_ends bundle Unfinished = inr refl
 
+trial_ends : (n : ℕ) (bundle : List Item) (r : Run) → (is_end (trial_answer n bundle r).status ≡ true) ⊎ ((trial_answer n bundle r).status ≡ Memory)
+trial_ends n bundle (Ends steps lines e) = inl (ending_ends e)
+trial_ends n bundle Breaks = inr refl
+trial_ends n bundle Unfinished = inr refl
+
+told_ends : (telling : Telling) (bundle : List Item) (r : Run) → (is_end (told_answer telling bundle r).status ≡ true) ⊎ ((told_answer telling bundle r).status ≡ Memory)
+told_ends Lines bundle r = run_ends bundle r
+told_ends (Counts n) bundle r = trial_ends n bundle r
+
 pub ready_ends : (r : Ready) → (is_end (ready_answer r).status ≡ true) ⊎ ((ready_answer r).status ≡ Memory)
 ready_ends ready.Accepted = inl refl
 ready_ends (ready.Canonical bundle) = inl refl
-ready_ends (ready.Entered code start) = run_ends code (run_of code start.entry start.setting)
+ready_ends (ready.Entered code start telling) = told_ends telling code (run_of code start.entry start.setting)

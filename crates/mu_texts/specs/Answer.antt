@@ -1,5 +1,6 @@
 -- To believe: what the texts of files come to, and what is written then.
-use Rattle.std.specs.Prelude.{ℕ, ◌-◌, Bool, true, false, List, [], ◌∷◌, ◌++◌, Option, None, Some, Result, Ok, Err, codes, decimal}
+use Rattle.std.specs.Prelude.{ℕ, ◌+◌, ◌-◌, Bool, true, false, List, [], ◌∷◌, ◌++◌, length, sum_by, Option, None, Some, Result, Ok, Err, codes, decimal}
+use Rattle.std.specs.List.{count_by}
 use Rattle.mu_base.specs.declared.status.Status.{Status}
 use Rattle.mu_base.specs.declared.status.Status.TheVariants as statuses
 use Rattle.mu_base.specs.declared.status.Status.TheVariants.{Done as Finished, Refused, Memory}
@@ -23,14 +24,18 @@ use Rattle.hail_load.specs.Texts.{hail_demands, hail_commands}
 use Rattle.loaded_programs.specs.Laws.{carried_out, loaded_objects}
 use Rattle.client_script.specs.Texts.{script_demands, script_entries}
 use Rattle.mu_threads.specs.ScheduleTexts.{schedule_demands, schedule_numbers}
+use Rattle.mu_model.specs.declared.lines.Line.{Line}
+use Rattle.mu_model.specs.declared.lines.Line.TheVariants as lines
 use Rattle.mu_model.specs.Clients as clients
 use Rattle.mu_model.specs.Run.{Setting, cells_taken, Run, Ends, Breaks, Unfinished, program_run}
-use Rattle.run_texts.specs.Texts.{ending_status}
+use Rattle.run_texts.specs.Texts.{ending_text, ending_status}
 use Rattle.run_texts.specs.Pieces.{pieces_of}
 use Rattle.mu_texts.specs.declared.what.What.{What}
 use Rattle.mu_texts.specs.declared.what.What.TheVariants.{Bundle, Hail, Client, Schedule}
 use Rattle.mu_texts.specs.declared.ready.Ready.{Ready}
 use Rattle.mu_texts.specs.declared.ready.Ready.TheVariants as ready
+use Rattle.mu_texts.specs.declared.ready.Telling.{Telling}
+use Rattle.mu_texts.specs.declared.ready.Telling.TheVariants.{Lines, Counts}
 use Rattle.mu_texts.specs.Start.{Started}
 use Rattle.mu_texts.specs.What.{name_of}
 use Rattle.mu_texts.specs.Refusals.{text_fault_name, name_fault_name, check_fault_name, entry_fault_name, hail_fault_name, load_fault_name, script_fault_name, schedule_fault_name}
@@ -139,6 +144,29 @@ run_answer bundle (Ends steps lines e) = record { pieces = pieces_of bundle step
 run_answer bundle Breaks = no_answer
 run_answer bundle Unfinished = no_answer
 
+-- how many events the lines of the steps tell of, and those of the step that gives the ending
+abbrev pub is_event : Line → Bool
+is_event (lines.Event n e) = true
+is_event (lines.Note n) = false
+
+abbrev pub events_in : List (List Line) → List Line → ℕ
+events_in steps ls = sum_by (count_by is_event) steps + count_by is_event ls
+
+-- `trial N steps S events E ENDING`: so many steps were made, and the lines tell of so many events
+abbrev pub trial_line : ℕ → ℕ → ℕ → List ℕ → List ℕ
+trial_line n steps events ending = codes "trial " ++ decimal n ++ codes " steps " ++ decimal steps ++ codes " events " ++ decimal events ++ codes " " ++ ending
+
+-- the line that tells of the run of the made bundle with n pairs
+abbrev pub trial_answer : ℕ → List Item → Run → Answer
+trial_answer n bundle (Ends steps ls e) = line (trial_line n (length steps) (events_in steps ls) (ending_text bundle e)) (ending_status e)
+trial_answer n bundle Breaks = no_answer
+trial_answer n bundle Unfinished = no_answer
+
+-- what is told of the run of a bundle: its text, or the line that counts
+abbrev pub told_answer : Telling → List Item → Run → Answer
+told_answer Lines bundle r = run_answer bundle r
+told_answer (Counts n) bundle r = trial_answer n bundle r
+
 -- a text in one piece; an empty one has none
 abbrev pub in_one_piece : List ℕ → List (List ℕ)
 in_one_piece [] = []
@@ -155,11 +183,11 @@ is_end statuses.AllWaiting = true
 is_end statuses.Budget = true
 is_end _ = false
 
--- what is written then: `ok`, the canonical text in one piece, or the run
+-- what is written then: `ok`, the canonical text in one piece, or what is told of the run
 abbrev pub ready_answer : Ready → Answer
 ready_answer ready.Accepted = line (codes "ok") Finished
 ready_answer (ready.Canonical bundle) = record { pieces = in_one_piece (bundle_text bundle); status = Finished }
-ready_answer (ready.Entered code start) = run_answer code (run_of code start.entry start.setting)
+ready_answer (ready.Entered code start telling) = told_answer telling code (run_of code start.entry start.setting)
 
 abbrev pub ready_part : Part Ready → Answer
 ready_part (Ok r) = ready_answer r

@@ -2,12 +2,13 @@
 use Rattle.std.specs.Prelude.{◌≡◌, [], ◌∷◌, Ok, Err, codes, refl}
 use Rattle.std.specs.Fmt.{digits}
 use Rattle.mu_base.specs.declared.status.Status.TheVariants.{Done, Budget as OutOfSteps, Refused}
-use Rattle.mu_model.specs.declared.lines.Line.TheVariants.{Note}
+use Rattle.mem_axioms.specs.declared.types.Kind.TheVariants.{NewStack, NewThread}
+use Rattle.mu_model.specs.declared.lines.Line.TheVariants.{Event, Note}
 use Rattle.mu_model.specs.declared.lines.Note.TheVariants.{Exited}
 use Rattle.mu_model.specs.declared.endings.Ending.TheVariants.{Done as Ended, Budget}
 use Rattle.mu_model.specs.Run.{Ends}
 use Rattle.mu_texts.specs.declared.what.What.TheVariants.{Bundle, Hail, Client}
-use Rattle.mu_texts.specs.Answer.{run_answer, refused, scheduled}
+use Rattle.mu_texts.specs.Answer.{run_answer, trial_answer, refused, scheduled}
 
 -- the run of a thread that exits in its second step
 exits : run_answer [] (Ends ([] ∷ (Note (Exited 0) ∷ []) ∷ []) [] Ended) ≡ record { pieces = codes "exited t0\n" ∷ codes "done\n" ∷ []; status = Done }
@@ -18,6 +19,13 @@ exits = refl
 stops_short : run_answer [] (Ends ([] ∷ [] ∷ []) [] (Budget 2)) ≡ record { pieces = codes "budget 2\n" ∷ []; status = OutOfSteps }
 unfolding digits
 stops_short = refl
+
+-- a run of three steps, with two events; the thread exits in the third
+one_line : trial_answer 7 []
+    (Ends ((Event 0 (record { thread = 0; kind = NewStack 1 }) ∷ []) ∷ (Event 1 (record { thread = 0; kind = NewThread 1 }) ∷ []) ∷ (Note (Exited 0) ∷ []) ∷ []) [] Ended)
+    ≡ record { pieces = codes "trial 7 steps 3 events 2 done\n" ∷ []; status = Done }
+unfolding digits
+one_line = refl
 
 ends_too_early : refused Bundle 39 (codes "Unexpected") ≡ record { pieces = codes "refused bundle 39 Unexpected\n" ∷ []; status = Refused }
 unfolding digits

@@ -11,8 +11,8 @@ use bundle_check::Checked;
 use demands::Fault;
 use hail_load::{Hail, load_hail};
 use loaded_programs::{cells_are_counted, scripts_begin_with_globals};
-use mu_step::first_heap;
 use std::alloc::Global;
+use thread_acts::first_heap;
 use typed_heap::Heap;
 
 // What a script makes, behind the objects of the globals.

@@ -3,6 +3,15 @@ use crate::start::Start;
 use bundle_check::Checked;
 use ir_tree::Bundle;
 
+/// What is told of a run.
+#[derive(Clone, Copy, Debug, PartialEq, Eq)]
+pub enum Telling {
+    /// The lines of its steps, and its ending.
+    Lines,
+    /// One line, which tells of the run of the made bundle with `n` pairs: how many steps and events there were, and the ending.
+    Counts { n: u32 },
+}
+
 /// What the judging of a job's files leaves to be written.
 #[derive(Drop)]
 pub enum Ready {
@@ -10,6 +19,11 @@ pub enum Ready {
     Accepted,
     /// The bundle in canonical text.
     Canonical(Bundle),
-    /// A run of a checked bundle.
-    Entered { code: Checked, start: Start },
+    /// What is told of a run of a checked bundle. It is one variant for each telling, since each place that drops what is ready is proved
+    /// part by part.
+    Entered {
+        code: Checked,
+        start: Start,
+        telling: Telling,
+    },
 }

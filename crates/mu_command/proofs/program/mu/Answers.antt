@@ -1,6 +1,9 @@
 use Rattle.mu_command.proofs.Accepting.{accepted_cause}
 use Rattle.mu_command.proofs.Causes.{read_fault_cause, refused_cause, too_long_cause}
 use Rattle.mu_command.proofs.Completeness.{complete}
+use Rattle.mu_command.proofs.Moments.{of_sound}
+use Rattle.mu_command.specs.Central.{HasSoundLog, HasOneOwner, IsNotStuck}
+use Rattle.text_programs.specs.Moments.{EndsSoundly}
 use Rattle.mu_command.proofs.program.mu.Goals as goal
 
 pub returns-clause-refused : goal.returns-clause-refused
@@ -12,8 +15,17 @@ returns-clause-complete g c = λ files told quiet. complete _ files _ _ _ _ _ _ 
 pub returns-clause-accepted : goal.returns-clause-accepted
 returns-clause-accepted g c = λ s. accepted_cause _ _ _ _ _ _ _ c.answer.ensures.answered s
 
-pub returns-clause-moments : goal.returns-clause-moments
-returns-clause-moments g c = c.runs_are_sound.ensures c.args.words.now
+pub returns-clause-sound_logs : goal.returns-clause-sound_logs
+returns-clause-sound_logs g c = of_sound HasSoundLog (λ p c m. m.log) c.args.words.now (c.runs_are_sound.ensures c.args.words.now)
+
+pub returns-clause-one_owner : goal.returns-clause-one_owner
+returns-clause-one_owner g c = of_sound HasOneOwner (λ p c m. m.owners) c.args.words.now (c.runs_are_sound.ensures c.args.words.now)
+
+pub returns-clause-never_stuck : goal.returns-clause-never_stuck
+returns-clause-never_stuck g c = of_sound IsNotStuck (λ p c m. m.rule) c.args.words.now (c.runs_are_sound.ensures c.args.words.now)
+
+pub returns-clause-sound_endings : goal.returns-clause-sound_endings
+returns-clause-sound_endings g c = of_sound EndsSoundly (λ p c m. m.ending) c.args.words.now (c.runs_are_sound.ensures c.args.words.now)
 
 pub returns-clause-too_long : goal.returns-clause-too_long
 returns-clause-too_long g c = λ s. too_long_cause _ _ _ _ _ _ _ c.answer.ensures.answered s

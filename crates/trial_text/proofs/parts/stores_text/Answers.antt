@@ -1,0 +1,14 @@
+use Rattle.std.proofs.Common.{◌≡◌, ℕ, List, ◌++◌, codes, decimal}
+use Rattle.trial_text.proofs.Appended.{last_words, then_number}
+use Rattle.trial_text.proofs.parts.stores_text.Goals as goal
+
+pub returns : goal.returns
+returns c =
+    let old : List ℕ = c.args.out.now.items in
+    let number : List ℕ = decimal c.args.i in
+    let first : List ℕ = codes "STORE NOT_ATOMIC < @i64 > @d" ++ number in
+    let second : List ℕ = first ++ codes " @k" ++ number in
+    let third : List ℕ = second ++ codes " STORE RELEASE < @i1 > @f" ++ number in
+    let a : c.numbered-2.new.out.items ≡ old ++ second = then_number old first (codes " @k") number _ _ c.in_ok-numbered-2.ensures c.in_ok-numbered.ensures in
+    let b : c.numbered-3.new.out.items ≡ old ++ third = then_number old second (codes " STORE RELEASE < @i1 > @f") number _ _ c.in_ok-numbered-3.ensures a in
+    last_words _ old third (codes " @on ") _ _ c.extend_from_slice.ensures.items b
