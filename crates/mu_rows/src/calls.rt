@@ -7,6 +7,9 @@ use std::process::Abort;
 /// The words of a run without options.
 pub const RUN: &[&str] = &["run", "b", "--entry", "@main"];
 
+/// The words of a run whose script for the heap is the file `f`.
+pub const FILLED: &[&str] = &["run", "b", "--entry", "@main", "--hail", "f"];
+
 /// The words of a run whose schedule is the file `f`.
 pub const SCHEDULED: &[&str] = &["run", "b", "--entry", "@main", "--schedule", "f"];
 
@@ -17,7 +20,7 @@ pub const ANSWERED: &[&str] = &["run", "b", "--entry", "@main", "--client", "f"]
 pub const DEFINITIONS: &str =
     ".typedef @i1 = int<1> .typedef @i8 = int<8> .typedef @i32 = int<32> .typedef @i64 = int<64> .typedef @void = void .typedef @rv = ref<@void> .typedef @st = stackref .funcsig @m = () -> () .funcsig @mi = () -> (@i64) .funcsig @gs = (@st) -> () .const @c0 <@i64> = 0 .const @c1 <@i64> = 1 .const @c2 <@i64> = 2 .const @c10 <@i64> = 10 .const @c40 <@i64> = 40 .const @n2 <@i64> = -2 .const @w1 <@i32> = 1 .const @nul <@rv> = NULL ";
 
-/// A bundle, what is written of it, and the status.
+/// A bundle, or the text of a file beside one, what is written, and the status.
 pub type Row = (&'static str, &'static str, Status);
 
 /// These words, one after another.
@@ -29,8 +32,8 @@ pub fn words_of(alloc: Global, all: &[&str]) -> Result<Words, AllocError> {
     Ok(words)
 }
 
-// A file of that name.
-fn named(alloc: Global, name: &str, bytes: Vec<u8>) -> Result<File, AllocError> {
+/// A file of that name.
+pub fn named(alloc: Global, name: &str, bytes: Vec<u8>) -> Result<File, AllocError> {
     Ok(File {
         name: Text::from_vec(Vec::from_slice(alloc, name.as_bytes())?),
         bytes: Text::from_vec(bytes),
@@ -126,6 +129,23 @@ pub fn each_answers_beside(
     rows: &[Row],
 ) -> Result<(), AllocError> {
     for (bundle, text, status) in rows {
+        let bytes = behind_definitions(alloc, bundle)?;
+        let inputs = two_files(alloc, bytes, other)?;
+        let out = MemorySink::new(alloc, Vec::new(alloc));
+        writes(rt, alloc, all, inputs, out, text, *status)?;
+    }
+    Ok(())
+}
+
+/// What is written of one bundle behind the definitions, beside each text of the file `f`, and the status.
+pub fn each_text_answers(
+    rt: &impl Abort,
+    alloc: Global,
+    all: &[&str],
+    bundle: &str,
+    texts: &[Row],
+) -> Result<(), AllocError> {
+    for (other, text, status) in texts {
         let bytes = behind_definitions(alloc, bundle)?;
         let inputs = two_files(alloc, bytes, other)?;
         let out = MemorySink::new(alloc, Vec::new(alloc));

@@ -3,7 +3,8 @@ use crate::calls::{ANSWERED, Row, each_answers_behind, each_answers_beside};
 use mu_base::Status;
 use std::test::Fail;
 
-const KEEPS: &str =
+/// Two traps, the first of which keeps 42.
+pub const KEEPS: &str =
     ".funcdef @main VERSION %v <@mi> { %e(): %k = ADD <@i64> @c40 @c2 %a = TRAP <@i64> KEEPALIVE(%k) %b = TRAP <@i64> \
     RET (%a) }";
 

@@ -2,9 +2,21 @@
 #![tactic(auto)]
 
 #[cfg(test)]
+mod bounds;
+#[cfg(test)]
 mod calls;
 #[cfg(test)]
 mod clients;
+#[cfg(test)]
+mod faults;
+#[cfg(test)]
+mod objects;
+#[cfg(test)]
+mod refusals;
+#[cfg(test)]
+mod refused_swaps;
+#[cfg(test)]
+mod replies;
 #[cfg(test)]
 mod swaps;
 #[cfg(test)]

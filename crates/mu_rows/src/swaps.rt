@@ -3,12 +3,16 @@ use crate::calls::{RUN, Row, each_answers_behind};
 use mu_base::Status;
 use std::test::Fail;
 
-const GENERATOR: [Row; 1] = [(
+/// A generator that kills its stack, which is entered once more.
+pub const GENERATOR: &str =
     ".funcdef @gen VERSION %v <@gs> { %e(<@st> %m): SWAPSTACK %m RET_WITH<> PASS_VALUES<@i64>(@c1) \
-        SWAPSTACK %m KILL_OLD PASS_VALUES<@i64>(@c2) } \
-        .funcdef @main VERSION %v <@mi> { %e(): %s = COMMINST @uvm.new_stack <[@gs]> (@gen) \
-        %m = COMMINST @uvm.current_stack () %a = SWAPSTACK %s RET_WITH<@i64> PASS_VALUES<@st>(%m) \
-        %b = SWAPSTACK %s RET_WITH<@i64> PASS_VALUES<>() SWAPSTACK %s RET_WITH<> PASS_VALUES<>() RET (%a) }",
+    SWAPSTACK %m KILL_OLD PASS_VALUES<@i64>(@c2) } \
+    .funcdef @main VERSION %v <@mi> { %e(): %s = COMMINST @uvm.new_stack <[@gs]> (@gen) \
+    %m = COMMINST @uvm.current_stack () %a = SWAPSTACK %s RET_WITH<@i64> PASS_VALUES<@st>(%m) \
+    %b = SWAPSTACK %s RET_WITH<@i64> PASS_VALUES<>() SWAPSTACK %s RET_WITH<> PASS_VALUES<>() RET (%a) }";
+
+const KILLED: [Row; 1] = [(
+    GENERATOR,
     "0 t0 stack s1\n\
         1 t0 leave s0\n\
         2 t0 enter s1\n\
@@ -23,7 +27,7 @@ const GENERATOR: [Row; 1] = [(
 
 #[test]
 fn killed_stacks_are_not_entered(rt: HostRuntime) -> Result<(), Fail> {
-    each_answers_behind(&rt, rt.alloc(), RUN, &GENERATOR)?;
+    each_answers_behind(&rt, rt.alloc(), RUN, &KILLED)?;
     Ok(())
 }
 
@@ -60,7 +64,8 @@ fn stacks_are_entered_by_a_thread_that_was_made_before(rt: HostRuntime) -> Resul
     Ok(())
 }
 
-const HANDED_ON: &str = ".global @q <@i64> \
+/// A stack that is left, and with which a new thread begins. In the end both threads wait.
+pub const HANDED_ON: &str = ".global @q <@i64> \
     .funcdef @co VERSION %v <@gs> { %e(<@st> %m): %a = ALLOCA <@i64> STORE NOT_ATOMIC <@i64> %a @c40 \
     SWAPSTACK %m RET_WITH<> PASS_VALUES<>() %b = LOAD NOT_ATOMIC <@i64> %a \
     %w = COMMINST @uvm.futex.wait <@i64> (@q @c0) RET () } \

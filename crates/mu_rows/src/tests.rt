@@ -7,7 +7,8 @@ use std::alloc::{AllocError, Global};
 use std::process::Abort;
 use std::test::Fail;
 
-const ADDS_40_AND_2: &str =
+/// A bundle that adds 40 and 2.
+pub const ADDS_40_AND_2: &str =
     ".typedef @i64 = int<64> .funcsig @mi = () -> (@i64) .const @a <@i64> = 40 .const @b <@i64> = 2 \
     .funcdef @main VERSION %v <@mi> { %e(): %c = ADD <@i64> @a @b RET (%c) }";
 
@@ -108,7 +109,8 @@ fn computes(rt: HostRuntime) -> Result<(), Fail> {
     Ok(())
 }
 
-const LOOP: &str =
+/// A loop of ten rounds, which takes 54 steps.
+pub const LOOP: &str =
     ".funcdef @main VERSION %v <@mi> { %e(): BRANCH %l(@c0 @c10) %l(<@i64> %s <@i64> %n): %z = EQ <@i64> %n @c0 BRANCH2 %z %d(%s) %k(%s %n) %k(<@i64> %s <@i64> %n): %t = ADD <@i64> %s %n %o = SUB <@i64> %n @c1 BRANCH %l(%t %o) %d(<@i64> %s): RET (%s) }";
 
 const ENOUGH_STEPS: [Row; 1] = [(LOOP, "returned t0 55\ndone\n", Status::Done)];
