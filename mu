@@ -2,6 +2,7 @@
 # Runs mu with the given words, in the caller's folder; the status is the program's. Where the program was not built yet from
 # the sources as they are, it is built first.
 #   mu --build               only builds
+#   mu --gate                proves and tests everything by `rt ci`, whose status it gives, and keeps the program that this built
 #   mu --explain WORDS..     runs mu with WORDS, and says on standard error where a refusal stands and what it means.
 #                            Where standard error is a terminal, this is said without being asked.
 # Status 14: the program could not be built.
@@ -64,22 +65,47 @@ build() {
     fi
     [ "$(number_of_sources)" = "$number" ] && break
   done
-  rm -f "$out"/program-*
-  cp "$out/mu" "$out/unfinished" && mv "$out/unfinished" "$out/program-$number"
+  keep_program "$number"
 }
 
-# Of several calls one builds, and the others wait for it.
-build_alone() {
+# Gives the program that was just built the name by which it is found.
+keep_program() {
+  rm -f "$out"/program-*
+  cp "$out/mu" "$out/unfinished" && mv "$out/unfinished" "$out/program-$1"
+}
+
+# The gate builds the program of what it proved, so nothing needs to be proved for it a second time; where the gate fails, or the
+# sources changed meanwhile, nothing is kept.
+pass_gate() {
+  number=$(number_of_sources)
+  rm -f "$out/mu"
+  (cd "$top" && exec rt ci 9>&-) || return
+  [ -x "$out/mu" ] && [ "$(number_of_sources)" = "$number" ] || return 0
+  keep_program "$number"
+}
+
+build_if_needed() {
+  [ -x "$out/program-$(number_of_sources)" ] || build
+}
+
+# Does what is asked while no other call builds: the others wait for it.
+alone() {
   mkdir -p "$out" || fail "no folder for the program"
   (
     flock 9
-    [ -x "$out/program-$(number_of_sources)" ] || build
+    "$@"
   ) 9> "$out/build.lock"
 }
 
+if [ "${1-}" = --gate ]; then
+  [ $# -eq 1 ] || fail "--gate takes no further word"
+  alone pass_gate
+  exit
+fi
+
 program=$out/program-$(number_of_sources)
 if [ ! -x "$program" ]; then
-  build_alone || exit 14
+  alone build_if_needed || exit 14
   program=$out/program-$(number_of_sources)
 fi
 
