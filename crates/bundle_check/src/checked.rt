@@ -1,5 +1,5 @@
 // Bundles that are checked.
-ghost use Rattle.std.specs.Prelude.{◌≡◌, ◌<◌, ◌++◌, None, Some, codes, drop, length, map, slice_get, is_some, IsSome, OnOk, OnErr};
+ghost use Rattle.std.specs.Prelude.{◌≡◌, ◌^◌, ◌<◌, ◌++◌, None, Some, codes, drop, length, map, slice_get, is_some, IsSome, OnOk, OnErr};
 ghost use Rattle.mu_base.specs.Files.{IsPrefix};
 ghost use Rattle.type_laws.specs.Same.{IsGraph};
 ghost use Rattle.bundle_check.specs.Checking.{bundle_tables, bundle_functions, bundle_blocks};
@@ -106,7 +106,7 @@ pub struct Checked {
 }
 
 impl Model for Checked {
-    ghost use Rattle.std.specs.Prelude.{List, ◌≡◌, None, map};
+    ghost use Rattle.std.specs.Prelude.{List, ◌≡◌, ◌^◌, ◌<◌, None, length, map};
     ghost use Rattle.ir_tree.specs.declared.items.Item.{Item};
     ghost use Rattle.demands.specs.Demands.{first_unmet};
     ghost use Rattle.bundle_names.specs.Naming.{name_demands};
@@ -118,7 +118,7 @@ impl Model for Checked {
 
     ghost view = { λ c. c.bundle };
 
-    ghost invariant = { λ c. (first_unmet (name_demands c.bundle) ≡ None) × (first_unmet (check_demands c.bundle) ≡ None) × (c.tables ≡ bundle_tables c.bundle) × (c.functions ≡ bundle_functions c.bundle) × (c.blocks ≡ bundle_blocks c.bundle) × (c.global_types ≡ global_classes (bundle_tables c.bundle) c.bundle) × (map (λ v. v.members) c.constants ≡ constant_values (bundle_tables c.bundle) c.bundle) };
+    ghost invariant = { λ c. (first_unmet (name_demands c.bundle) ≡ None) × (first_unmet (check_demands c.bundle) ≡ None) × (c.tables ≡ bundle_tables c.bundle) × (c.functions ≡ bundle_functions c.bundle) × (c.blocks ≡ bundle_blocks c.bundle) × (c.global_types ≡ global_classes (bundle_tables c.bundle) c.bundle) × (map (λ v. v.members) c.constants ≡ constant_values (bundle_tables c.bundle) c.bundle) × (length c.global_types < 2 ^ 32) };
 }
 
 impl Checked {
@@ -141,6 +141,7 @@ impl Checked {
         requires blocks { blocks ≡ bundle_blocks bundle }
         requires global_types { global_types ≡ global_classes (bundle_tables bundle) bundle }
         requires constants { map (λ v. v.members) constants ≡ constant_values (bundle_tables bundle) bundle }
+        requires few { length global_types < 2 ^ 32 }
         ensures { result ≡ bundle }
     {
         Checked {
@@ -248,11 +249,11 @@ impl Checked {
     }
 
     /// How many globals there are. `global_type` takes the numbers below it, and no others.
-    pub fn globals(&self) -> usize
+    pub fn globals(&self) -> u32
         ensures cells { result ≡ length (bundle_tables self.now).global_cells }
         ensures types { result ≡ length (global_classes (bundle_tables self.now) self.now) }
     {
-        self.tables.global_cells.len()
+        self.global_types.len() as u32
     }
 
     /// The class of the type of a global that is there.

@@ -1,5 +1,5 @@
 // The functions of a bundle by number.
-ghost use Rattle.std.specs.Prelude.{◌≡◌, ◌+◌, length, slice_get, option_copied, IfOk};
+ghost use Rattle.std.specs.Prelude.{◌≡◌, ◌+◌, ◌^◌, ◌<◌, length, slice_get, option_copied, IfOk};
 ghost use Rattle.demands.specs.Demands.{IsMemory};
 ghost use Rattle.demands.specs.Names.{found};
 ghost use Rattle.check_tables.specs.Lookups.{signature_in, noted_signature};
@@ -157,13 +157,14 @@ pub fn functions(
     Ok(all)
 }
 
-/// The classes of the types of the globals.
+/// The classes of the types of the globals. Want of memory is answered where their number does not fit.
 pub fn global_types(
     alloc: Global,
     tables: &Tables,
     items: &[Item],
 ) -> Result<Listing<u32>, AllocError>
-    ensures { IfOk result (λ classes. classes ≡ global_classes tables.now items.now) }
+    ensures same { IfOk result (λ classes. classes ≡ global_classes tables.now items.now) }
+    ensures few { IfOk result (λ classes. length classes < 2 ^ 32) }
 {
     let mut classes = Listing::new(alloc);
     let mut left = items;
@@ -172,6 +173,9 @@ pub fn global_types(
             classes.push(tables.noted_class(&item.of_type))?;
         }
         left = more;
+    }
+    if classes.len() > u32::MAX as usize {
+        return Err(AllocError);
     }
     Ok(classes)
 }

@@ -7,9 +7,9 @@ use Rattle.std.proofs.lemmas.List.Elements.{All-nil, All-cons, All-append}
 use Rattle.demands.specs.Names.{found}
 use Rattle.demands.specs.declared.fault.Fault.{Fault}
 use Rattle.demands.specs.declared.fault.Fault.TheVariants.{Memory, At}
-use Rattle.demands.specs.Demands.{Demands, ◌⨾◌, first_unmet, as_kind}
+use Rattle.demands.specs.Demands.{Demands, ◌⨾◌, first_unmet, AllMet, as_kind}
 use Rattle.demands.specs.Laws.{fault_as}
-use Rattle.demands.proofs.Meeting.{both_met, carried}
+use Rattle.demands.proofs.Meeting.{all_met, both_met, carried}
 use Rattle.ir_lex.specs.declared.name.Name.{Name}
 use Rattle.ir_tree.specs.declared.definitions.TypeForm.{TypeForm}
 use Rattle.ir_tree.specs.declared.definitions.TypeForm.TheVariants as written
@@ -25,15 +25,15 @@ use Rattle.type_laws.specs.Laws.{IsFinite}
 use Rattle.type_laws.specs.Parts.{parts, parts_at, leads, contains_itself}
 use Rattle.mu_types.specs.declared.limits.TheConstants.{WIDTHS}
 use Rattle.mu_types.specs.Implied.{is_signature, references, references_from, complete}
-use Rattle.mu_types.specs.Tests.{Test, each, passes, wrong_arguments, argument_tests, endless_type, too_many_leaves}
-use Rattle.mu_values.specs.declared.literals.ConstKind.{ConstKind}
+use Rattle.mu_types.specs.declared.faults.TypeKind.{TypeKind}
+use Rattle.mu_types.specs.Tests.{each, passes, wrong_arguments, argument_demands, endless_type}
 use Rattle.mu_values.specs.Constants.{width_of, constant_demands, HasMembers}
 use Rattle.bundle_names.specs.declared.globals.Globals.{Globals}
 use Rattle.bundle_names.specs.Globals.{globals_of}
 use Rattle.check_tables.specs.declared.fault.CheckKind.TheVariants.{Types, Const}
 use Rattle.check_tables.specs.declared.tables.Tables.{Tables}
 use Rattle.check_tables.specs.Lookups.{written_number, signature_number}
-use Rattle.bundle_tables.specs.Graph.{within, type_id, type_ids, signature_id, type_definition, types_of, signatures_of, graph_of, places_of, tested, type_demands}
+use Rattle.bundle_tables.specs.Graph.{within, type_id, type_ids, signature_id, type_definition, types_of, signatures_of, graph_of, places_of, type_demands}
 use Rattle.bundle_tables.specs.Entries.{tables_of}
 use Rattle.bundle_tables.specs.Rules.{constant_number, constant_id, literal_of, constant_types, constants_demands, signatures_demands, globals_demands, item_demands}
 use Rattle.bundle_tables.proofs.Counted.{constants_counted, graph_counted}
@@ -42,7 +42,7 @@ use Rattle.bundle_constants.specs.Bundle.{constants_of}
 use Rattle.bundle_constants.specs.Members.{Lawful}
 use Rattle.bundle_constants.specs.Members as members
 use Rattle.type_laws.proofs.Descents.{hit}
-use Rattle.bundle_constants.proofs.Members.{met_is, holds_at}
+use Rattle.bundle_constants.proofs.Members.{holds_at}
 
 -- ---- the types that every graph has behind the written ones
 
@@ -183,30 +183,24 @@ graph_is g is e =
     subst (λ (ds : List TypeDef). All (IsBelow many) ds) (sym (complete_is w))
     (All-append (IsBelow many) w (implied w) low (all_implied (IsBelow many) many (below_implied many) w (omega (arith, long))))
 
--- ---- the tests of types
+-- ---- the demands on types
 
-abbrev TestsMet : List Test → Type 0
-TestsMet [] = Unit {0}
-TestsMet (t ∷ ts) = (t.met ≡ true) × TestsMet ts
+none_kept : {K L : Type 0} (f : K → L) (o : Option (Fault K)) → fault_as f o ≡ None → o ≡ None
+none_kept f None h = refl
+none_kept f (Some Memory) h = cc
+none_kept f (Some (At kind place)) h = cc
 
-tests_met : (ts : List Test) → first_unmet (tested ts) ≡ None → TestsMet ts
-tests_met [] h = tt
-tests_met (t ∷ ts) h =
-    let both = both_met (if t.met then None else Some (At (Types t.fault.kind) t.fault.place)) (first_unmet (tested ts)) h in
-    (met_is t.met (At (Types t.fault.kind) t.fault.place) both.0, tests_met ts both.1)
+kind_met : {K L : Type 0} (f : K → L) (ds : Demands K) → first_unmet (as_kind f ds) ≡ None → first_unmet ds ≡ None
+kind_met f ds h = none_kept f (first_unmet ds) (sym (carried f ds) ∙ h)
 
-append_met : (xs ys : List Test) → TestsMet (xs ++ ys) → TestsMet xs × TestsMet ys
-append_met [] ys h = (tt, h)
-append_met (x ∷ xs) ys h = let r = append_met xs ys h.1 in ((h.0, r.0), r.1)
-
-each_met : (f : ℕ → List Test) (many first k : ℕ) → TestsMet (each f many first) → k < many → TestsMet (f (first + k))
+each_met : (f : ℕ → Demands TypeKind) (many first k : ℕ) → AllMet (each f many first) → k < many → AllMet (f (first + k))
 each_met f zero first k h l = absurd (omega arith)
 each_met f (suc many) first zero h l =
     let e : first ≡ first + 0 = omega arith in
-    subst (λ (n : ℕ). TestsMet (f n)) e (append_met (f first) (each f many (suc first)) h).0
+    subst (λ (n : ℕ). AllMet (f n)) e h.0
 each_met f (suc many) first (suc k) h l =
     let e : suc first + k ≡ first + suc k = omega arith in
-    subst (λ (n : ℕ). TestsMet (f n)) e (each_met f many (suc first) k (append_met (f first) (each f many (suc first)) h).1 (omega arith))
+    subst (λ (n : ℕ). AllMet (f n)) e (each_met f many (suc first) k h.1 (omega arith))
 
 -- a definition without parts, and of no width that is not allowed
 record IsModest (d : TypeDef) : Type 0 where
@@ -247,18 +241,14 @@ not_true : (b : Bool) → not b ≡ true → b ≡ false
 not_true true h = absurd (false≢true h)
 not_true false h = refl
 
-finite : (w : List TypeDef) (places : List (List ℕ)) → TestsMet (passes (complete w) places (length w)) → IsFinite (complete w)
+finite : (w : List TypeDef) (places : List (List ℕ)) → AllMet (passes (complete w) places (length w)) → IsFinite (complete w)
 finite w places met = λ t l. elim (cases_lt t (length w)) [ inl m ↦ tested_finite t m | inr m ↦ implied_finite t m ]
   where
-    endless : TestsMet (each (endless_type (complete w) places) (length w) 0)
-    endless = (append_met (each (wrong_arguments (complete w) places) (length w) 0) (each (endless_type (complete w) places) (length w) 0)
-        (append_met (each (wrong_arguments (complete w) places) (length w) 0 ++ each (endless_type (complete w) places) (length w) 0) (each (too_many_leaves (complete w) places) (length w) 0) met).0).1
-
     tested_finite : (t : ℕ) → t < length w → contains_itself (complete w) t ≡ false
     tested_finite t m =
         let e : 0 + t ≡ t = omega arith in
-        let one : TestsMet (endless_type (complete w) places t) = subst (λ (n : ℕ). TestsMet (endless_type (complete w) places n)) e (each_met (endless_type (complete w) places) (length w) 0 t endless m) in
-        not_true (contains_itself (complete w) t) one.0
+        let one : AllMet (endless_type (complete w) places t) = subst (λ (n : ℕ). AllMet (endless_type (complete w) places n)) e (each_met (endless_type (complete w) places) (length w) 0 t met.1.0 m) in
+        not_true (contains_itself (complete w) t) one
 
     implied_finite : (t : ℕ) → length w ≤ t → contains_itself (complete w) t ≡ false
     implied_finite t m = go (slice_get (complete w) t) refl
@@ -281,18 +271,14 @@ width_is : (d : TypeDef) (w : ℕ) → width_of (Some d) ≡ Some w → d ≡ In
 width_is (Int v) w e = let same : v ≡ w = cc in ap Int same
 width_is d w e = cc
 
-widths : (w : List TypeDef) (places : List (List ℕ)) → TestsMet (passes (complete w) places (length w)) → (t v : ℕ) → width_of (slice_get (complete w) t) ≡ Some v → (1 ≤ v) × (v ≤ 128)
+widths : (w : List TypeDef) (places : List (List ℕ)) → AllMet (passes (complete w) places (length w)) → (t v : ℕ) → width_of (slice_get (complete w) t) ≡ Some v → (1 ≤ v) × (v ≤ 128)
 widths w places met t v h = go (slice_get (complete w) t) refl h
   where
-    arguments_met : TestsMet (each (wrong_arguments (complete w) places) (length w) 0)
-    arguments_met = (append_met (each (wrong_arguments (complete w) places) (length w) 0) (each (endless_type (complete w) places) (length w) 0)
-        (append_met (each (wrong_arguments (complete w) places) (length w) 0 ++ each (endless_type (complete w) places) (length w) 0) (each (too_many_leaves (complete w) places) (length w) 0) met).0).0
-
     written_low : (d : TypeDef) → slice_get (complete w) t ≡ Some d → d ≡ Int v → t < length w → (1 ≤ v) × (v ≤ 128)
     written_low d e i m =
         let n : 0 + t ≡ t = omega arith in
-        let one : TestsMet (wrong_arguments (complete w) places t) = subst (λ (k : ℕ). TestsMet (wrong_arguments (complete w) places k)) n (each_met (wrong_arguments (complete w) places) (length w) 0 t arguments_met m) in
-        let int : TestsMet (argument_tests (complete w) places t (Some (Int v))) = subst (λ (o : Option TypeDef). TestsMet (argument_tests (complete w) places t o)) (e ∙ ap Some i) one in
+        let one : AllMet (wrong_arguments (complete w) places t) = subst (λ (k : ℕ). AllMet (wrong_arguments (complete w) places k)) n (each_met (wrong_arguments (complete w) places) (length w) 0 t met.0 m) in
+        let int : AllMet (argument_demands (complete w) places t (Some (Int v))) = subst (λ (o : Option TypeDef). AllMet (argument_demands (complete w) places t o)) (e ∙ ap Some i) one in
         allowed_low v int.0
 
     go : (o : Option TypeDef) → slice_get (complete w) t ≡ o → width_of o ≡ Some v → (1 ≤ v) × (v ≤ 128)
@@ -341,14 +327,6 @@ has_members g (items.GlobalCell d ∷ is) many l m = has_members g is many l m
 has_members g (items.Funcdecl d ∷ is) many l m = has_members g is many l m
 has_members g (items.Funcdef d ∷ is) many l m = has_members g is many l m
 
-kind_met : (ds : Demands ConstKind) → first_unmet (as_kind Const ds) ≡ None → first_unmet ds ≡ None
-kind_met ds h = go (first_unmet ds) refl (sym (carried Const ds) ∙ h)
-  where
-    go : (o : Option (Fault ConstKind)) → first_unmet ds ≡ o → fault_as Const (first_unmet ds) ≡ None → first_unmet ds ≡ None
-    go None e k = e
-    go (Some Memory) e k = absurd (let some : fault_as Const (Some Memory) ≡ None = subst (λ (o : Option (Fault ConstKind)). fault_as Const o ≡ None) e k in cc)
-    go (Some (At kind place)) e k = absurd (let some : fault_as Const (Some (At kind place)) ≡ None = subst (λ (o : Option (Fault ConstKind)). fault_as Const o ≡ None) e k in cc)
-
 each_judged : (p : Tables) (types : List ℕ) (is : List Item) → first_unmet (constants_demands p types is) ≡ None → (n : ℕ) (c : Constant) → slice_get (constants_of p.globals is) n ≡ Some c →
     first_unmet (constant_demands p.types.definitions types c.of_type c.literal) ≡ None
 each_judged p types [] h n c e = cc
@@ -357,7 +335,7 @@ each_judged p types (items.Funcsig d ∷ is) h n c e = each_judged p types is h 
 each_judged p types (items.Const d ∷ is) h n c e =
     let one = constant_demands p.types.definitions types (type_id p.globals d.of_type) (literal_of p.globals d.literal) in
     let both = both_met (first_unmet (as_kind Const one)) (first_unmet (constants_demands p types is)) h in
-    go n e (kind_met one both.0) (λ (m : ℕ) (there : slice_get (constants_of p.globals is) m ≡ Some c). each_judged p types is both.1 m c there)
+    go n e (kind_met Const one both.0) (λ (m : ℕ) (there : slice_get (constants_of p.globals is) m ≡ Some c). each_judged p types is both.1 m c there)
   where
     go : (n : ℕ) → slice_get (constants_of p.globals (items.Const d ∷ is)) n ≡ Some c
         → first_unmet (constant_demands p.types.definitions types (type_id p.globals d.of_type) (literal_of p.globals d.literal)) ≡ None
@@ -383,14 +361,15 @@ accepted g is e h =
     (first_unmet (constants_demands (tables_of g is) (constant_types g is) is ⨾ signatures_demands (tables_of g is) is ⨾ globals_demands (tables_of g is) 0 is)) h in
     let constants_and_more = both_met (first_unmet (constants_demands (tables_of g is) (constant_types g is) is))
     (first_unmet (signatures_demands (tables_of g is) is ⨾ globals_demands (tables_of g is) 0 is)) types_and_more.1 in
-    let tests = tests_met (passes (complete w) (places_of is) (length w)) types_and_more.0 in
+    let tests = passes (complete w) (places_of is) (length w) in
+    let met : AllMet tests = all_met tests (kind_met Types tests types_and_more.0) in
     let many : g.counts.constants ≡ length (constants_of g is) =
     constants_counted g is e ∙ ap (λ (ts : List ℕ). length ts) (types_are g is) ∙ length-map (constants_of g is) (λ (c : Constant). c.of_type) in
     record {
       graph = graph_is g is e;
       some = omega (arith, long);
-      finite = finite w (places_of is) tests;
-      widths = widths w (places_of is) tests;
+      finite = finite w (places_of is) met;
+      widths = widths w (places_of is) met;
       typed = typed g is (length (complete w)) (omega (arith, long, count));
       members = has_members g is (length (constants_of g is)) (omega (arith, many)) (omega arith);
       judged = λ n c there. subst (λ (ts : List ℕ). first_unmet (constant_demands (complete w) ts c.of_type c.literal) ≡ None) (types_are g is)

@@ -35,8 +35,8 @@ use Rattle.bundle_laws.specs.Accepted.{handler_classes, head_classes}
 use Rattle.bundle_laws.proofs.Graph.{get_right}
 use Rattle.typed_heap.specs.Places.{with_some}
 use Rattle.mu_model.specs.Types.{signature_of}
-use Rattle.mu_model.specs.Programs.{definition_from}
-use Rattle.model_numbers.proofs.Functions.{body_same}
+use Rattle.model_numbers.specs.Laws.{definition_from}
+use Rattle.model_numbers.proofs.Functions.{definition_same}
 use Rattle.bundle_laws.proofs.Bodies.{some_is}
 use Rattle.bundle_facts.specs.Facts.{HaveBlocks, IsFirstBlock}
 use Rattle.bundle_facts.proofs.Names.{names_low, funcdefs, definition_number_is}
@@ -331,7 +331,7 @@ record BodyIs (bundle : List Item) (f b : ℕ) : Type 0 where
 body_is : (bundle : List Item) (f b : ℕ) (function : Function) → slice_get (bundle_functions bundle) f ≡ Some function → function.first ≡ Some b → BodyIs bundle f b
 body_is bundle f b function h e =
     by (slice_get (bundle_tables bundle).functions f) refl
-    (body_same bundle f ∙ ap (λ (o : Option Function). with_some o (λ x. Some x.first)) h ∙ ap (λ (o : Option ℕ). Some o) e)
+    (definition_same bundle f ∙ ap (λ (o : Option Function). with_some o (λ x. Some x.first)) h ∙ ap (λ (o : Option ℕ). Some o) e)
   where
     by : (o : Option ℕ) → slice_get (bundle_tables bundle).functions f ≡ o → with_some o (λ g. Some (definition_from (globals_of bundle) f 0 bundle)) ≡ Some (Some b) → BodyIs bundle f b
     by None there k = cc

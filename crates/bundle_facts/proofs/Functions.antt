@@ -34,8 +34,8 @@ use Rattle.bundle_laws.proofs.Graph.{counted}
 use Rattle.typed_heap.specs.Places.{with_some}
 use Rattle.typed_heap.specs.Fits.{World, DefinitionFits, ScalarFits, ScalarsFit, ValueFits, signature_classes}
 use Rattle.mu_model.specs.Types.{signature_of, classes_taken, classes_given}
-use Rattle.mu_model.specs.Programs.{definition_from}
-use Rattle.model_numbers.proofs.Functions.{body_same}
+use Rattle.model_numbers.specs.Laws.{definition_from}
+use Rattle.model_numbers.proofs.Functions.{definition_same}
 use Rattle.bundle_laws.proofs.Bodies.{some_is}
 use Rattle.bundle_facts.specs.Facts.{IsSignature, AreSameSignature}
 use Rattle.bundle_facts.proofs.Completed.{IsComplete, is_complete}
@@ -246,7 +246,7 @@ function_fits p w f c linked same h = by (slice_get p.functions f) refl h
 -- ---- the functions of the code are there
 
 pub both_there : (bundle : List Item) (f : ℕ) → is_some (slice_get (bundle_tables bundle).functions f) ≡ is_some (slice_get (bundle_functions bundle) f)
-both_there bundle f = by (slice_get (bundle_tables bundle).functions f) (slice_get (bundle_functions bundle) f) (body_same bundle f)
+both_there bundle f = by (slice_get (bundle_tables bundle).functions f) (slice_get (bundle_functions bundle) f) (definition_same bundle f)
   where
     by : (s : Option ℕ) (o : Option Function) → with_some s (λ g. Some (definition_from (globals_of bundle) f 0 bundle)) ≡ with_some o (λ x. Some x.first) → is_some s ≡ is_some o
     by None None e = refl

@@ -162,7 +162,17 @@ entry_of bundle m s complete definitions uses h =
 -- ---- what entries say
 
 pub is_signature : (p : Tables) (s : Signature) → IsComplete p.types → EntryOf p.types s → IsSignature p s
-is_signature p s complete e = record { number = e.number; class = e.class; funcref = funcref_refers p.types e.number s.funcref complete e.funcref }
+is_signature p s complete e =
+    record {
+      number = e.number;
+      takes = e.takes;
+      gives = e.gives;
+      definition = e.definition;
+      takes_are = e.takes_are;
+      gives_are = e.gives_are;
+      class = e.class;
+      funcref = funcref_refers p.types e.number s.funcref complete e.funcref;
+    }
 
 -- classes of references to functions of signatures of one class
 pub funcref_decided : (g : List TypeDef) → IsGraph g → (c d t u : ℕ) → c < length g → d < length g → RefersTo g c FuncRef t → RefersTo g d FuncRef u → class_of g t ≡ class_of g u → c ≡ d

@@ -134,9 +134,16 @@ FuncrefsAreDefined = OfAccepted (λ bundle. (t c : ℕ) → funcref_at (bundle_t
 
 -- ---- signatures
 
--- an entry of the signatures: number is that of a signature of its class, and its references to functions refer to that class
+-- an entry of the signatures is that of one definition: it takes and gives the classes of what the definition does, its class is that
+-- of the definition, and its references to functions refer to that class
 pub record IsSignature (p : Tables) (s : Signature) : Type 0 where
+  -- the number of the definition, and the types that it takes and gives
   pub number : ℕ
+  pub takes : List ℕ
+  pub gives : List ℕ
+  pub definition : slice_get (type_graph p) number ≡ Some (types.Sig takes gives)
+  pub takes_are : s.takes ≡ map (class_of (type_graph p)) takes
+  pub gives_are : s.gives ≡ map (class_of (type_graph p)) gives
   pub class : class_of (type_graph p) number ≡ s.class
   pub funcref : RefersTo (type_graph p) s.funcref types.FuncRef number
 

@@ -57,7 +57,7 @@ pub fn zeros_fit()
     ensures { ZerosFit }
 {}
 
-/// Each signature has a class, and references to functions of it are defined as such.
+/// Each signature takes, gives, has the class and the references to functions of one definition.
 pub fn signatures_are_defined()
     ensures { SignaturesAreDefined }
 {}

@@ -1,52 +1,45 @@
 -- The faults of a graph are those of the demands on types.
-use Rattle.std.proofs.Common.{◌≡◌, ◌≢◌, ℕ, ◌+◌, true, false, cond, if◌then◌else◌, List, [], ◌∷◌, ◌++◌, length, map, Option, Some, None, Err, slice_get, refl, sym, ◌∙◌, ap, subst}
+use Rattle.std.proofs.Common.{◌≡◌, ℕ, ◌+◌, List, [], ◌∷◌, ◌++◌, length, Option, Some, None, Err, slice_get, refl, sym, ◌∙◌, ap, subst}
 use Rattle.demands.specs.declared.fault.Fault.{Fault}
-use Rattle.demands.specs.declared.fault.Fault.TheVariants.{At}
-use Rattle.demands.specs.Demands.{Demands, or_else, first_unmet, Judges}
+use Rattle.demands.specs.declared.fault.Fault.TheVariants.{Memory, At}
+use Rattle.demands.specs.Demands.{Demands, first_unmet, as_kind, Judges, Meets}
+use Rattle.demands.specs.Laws.{fault_as}
+use Rattle.demands.proofs.Meeting.{carried}
 use Rattle.ir_tree.specs.declared.items.Item.{Item}
 use Rattle.type_laws.specs.declared.definition.TypeDef.{TypeDef}
 use Rattle.type_laws.specs.declared.definition.TypeDef.TheVariants.{Int, Void, StackRef, ThreadRef}
 use Rattle.type_laws.specs.Same.{IsGraph}
-use Rattle.mu_types.specs.declared.faults.TypeFault.{TypeFault}
 use Rattle.mu_types.specs.declared.faults.TypeKind.{TypeKind}
-use Rattle.mu_types.specs.declared.faults.TypeKind.TheVariants as kinds
 use Rattle.mu_types.specs.Graph.{Table, Written}
 use Rattle.mu_types.specs.Implied.{complete, references_from}
-use Rattle.mu_types.specs.Tests.{Test, passes, first_fault}
-use Rattle.mu_types.specs.Tests as tests
+use Rattle.mu_types.specs.Tests.{passes, written_demands}
 use Rattle.bundle_names.specs.declared.globals.Globals.{Globals}
 use Rattle.bundle_names.specs.Globals.{globals_of}
 use Rattle.mu_types.proofs.References.{complete_is_graph}
 use Rattle.check_tables.specs.declared.fault.CheckKind.{CheckKind}
 use Rattle.check_tables.specs.declared.fault.CheckKind.TheVariants.{Types}
 use Rattle.check_tables.specs.Held.{IsHeld}
-use Rattle.bundle_tables.specs.Graph.{graph_of, table_of, places_of, tested, type_demands}
+use Rattle.bundle_tables.specs.Graph.{graph_of, table_of, places_of, type_demands}
 use Rattle.bundle_tables.specs.Inner.{fault_of}
 use Rattle.bundle_tables.proofs.Counted.{graph_counted}
 
-abbrev pub carried : Option TypeFault → Option (Fault CheckKind)
-carried None = None
-carried (Some f) = Some (At (Types f.kind) f.place)
+-- the demands on the graph are those on the types
+demands_same : (g : Globals) (is : List Item) (w : Written) → w.definitions ≡ graph_of g is → w.places ≡ places_of is → as_kind Types (written_demands w) ≡ type_demands g is
+demands_same g is w d p =
+    ap (λ (ds : List TypeDef). as_kind Types (passes (complete ds) w.places (length ds))) d
+    ∙ ap (λ (ps : List (List ℕ)). as_kind Types (passes (complete (graph_of g is)) ps (length (graph_of g is)))) p
 
-tested_first : (ts : List Test) → first_unmet (tested ts) ≡ carried (tests.first_unmet ts)
-tested_first [] = refl
-tested_first (t ∷ ts) = elim t.met as (λ m. or_else (if m then None else Some (At (Types t.fault.kind) t.fault.place)) (first_unmet (tested ts)) ≡ carried (cond m (tests.first_unmet ts) (Some t.fault))) [ true ↦ tested_first ts | false ↦ refl ]
+first_as : (g : Globals) (is : List Item) (w : Written) (o : Option (Fault TypeKind)) → w.definitions ≡ graph_of g is → w.places ≡ places_of is → first_unmet (written_demands w) ≡ o → first_unmet (type_demands g is) ≡ fault_as Types o
+first_as g is w o d p h =
+    ap (λ (ds : Demands CheckKind). first_unmet ds) (sym (demands_same g is w d p)) ∙ carried Types (written_demands w) ∙ ap (λ (f : Option (Fault TypeKind)). fault_as Types f) h
 
-first_type_fault : (g : Globals) (is : List Item) (w : Written) → w.definitions ≡ graph_of g is → w.places ≡ places_of is → first_unmet (type_demands g is) ≡ carried (first_fault w)
-first_type_fault g is w d p = rw (← d, ← p) (tested_first (passes (complete w.definitions) w.places (length w.definitions)))
+pub accepted : (g : Globals) (is : List Item) (w : Written) → w.definitions ≡ graph_of g is → w.places ≡ places_of is → first_unmet (written_demands w) ≡ None → first_unmet (type_demands g is) ≡ None
+accepted g is w d p h = first_as g is w None d p h
 
-pub accepted : (g : Globals) (is : List Item) (w : Written) → w.definitions ≡ graph_of g is → w.places ≡ places_of is → first_fault w ≡ None → first_unmet (type_demands g is) ≡ None
-accepted g is w d p h = first_type_fault g is w d p ∙ ap carried h
-
-refused_as : {A : Type 0} (ds : Demands CheckKind) (made : A) (kind : TypeKind) (place : ℕ) → (kind ≢ kinds.Memory → first_unmet ds ≡ Some (At (Types kind) place)) → Judges ds made (Err (fault_of kind place))
-refused_as ds made kinds.EndlessType place h = h (λ e. cc)
-refused_as ds made kinds.WrongArgument place h = h (λ e. cc)
-refused_as ds made kinds.TooManyLeaves place h = h (λ e. cc)
-refused_as ds made kinds.Memory place h = tt
-
-pub refused : {A : Type 0} (g : Globals) (is : List Item) (w : Written) (made : A) (f : TypeFault) → w.definitions ≡ graph_of g is → w.places ≡ places_of is →
-    (f.kind ≢ kinds.Memory → first_fault w ≡ Some f) → Judges (type_demands g is) made (Err (fault_of f.kind f.place))
-refused g is w made f d p h = refused_as (type_demands g is) made f.kind f.place (λ e. first_type_fault g is w d p ∙ ap carried (h e))
+pub refused : {A : Type 0} (g : Globals) (is : List Item) (w : Written) (made : A) (f : Fault TypeKind) → w.definitions ≡ graph_of g is → w.places ≡ places_of is →
+    Meets {A = Table} (written_demands w) (Err f) → Judges (type_demands g is) made (Err (fault_of f))
+refused g is w made Memory d p h = tt
+refused g is w made (At kind place) d p h = first_as g is w (Some (At kind place)) d p h
 
 abbrev a_table : List TypeDef → ℕ → Table
 a_table ds n = record { definitions = ds; written = n }

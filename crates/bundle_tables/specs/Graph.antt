@@ -1,6 +1,6 @@
 -- To believe: the graph of the types and signatures of a bundle. Types stand there first, then signatures, each in text order.
 use Rattle.std.specs.Prelude.{ℕ, ◌+◌, List, [], ◌∷◌, ◌++◌, Option, Some, None, map, length, nat_lt, if◌then◌else◌}
-use Rattle.demands.specs.Demands.{Demands, none, demand, ◌⨾◌}
+use Rattle.demands.specs.Demands.{Demands, as_kind}
 use Rattle.demands.specs.Names.{found}
 use Rattle.ir_lex.specs.declared.name.Name.{Name}
 use Rattle.ir_lex.specs.declared.token.Number.{Number}
@@ -12,7 +12,7 @@ use Rattle.type_laws.specs.declared.definition.TypeDef.{TypeDef}
 use Rattle.type_laws.specs.declared.definition.TypeDef.TheVariants.{Int, Struct, Array, Hybrid, Void, Ref, Iref, FuncRef, StackRef, ThreadRef, Sig}
 use Rattle.mu_types.specs.Graph.{Table}
 use Rattle.mu_types.specs.Implied.{complete}
-use Rattle.mu_types.specs.Tests.{Test, passes}
+use Rattle.mu_types.specs.Tests.{passes}
 use Rattle.bundle_names.specs.declared.globals.Globals.{Globals}
 use Rattle.check_tables.specs.declared.fault.CheckKind.{CheckKind}
 use Rattle.check_tables.specs.declared.fault.CheckKind.TheVariants.{Types}
@@ -96,11 +96,7 @@ signature_places (_ ∷ is) = signature_places is
 abbrev pub places_of : List Item → List (List ℕ)
 places_of bundle = type_places bundle ++ signature_places bundle
 
--- ---- demands: three passes over the types, as the tests of a graph have them
-
-abbrev pub tested : List Test → Demands CheckKind
-tested [] = none
-tested (t ∷ ts) = demand t.fault.place (Types t.fault.kind) t.met ⨾ tested ts
+-- ---- demands: those on a graph of written types, in three passes
 
 abbrev pub type_demands : Globals → List Item → Demands CheckKind
-type_demands g bundle = tested (passes (complete (graph_of g bundle)) (places_of bundle) (length (graph_of g bundle)))
+type_demands g bundle = as_kind Types (passes (complete (graph_of g bundle)) (places_of bundle) (length (graph_of g bundle)))

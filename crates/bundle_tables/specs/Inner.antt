@@ -8,7 +8,6 @@ use Rattle.type_laws.specs.Definition.{arguments}
 use Rattle.demands.specs.declared.fault.Fault.{Fault}
 use Rattle.demands.specs.declared.fault.Fault.TheVariants as faults
 use Rattle.mu_types.specs.declared.faults.TypeKind.{TypeKind}
-use Rattle.mu_types.specs.declared.faults.TypeKind.TheVariants as kinds
 use Rattle.check_tables.specs.declared.fault.CheckKind.{CheckKind}
 use Rattle.check_tables.specs.declared.fault.CheckKind.TheVariants.{Types}
 use Rattle.bundle_tables.specs.Entries.{function_entries}
@@ -23,6 +22,6 @@ abbrev pub AllBelow : ℕ → List TypeDef → Type 0
 AllBelow many ds = All (λ d. All (λ n. n < many) (arguments d)) ds
 
 -- the fault of a graph as the fault of a bundle
-abbrev pub fault_of : TypeKind → ℕ → Fault CheckKind
-fault_of kinds.Memory place = faults.Memory
-fault_of kind place = faults.At (Types kind) place
+abbrev pub fault_of : Fault TypeKind → Fault CheckKind
+fault_of faults.Memory = faults.Memory
+fault_of (faults.At kind place) = faults.At (Types kind) place

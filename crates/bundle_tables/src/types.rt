@@ -9,16 +9,16 @@ use crate::graph::graph;
 use bundle_names::Globals;
 use check_tables::{CheckFault, CheckKind, TypeTable, fault_at};
 use ir_tree::Item;
-use mu_types::{TypeFault, TypeKind, classes};
+use mu_types::{TypeFault, classes};
 use std::alloc::{AllocError, Global};
 
 /// The fault of a graph as that of a bundle.
 fn fault_of(fault: TypeFault) -> CheckFault
-    ensures { result ≡ fault_of fault.kind fault.place }
+    ensures { result ≡ fault_of fault }
 {
-    match fault.kind {
-        TypeKind::Memory => CheckFault::Memory,
-        kind => fault_at(CheckKind::Types(kind), fault.place),
+    match fault {
+        TypeFault::Memory => CheckFault::Memory,
+        TypeFault::At { kind, place } => fault_at(CheckKind::Types(kind), place),
     }
 }
 

@@ -20,79 +20,184 @@ fn checked(alloc: Global, text: &[u8]) -> Result<Checked, Fail> {
 }
 
 fn finds(rt: &impl Abort, code: &Checked) {
-    assert_eq!(rt; code.find("@i64"), Some(Sort::Written(0)));
-    assert_eq!(rt; code.find("@m"), Some(Sort::Signature(1)));
-    assert_eq!(rt; code.find("@a"), Some(Sort::Constant(0)));
-    assert_eq!(rt; code.find("@g"), Some(Sort::GlobalCell(0)));
-    assert_eq!(rt; code.find("@f"), Some(Sort::Function(1)));
-    assert_eq!(rt; code.find("@none"), None);
+    for (name, sort) in [
+        ("@i64", Some(Sort::Written(0))),
+        ("@m", Some(Sort::Signature(1))),
+        ("@a", Some(Sort::Constant(0))),
+        ("@g", Some(Sort::GlobalCell(0))),
+        ("@f", Some(Sort::Function(1))),
+        ("@none", None),
+    ] {
+        assert_eq!(rt; code.find(name), sort, "{name}");
+    }
 }
 
 fn enters(rt: &impl Abort, code: &Checked) {
-    assert_eq!(rt; code.entry("@main"), Ok(2));
-    assert_eq!(rt; code.entry("@none"), Err(EntryFault::Unknown));
-    assert_eq!(rt; code.entry("@f"), Err(EntryFault::BadSignature));
-    assert_eq!(rt; code.entry("@d"), Err(EntryFault::NoBody));
+    for (name, entry) in [
+        ("@main", Ok(2)),
+        ("@none", Err(EntryFault::Unknown)),
+        ("@f", Err(EntryFault::BadSignature)),
+        ("@d", Err(EntryFault::NoBody)),
+    ] {
+        assert_eq!(rt; code.entry(name), entry, "{name}");
+    }
+}
+
+// Each of these asks one question of the bundle, where there is an answer: what a call requires is then proved once, with little around it.
+fn constant_type(code: &Checked, n: u32) -> Option<u32> {
+    if (n as usize) < code.constants() {
+        Some(code.constant_type(n))
+    } else {
+        None
+    }
+}
+
+fn is_constant(code: &Checked, n: u32, scalars: &[Scalar]) -> bool {
+    (n as usize) < code.constants() && code.constant(n).as_slice() == scalars
+}
+
+fn global_type(code: &Checked, n: u32) -> Option<u32> {
+    if n < code.globals() {
+        Some(code.global_type(n))
+    } else {
+        None
+    }
+}
+
+fn first_block(code: &Checked, function: u32) -> Option<Option<u32>> {
+    if (function as usize) < code.functions() {
+        Some(code.function(function).first)
+    } else {
+        None
+    }
+}
+
+fn handler(code: &Checked, block: u32) -> Option<Option<u32>> {
+    if (block as usize) < code.blocks() {
+        Some(code.handler(block))
+    } else {
+        None
+    }
+}
+
+// How many variables and instructions a block has.
+fn lengths(code: &Checked, block: u32) -> Option<(usize, usize)> {
+    if (block as usize) < code.blocks() {
+        let block = code.block(block);
+        Some((block.classes.len(), block.code.len()))
+    } else {
+        None
+    }
+}
+
+fn local_type(code: &Checked, block: u32, variable: u32) -> Option<u32> {
+    if (block as usize) < code.blocks() && (variable as usize) < code.block(block).classes.len() {
+        Some(code.local_type(block, variable))
+    } else {
+        None
+    }
+}
+
+fn is_computation(code: &Checked, block: u32, at: u32) -> Option<bool> {
+    if (block as usize) < code.blocks() && (at as usize) < code.block(block).code.len() {
+        Some(matches!(code.code(block, at).form, Form::Computation(_)))
+    } else {
+        None
+    }
+}
+
+fn is_control(code: &Checked, block: u32, at: u32) -> Option<bool> {
+    if (block as usize) < code.blocks() && (at as usize) < code.block(block).code.len() {
+        Some(matches!(code.code(block, at).form, Form::Control(_)))
+    } else {
+        None
+    }
+}
+
+fn counts(rt: &impl Abort, code: &Checked) {
+    assert_eq!(rt; code.constants(), 3);
+    assert_eq!(rt; code.globals(), 1);
+    assert_eq!(rt; code.functions(), 3);
+    assert_eq!(rt; code.blocks(), 3);
 }
 
 fn knows_constants(rt: &impl Abort, code: &Checked) {
-    assert_eq!(rt; code.constants(), 3);
-    assert_eq!(rt; code.constant_type(0), 0);
     let seven = Scalar::Int { width: 64, bits: 7 };
     let one = Scalar::Int { width: 1, bits: 1 };
-    assert_eq!(rt; code.constant(0).as_slice(), [seven].as_slice());
-    assert_eq!(rt; code.constant(1).as_slice(), [seven, one].as_slice());
+    assert!(rt; is_constant(code, 0, &[seven]));
+    assert!(rt; is_constant(code, 1, &[seven, one]));
 }
 
-fn knows_globals(rt: &impl Abort, code: &Checked) {
-    assert_eq!(rt; code.globals(), 1);
-    assert_eq!(rt; code.global_type(0), 1);
+fn knows_types(rt: &impl Abort, code: &Checked) {
+    assert_eq!(rt; constant_type(code, 0), Some(0));
+    assert_eq!(rt; global_type(code, 0), Some(1));
+    assert_eq!(rt; local_type(code, 0, 1), Some(0));
 }
 
 fn knows_functions(rt: &impl Abort, code: &Checked) {
-    assert_eq!(rt; code.functions(), 3);
-    assert_eq!(rt; code.function(0).first, None);
-    assert_eq!(rt; code.function(1).first, Some(0));
-    assert_eq!(rt; code.function(2).first, Some(2));
+    for (function, first) in [(0, None), (1, Some(0)), (2, Some(2))] {
+        assert_eq!(rt; first_block(code, function), Some(first), "{function}");
+    }
 }
 
 fn knows_blocks(rt: &impl Abort, code: &Checked) {
-    assert_eq!(rt; code.blocks(), 3);
-    assert_eq!(rt; code.handler(0), None);
-    assert_eq!(rt; code.handler(1), Some(0));
-    assert_eq!(rt; code.block(0).classes.len(), 2);
-    assert_eq!(rt; code.local_type(0, 1), 0);
+    assert_eq!(rt; handler(code, 0), Some(None));
+    assert_eq!(rt; handler(code, 1), Some(Some(0)));
+    assert_eq!(rt; lengths(code, 0), Some((2, 2)));
 }
 
 fn knows_instructions(rt: &impl Abort, code: &Checked) {
-    assert!(rt; code.blocks() > 0);
-    assert_eq!(rt; code.block(0).code.len(), 2);
-    assert!(rt; matches!(code.code(0, 0).form, Form::Computation(_)));
-    assert!(rt; matches!(code.code(0, 1).form, Form::Control(_)));
+    assert_eq!(rt; is_computation(code, 0, 0), Some(true));
+    assert_eq!(rt; is_control(code, 0, 1), Some(true));
+}
+
+fn is_function_name(
+    alloc: Global,
+    code: &Checked,
+    function: u32,
+    expected: &[u8],
+) -> Result<bool, AllocError> {
+    let mut name = Vec::new(alloc);
+    if (function as usize) < code.functions() {
+        code.function_name(function, &mut name)?;
+    }
+    Ok(name.as_slice() == expected)
+}
+
+fn is_block_name(
+    alloc: Global,
+    code: &Checked,
+    block: u32,
+    expected: &[u8],
+) -> Result<bool, AllocError> {
+    let mut name = Vec::new(alloc);
+    if (block as usize) < code.blocks() {
+        code.block_name(block, &mut name)?;
+    }
+    Ok(name.as_slice() == expected)
 }
 
 fn writes_names(rt: &impl Abort, alloc: Global, code: &Checked) -> Result<(), AllocError> {
-    assert!(rt; code.functions() > 2);
-    let mut name = Vec::new(alloc);
-    code.function_name(2, &mut name)?;
-    assert_eq!(rt; name.as_slice(), b"@main".as_slice());
-    assert!(rt; code.blocks() > 1);
-    let mut full_name = Vec::new(alloc);
-    code.block_name(1, &mut full_name)?;
-    assert_eq!(rt; full_name.as_slice(), b"@f.v.h".as_slice());
+    assert!(rt; is_function_name(alloc, code, 2, b"@main")?);
+    assert!(rt; is_block_name(alloc, code, 1, b"@f.v.h")?);
     Ok(())
+}
+
+fn answers_all(rt: &impl Abort, code: &Checked) {
+    finds(rt, code);
+    enters(rt, code);
+    counts(rt, code);
+    knows_constants(rt, code);
+    knows_types(rt, code);
+    knows_functions(rt, code);
+    knows_blocks(rt, code);
+    knows_instructions(rt, code);
 }
 
 #[test]
 fn answers_by_name_and_by_number(rt: HostRuntime) -> Result<(), Fail> {
     let code = checked(rt.alloc(), TEXT)?;
-    finds(&rt, &code);
-    enters(&rt, &code);
-    knows_constants(&rt, &code);
-    knows_globals(&rt, &code);
-    knows_functions(&rt, &code);
-    knows_blocks(&rt, &code);
-    knows_instructions(&rt, &code);
+    answers_all(&rt, &code);
     let written = writes_names(&rt, rt.alloc(), &code);
     Ok(written?)
 }

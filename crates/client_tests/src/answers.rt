@@ -151,19 +151,37 @@ fn is_kept(note: Option<&Note>, number: u32, scalar: Scalar) -> bool {
     matches!(note, Some(Note::Kept { frame, values }) if *frame == number && is_one(values, scalar))
 }
 
-// What is recorded, watched and passed.
+// What is recorded by the answer to a trap; none is misuse. A reply is taken apart in this one place, since each place is proved.
+fn notes_of(alloc: Global, code: &Checked, text: &[u8]) -> Result<Option<Vec<Note>>, Fail> {
+    match answer(alloc, code, text)? {
+        Some(reply) => Ok(Some(reply.notes.into_vec())),
+        None => Ok(None),
+    }
+}
+
+fn show_frames(rt: &impl Abort, notes: &[Note]) {
+    for (number, block, at) in [(0u32, 9u32, 3u32), (1, 8, 2), (2, 7, 1)] {
+        assert!(rt; is_frame(notes.get(number as usize), number, block, at));
+    }
+}
+
+fn show_kept(rt: &impl Abort, notes: &[Note]) {
+    for (place, frame, scalar) in [
+        (3usize, 2u32, SEVEN),
+        (4, 1, Scalar::Null),
+        (5, 0, Scalar::Stack(5)),
+    ] {
+        assert!(rt; is_kept(notes.get(place), frame, scalar));
+    }
+}
+
 fn records(rt: &impl Abort, alloc: Global, code: &Checked) -> Result<(), Fail> {
-    let Some(reply) = answer(alloc, code, b"{ frames kept 2 kept 1 kept 0 exit }")? else {
+    let Some(notes) = notes_of(alloc, code, b"{ frames kept 2 kept 1 kept 0 exit }")? else {
         return panic!(rt; "misuse");
     };
-    let notes = reply.notes.into_vec();
     assert_eq!(rt; notes.len(), 6);
-    assert!(rt; is_frame(notes.get(0), 0, 9, 3));
-    assert!(rt; is_frame(notes.get(1), 1, 8, 2));
-    assert!(rt; is_frame(notes.get(2), 2, 7, 1));
-    assert!(rt; is_kept(notes.get(3), 2, SEVEN));
-    assert!(rt; is_kept(notes.get(4), 1, Scalar::Null));
-    assert!(rt; is_kept(notes.get(5), 0, Scalar::Stack(5)));
+    show_frames(rt, notes.as_slice());
+    show_kept(rt, notes.as_slice());
     Ok(())
 }
 
@@ -180,10 +198,8 @@ fn are_watched(watches: &[Watch]) -> bool {
 }
 
 fn watches(rt: &impl Abort, alloc: Global, code: &Checked) -> Result<(), Fail> {
-    let Some(reply) = answer(alloc, code, b"{ watch 7 unwatch 8 stop }")? else {
-        return panic!(rt; "misuse");
-    };
-    assert!(rt; are_watched(reply.watches.as_slice()));
+    let reply = answer(alloc, code, b"{ watch 7 unwatch 8 stop }")?;
+    assert!(rt; matches!(&reply, Some(reply) if are_watched(reply.watches.as_slice())));
     Ok(())
 }
 
@@ -286,40 +302,48 @@ fn answers(
     Ok(())
 }
 
+fn answer_each(
+    rt: &impl Abort,
+    alloc: Global,
+    code: &Checked,
+    rows: &[(&[u8], Wanted)],
+) -> Result<(), Fail> {
+    for (text, wanted) in rows {
+        answers(rt, alloc, code, text, *wanted)?;
+    }
+    Ok(())
+}
+
 // A value of another type is no fault here.
 fn replies(rt: &impl Abort, alloc: Global, code: &Checked) -> Result<(), Fail> {
-    let cell = Scalar::Place { object: 0, at: 0 };
     let passed = Wanted::Passes(SEVEN, Scalar::Stack(5));
-    answers(rt, alloc, code, b"{ pass (@k kept 0 0) }", passed)?;
-    let named = Wanted::Passes(cell, Scalar::Func(0));
-    answers(rt, alloc, code, b"{ pass (@g @f) }", named)?;
-    answers(rt, alloc, code, b"{ throw kept 2 0 }", Wanted::Throws)?;
+    let named = Wanted::Passes(Scalar::Place { object: 0, at: 0 }, Scalar::Func(0));
     let passing = Wanted::Rebinds { throw: false };
-    answers(rt, alloc, code, b"{ rebind kept 0 0 pass (@k) }", passing)?;
     let throwing = Wanted::Rebinds { throw: true };
-    answers(rt, alloc, code, b"{ rebind kept 0 0 throw @k }", throwing)?;
-    answers(rt, alloc, code, b"{ exit }", Wanted::Exits)?;
-    answers(rt, alloc, code, b"{ stop }", Wanted::Stops)
+    let rows = [
+        (b"{ pass (@k kept 0 0) }".as_slice(), passed),
+        (b"{ pass (@g @f) }".as_slice(), named),
+        (b"{ throw kept 2 0 }".as_slice(), Wanted::Throws),
+        (b"{ rebind kept 0 0 pass (@k) }".as_slice(), passing),
+        (b"{ rebind kept 0 0 throw @k }".as_slice(), throwing),
+        (b"{ exit }".as_slice(), Wanted::Exits),
+        (b"{ stop }".as_slice(), Wanted::Stops),
+    ];
+    answer_each(rt, alloc, code, &rows)
 }
 
 fn misuses(rt: &impl Abort, alloc: Global, code: &Checked) -> Result<(), Fail> {
-    answers(rt, alloc, code, b"{ frames kept 3 exit }", Wanted::Misuse)?;
-    answers(
-        rt,
-        alloc,
-        code,
-        b"{ watch 7 pass (kept 3 0) }",
-        Wanted::Misuse,
-    )?;
-    answers(rt, alloc, code, b"{ throw kept 1 1 }", Wanted::Misuse)?;
-    answers(rt, alloc, code, b"{ rebind @k pass () }", Wanted::Misuse)?;
-    answers(
-        rt,
-        alloc,
-        code,
-        b"{ rebind kept 0 0 pass (kept 0 1) }",
-        Wanted::Misuse,
-    )
+    let rows = [
+        (b"{ frames kept 3 exit }".as_slice(), Wanted::Misuse),
+        (b"{ watch 7 pass (kept 3 0) }".as_slice(), Wanted::Misuse),
+        (b"{ throw kept 1 1 }".as_slice(), Wanted::Misuse),
+        (b"{ rebind @k pass () }".as_slice(), Wanted::Misuse),
+        (
+            b"{ rebind kept 0 0 pass (kept 0 1) }".as_slice(),
+            Wanted::Misuse,
+        ),
+    ];
+    answer_each(rt, alloc, code, &rows)
 }
 
 fn asks<C: Client>(
@@ -334,16 +358,26 @@ fn asks<C: Client>(
     Ok(())
 }
 
+// What a client answers, which goes on after each answer.
+fn asks_in_turn<C: Client>(
+    rt: &impl Abort,
+    alloc: Global,
+    code: &Checked,
+    client: &mut C,
+    wanted: &[Wanted],
+) -> Result<(), Fail> {
+    for each in wanted {
+        asks(rt, alloc, code, client, *each)?;
+        client.advance();
+    }
+    Ok(())
+}
+
 fn takes_entries_in_order(rt: &impl Abort, alloc: Global, code: &Checked) -> Result<(), Fail> {
     let mut script = read_script(alloc, b"{ exit } { throw kept 2 0 }", code)?;
     asks(rt, alloc, code, &script, Wanted::Exits)?;
-    asks(rt, alloc, code, &script, Wanted::Exits)?;
-    script.advance();
-    asks(rt, alloc, code, &script, Wanted::Throws)?;
-    script.advance();
-    asks(rt, alloc, code, &script, Wanted::Stops)?;
-    script.advance();
-    asks(rt, alloc, code, &script, Wanted::Stops)
+    let wanted = [Wanted::Exits, Wanted::Throws, Wanted::Stops, Wanted::Stops];
+    asks_in_turn(rt, alloc, code, &mut script, &wanted)
 }
 
 fn hooks(rt: &impl Abort, alloc: Global, code: &Checked) -> Result<(), Fail> {
@@ -352,43 +386,38 @@ fn hooks(rt: &impl Abort, alloc: Global, code: &Checked) -> Result<(), Fail> {
     asks(rt, alloc, code, &hook, Wanted::Zero)
 }
 
+// A client of runs over the text of a script, with zeros behind it or none.
+fn run_client(alloc: Global, code: &Checked, text: &[u8], auto: bool) -> Result<RunClient, Fail> {
+    let script = read_script(alloc, text, code)?;
+    Ok(RunClient::new(script, auto))
+}
+
 // Zero is passed after the last entry, however often.
 fn passes_after_a_script(rt: &impl Abort, alloc: Global, code: &Checked) -> Result<(), Fail> {
-    let script = read_script(alloc, b"{ throw kept 2 0 }", code)?;
-    let mut client = RunClient::new(script, true);
+    let mut client = run_client(alloc, code, b"{ throw kept 2 0 }", true)?;
     asks(rt, alloc, code, &client, Wanted::Throws)?;
-    asks(rt, alloc, code, &client, Wanted::Throws)?;
-    client.advance();
-    asks(rt, alloc, code, &client, Wanted::Zero)?;
-    client.advance();
-    asks(rt, alloc, code, &client, Wanted::Zero)
+    let wanted = [Wanted::Throws, Wanted::Zero, Wanted::Zero];
+    asks_in_turn(rt, alloc, code, &mut client, &wanted)
 }
 
 // The run is stopped after the last entry.
 fn stops_after_a_script(rt: &impl Abort, alloc: Global, code: &Checked) -> Result<(), Fail> {
-    let script = read_script(alloc, b"{ throw kept 2 0 }", code)?;
-    let mut client = RunClient::new(script, false);
-    asks(rt, alloc, code, &client, Wanted::Throws)?;
-    client.advance();
-    asks(rt, alloc, code, &client, Wanted::Stops)?;
-    client.advance();
-    asks(rt, alloc, code, &client, Wanted::Stops)
+    let mut client = run_client(alloc, code, b"{ throw kept 2 0 }", false)?;
+    let wanted = [Wanted::Throws, Wanted::Stops, Wanted::Stops];
+    asks_in_turn(rt, alloc, code, &mut client, &wanted)
 }
 
 // Zero is passed at once where there is no entry.
 fn passes_alone(rt: &impl Abort, alloc: Global, code: &Checked) -> Result<(), Fail> {
-    let script = read_script(alloc, b"", code)?;
-    let client = RunClient::new(script, true);
+    let client = run_client(alloc, code, b"", true)?;
     asks(rt, alloc, code, &client, Wanted::Zero)
 }
 
 // An entry that is misuse is so with a hook behind it too.
 fn misuses_before_the_hook(rt: &impl Abort, alloc: Global, code: &Checked) -> Result<(), Fail> {
-    let script = read_script(alloc, b"{ kept 3 exit }", code)?;
-    let mut client = RunClient::new(script, true);
-    asks(rt, alloc, code, &client, Wanted::Misuse)?;
-    client.advance();
-    asks(rt, alloc, code, &client, Wanted::Zero)
+    let mut client = run_client(alloc, code, b"{ kept 3 exit }", true)?;
+    let wanted = [Wanted::Misuse, Wanted::Zero];
+    asks_in_turn(rt, alloc, code, &mut client, &wanted)
 }
 
 fn clients_of_runs(rt: &impl Abort, alloc: Global, code: &Checked) -> Result<(), Fail> {

@@ -10,3 +10,4 @@ pub mod TypedCommons
 pub mod TypedExits
 pub mod TypedInstructions
 pub mod TypedEndings
+pub mod TypedGifts

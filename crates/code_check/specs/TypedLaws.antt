@@ -1,5 +1,5 @@
 -- Laws of demands on code: where they are met, the code is well typed.
-use Rattle.std.specs.Prelude.{◌≡◌, ℕ, ◌+◌, ◌<◌, Bool, true, false, List, [], ◌∷◌, ◌++◌, Option, Some, IsSomeAnd, slice_get, length}
+use Rattle.std.specs.Prelude.{◌≡◌, ℕ, ◌+◌, ◌<◌, Bool, true, false, List, [], ◌∷◌, ◌++◌, Option, Some, None, IsSomeAnd, slice_get, length}
 use Rattle.demands.specs.Demands.{AllMet}
 use Rattle.ir_lex.specs.declared.name.Name.{Name}
 use Rattle.ir_tree.specs.declared.operands.Operand.{Operand}
@@ -80,3 +80,7 @@ FitsAtItsPlace = (p : Tables) (blocks : Blocks) (returns ks : List ℕ) (is : Li
 -- behind one that does not end its block there is another one
 abbrev pub GoesOn : Type 0
 GoesOn = (is : List Code) (at : ℕ) (i : Code) → EndsAtLast is → slice_get is at ≡ Some i → code_ends i ≡ false → at + 1 < length is
+
+-- an instruction that ends its block, and is not told where it goes on with its results, gives nothing
+abbrev pub EndingsGiveNothing : Type 0
+EndingsGiveNothing = (p : Tables) (blocks : Blocks) (returns ks gs : List ℕ) (i : Code) → CodeFits p blocks returns ks i gs → code_ends i ≡ true → i.normal ≡ None → gs ≡ []

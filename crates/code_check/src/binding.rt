@@ -1,5 +1,5 @@
 // Variables that are added to those of the block so far.
-ghost use Rattle.std.specs.Prelude.{◌≡◌, length, OnOk};
+ghost use Rattle.std.specs.Prelude.{◌≡◌, length, OnOk, OnErr};
 ghost use Rattle.demands.specs.Demands.{IsMemory};
 ghost use Rattle.code_check.specs.Operands.{noted_list};
 ghost use Rattle.code_check.specs.Gifts.{listed};
@@ -11,9 +11,10 @@ use check_tables::{CheckFault, Tables};
 use ir_lex::Name;
 use std::alloc::Global;
 
-/// Adds a variable of this class.
+/// Adds a variable of this class. Where no memory is found the variables are as they were.
 pub fn bind(alloc: Global, locals: &mut Locals, name: &Name, class: u32) -> Result<(), CheckFault>
     ensures ok { OnOk result (locals.new ≡ bound locals.old name.now class) }
+    ensures stays { OnErr result (locals.new ≡ locals.old) }
     ensures err { IsMemory result }
 {
     let Ok(number) = u32::try_from(locals.classes.len()) else {
@@ -21,8 +22,13 @@ pub fn bind(alloc: Global, locals: &mut Locals, name: &Name, class: u32) -> Resu
     };
     locals.classes.push(class)?;
     let variable = Variable { number, class };
-    locals.names.define(alloc, name.text.as_slice(), variable)?;
-    Ok(())
+    match locals.names.define(alloc, name.text.as_slice(), variable) {
+        Ok(_) => Ok(()),
+        Err(_) => {
+            locals.classes.pop();
+            Err(CheckFault::Memory)
+        }
+    }
 }
 
 /// Adds results of these classes.

@@ -1,5 +1,5 @@
 // Laws of demands on code: each function is proved, and does nothing.
-ghost use Rattle.code_check.specs.TypedLaws.{OperandsFit, ArgumentsFit, DestinationsFit, NoLocalsFit, BoundFits, FormsFit, InstructionsFit, VariablesFit, ListsFit, BlocksFit, FitsAtItsPlace, GoesOn};
+ghost use Rattle.code_check.specs.TypedLaws.{OperandsFit, ArgumentsFit, DestinationsFit, NoLocalsFit, BoundFits, FormsFit, InstructionsFit, VariablesFit, ListsFit, BlocksFit, FitsAtItsPlace, GoesOn, EndingsGiveNothing};
 
 /// An operand that meets its demands has the class that is wanted.
 pub fn operands_fit()
@@ -59,4 +59,9 @@ pub fn fits_at_its_place()
 /// In well typed code, something stands behind each instruction that does not end its block.
 pub fn goes_on()
     ensures { GoesOn }
+{}
+
+/// In well typed code, an instruction that ends its block and has no normal destination gives nothing.
+pub fn endings_give_nothing()
+    ensures { EndingsGiveNothing }
 {}

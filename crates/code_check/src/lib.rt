@@ -26,8 +26,9 @@ pub use control::are_classes;
 pub use gifts::Gift;
 pub use instructions::insts;
 pub use laws::{
-    arguments_fit, blocks_fit, bound_fits, destinations_fit, fits_at_its_place, forms_fit, goes_on,
-    instructions_fit, lists_fit, no_locals_fit, operands_fit, variables_fit,
+    arguments_fit, blocks_fit, bound_fits, destinations_fit, endings_give_nothing,
+    fits_at_its_place, forms_fit, goes_on, instructions_fit, lists_fit, no_locals_fit,
+    operands_fit, variables_fit,
 };
 pub use operands::{demand, is_class, value_type};
 pub use scopes::{BlockEntry, Body, Locals, Variable};

@@ -45,7 +45,7 @@ fn made_spot(made: &Scope<Made>, name: &Name) -> Result<Spot, LoadFault>
 fn typed_spot(code: &Checked, name: &Name, global: u32) -> Result<Spot, LoadFault>
     ensures { result ≡ typed_spot name.now global (slice_get (code_of code.now).globals global) }
 {
-    if (global as usize) < code.globals() {
+    if global < code.globals() {
         Ok(Spot {
             object: global,
             at: 0,

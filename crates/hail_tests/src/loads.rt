@@ -35,7 +35,7 @@ fn heap_of(alloc: Global, code: &Checked, cells: u32) -> Result<Heap, AllocError
         if n > 100 {
             return Err(AllocError);
         }
-        let t = code.global_type(n as u32);
+        let t = code.global_type(n);
         if classes.leaves(t).len() > 100 || heap.objects() > 100 {
             return Err(AllocError);
         }

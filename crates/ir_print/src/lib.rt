@@ -19,6 +19,3 @@ mod words;
 
 pub use items::print_bundle;
 pub use laws::{items_read_back, reads_back};
-
-#[cfg(test)]
-mod tests;

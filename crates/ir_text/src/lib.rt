@@ -23,6 +23,3 @@ mod words;
 pub use fault::{TextFault, TextKind};
 pub use laws::{answer_is_one, body_is_as_written, bundle_is_as_written};
 pub use reading::read_bundle;
-
-#[cfg(test)]
-mod tests;

@@ -10,7 +10,6 @@ ghost use Rattle.mem_axioms.specs.Objects.{initial_of, HasCell};
 ghost use Rattle.mem_axioms.specs.EventFits.{EventFits, is_thread};
 ghost use Rattle.mem_axioms.specs.Races.{race};
 ghost use Rattle.mem_axioms.specs.Rooms.{HasRoom, one_less};
-ghost use Rattle.mem_axioms.specs.Scalars.{scalars_of};
 ghost use Rattle.mem_axioms.specs.declared.types.Event.{Event};
 ghost use Rattle.mem_axioms.specs.declared.types.Kind.TheVariants.{NewThread};
 ghost use Rattle.clock_laws.specs.Clocks.{views, knew, knows, pends};
@@ -35,7 +34,7 @@ use heap_cells::CellId;
 use mem_axioms::event_facts::{cell_of, is_same_scalar, seq_cst};
 use mem_axioms::{Chosen, Event, Kind, Memory, Race, Room, Rule, Wanted};
 use mu_base::{Order, Steps};
-use mu_values::{Scalar, Value};
+use mu_values::{Scalar, Slots, Value};
 use std::alloc::{AllocError, Global};
 use std::sync::ledger::Ledger;
 use write_history::Tape;
@@ -46,7 +45,8 @@ use write_history::Tape;
 pub struct ViewMemory {
     alloc: Global,
     rule: Rule,
-    objects: Vec<Value>,
+    // The initial scalars of all objects, in one row.
+    objects: Slots,
     // All events. No call reads them.
     tape: Tape,
     // The number of the next event.
@@ -62,7 +62,7 @@ pub struct ViewMemory {
     room: Room,
     ghost counted: { next ≡ length tape.events },
     ghost placed: { length places.owners.items ≡ length kept.items },
-    ghost log_holds: { LogHolds rule (scalars_of objects.items) tape.events },
+    ghost log_holds: { LogHolds rule objects.values tape.events },
     ghost made_holds: { MadeHolds made.items tape.events },
     ghost rows_hold: { RowsHold rule tape.events rows },
     ghost cells_hold: { CellsHold rule tape.events clocks places.objects.items kept.items },
@@ -109,7 +109,7 @@ impl ViewMemory {
         ViewMemory {
             alloc,
             rule,
-            objects: Vec::new(alloc),
+            objects: Slots::new(alloc),
             tape: Tape::new(alloc),
             next: 0,
             made: Vec::new(alloc),
@@ -147,7 +147,7 @@ impl ViewMemory {
 
     /// What happens before an event, with what it gains.
     fn known_before(&self, event: &Event, taken: &Option<Clock>) -> Clock
-        requires fits { EventFits self.now.rule (scalars_of self.now.objects.items) self.now.tape.events event.now }
+        requires fits { EventFits self.now.rule self.now.objects.values self.now.tape.events event.now }
         requires taken { (u : ℕ) → known_by taken.now u ≡ pends (views self.now.rule self.now.tape.events) event.now u }
         ensures { (u : ℕ) → slice_index result u ≡ knew (views self.now.rule self.now.tape.events) event.now u }
     {
@@ -158,7 +158,7 @@ impl ViewMemory {
 
     /// The least earlier event that races with one before which this is known.
     fn race_of<L: Ledger>(&self, event: &Event, known: &Clock, steps: &mut Steps<L>) -> Option<u32>
-        requires fits { EventFits self.now.rule (scalars_of self.now.objects.items) self.now.tape.events event.now }
+        requires fits { EventFits self.now.rule self.now.objects.values self.now.tape.events event.now }
         requires known { (u : ℕ) → slice_index known.now u ≡ knew (views self.now.rule self.now.tape.events) event.now u }
         ensures race { result ≡ race self.now.rule self.now.tape.events event.now }
         ensures cost { (d : ℕ) → length self.now.tape.events < 2 ^ d → steps.new ≤ steps.old + search_bound self.now.tape.events d }
@@ -181,7 +181,7 @@ impl ViewMemory {
         known: &Clock,
         steps: &mut Steps<L>,
     ) -> Option<u32>
-        requires fits { EventFits self.now.rule (scalars_of self.now.objects.items) self.now.tape.events event.now }
+        requires fits { EventFits self.now.rule self.now.objects.values self.now.tape.events event.now }
         requires access { accesses cell event.now ≡ true }
         requires holds { CellHolds self.now.tape.events cell kept.now }
         requires known { (u : ℕ) → slice_index known.now u ≡ knew (views self.now.rule self.now.tape.events) event.now u }
@@ -196,7 +196,7 @@ impl ViewMemory {
 
     /// Adds an event that races with no earlier one, with what it knows and what it took.
     fn add(&mut self, event: Event, clock: &Clock, taken: &Option<Clock>)
-        requires fits { EventFits self.old.rule (scalars_of self.old.objects.items) self.old.tape.events event }
+        requires fits { EventFits self.old.rule self.old.objects.values self.old.tape.events event }
         requires alone { race self.old.rule self.old.tape.events event ≡ None }
         requires room { HasRoom self.old.room event }
         requires count { length self.old.tape.events + 1 < 4294967295 }
@@ -204,7 +204,7 @@ impl ViewMemory {
         requires taken { (u : ℕ) → known_by taken.now u ≡ pends (views self.old.rule self.old.tape.events) event u }
         ensures log { self.new.tape.events ≡ event ∷ self.old.tape.events }
         ensures room { self.new.room ≡ one_less self.old.room }
-        ensures objects { self.new.objects.items ≡ self.old.objects.items }
+        ensures objects { self.new.objects ≡ self.old.objects }
         ensures rule { self.new.rule ≡ self.old.rule }
     {
         let given = given_by(&event, clock, self.rows.fenced.of(event.thread));
@@ -274,17 +274,17 @@ impl ViewMemory {
 
     /// The initial scalar of the cell.
     fn initial(&self, cell: CellId) -> Scalar
-        requires { HasCell (scalars_of self.now.objects.items) cell }
-        ensures { result ≡ initial_of (scalars_of self.now.objects.items) cell }
+        requires { HasCell self.now.objects.values cell }
+        ensures { result ≡ initial_of self.now.objects.values cell }
     {
-        self.objects[cell.object as usize].at(cell.at as usize)
+        self.objects.at(cell.object as usize)[cell.at as usize]
     }
 
     /// The value at a position of the cell.
     fn value<L: Ledger>(&self, cell: CellId, position: u32, steps: &mut Steps<L>) -> Scalar
-        requires cell { HasCell (scalars_of self.now.objects.items) cell }
+        requires cell { HasCell self.now.objects.values cell }
         requires position { position ≤ newest self.now.tape.events cell }
-        ensures value { result ≡ value_at (initial_of (scalars_of self.now.objects.items)) self.now.tape.events cell position }
+        ensures value { result ≡ value_at (initial_of self.now.objects.values) self.now.tape.events cell position }
         ensures cost { steps.new ≤ steps.old + 1 }
     {
         if position == 0 {
@@ -304,9 +304,9 @@ impl ViewMemory {
         position: u32,
         steps: &mut Steps<L>,
     ) -> bool
-        requires cell { HasCell (scalars_of self.now.objects.items) cell }
+        requires cell { HasCell self.now.objects.values cell }
         requires position { position ≤ newest self.now.tape.events cell }
-        ensures holds { result ≡ holds (initial_of (scalars_of self.now.objects.items)) self.now.tape.events cell scalar position }
+        ensures holds { result ≡ holds (initial_of self.now.objects.values) self.now.tape.events cell scalar position }
         ensures cost { steps.new ≤ steps.old + 1 }
     {
         is_same_scalar(self.value(cell, position, steps), scalar)
@@ -321,9 +321,9 @@ impl ViewMemory {
         position: u32,
         steps: &mut Steps<L>,
     ) -> bool
-        requires cell { HasCell (scalars_of self.now.objects.items) cell }
+        requires cell { HasCell self.now.objects.values cell }
         requires position { position ≤ newest self.now.tape.events cell }
-        ensures differs { result ≡ differs_from (initial_of (scalars_of self.now.objects.items)) self.now.tape.events cell floor scalar position }
+        ensures differs { result ≡ differs_from (initial_of self.now.objects.values) self.now.tape.events cell floor scalar position }
         ensures cost { steps.new ≤ steps.old + 1 }
     {
         floor <= position && !self.holds(cell, scalar, position, steps)
@@ -338,11 +338,11 @@ impl ViewMemory {
         scalar: Scalar,
         steps: &mut Steps<L>,
     ) -> u32
-        requires cell { HasCell (scalars_of self.now.objects.items) cell }
+        requires cell { HasCell self.now.objects.values cell }
         requires last { last ≡ newest self.now.tape.events cell }
         requires floor { floor ≤ last }
         requires few { last + 1 < 4294967295 }
-        ensures count { result ≡ length (below (differs_from (initial_of (scalars_of self.now.objects.items)) self.now.tape.events cell floor scalar) (last + 1)) }
+        ensures count { result ≡ length (below (differs_from (initial_of self.now.objects.values) self.now.tape.events cell floor scalar) (last + 1)) }
         ensures at_most { result ≤ last + 1 }
         ensures cost { steps.new + floor ≤ steps.old + (last + 1) }
     {
@@ -365,12 +365,12 @@ impl ViewMemory {
         n: u32,
         steps: &mut Steps<L>,
     ) -> u32
-        requires cell { HasCell (scalars_of self.now.objects.items) cell }
+        requires cell { HasCell self.now.objects.values cell }
         requires last { last ≡ newest self.now.tape.events cell }
         requires floor { floor ≤ last }
         requires few { last + 1 < 4294967295 }
-        requires n { n < length (below (differs_from (initial_of (scalars_of self.now.objects.items)) self.now.tape.events cell floor scalar) (last + 1)) }
-        ensures nth { slice_get (below (differs_from (initial_of (scalars_of self.now.objects.items)) self.now.tape.events cell floor scalar) (last + 1)) n ≡ Some result }
+        requires n { n < length (below (differs_from (initial_of self.now.objects.values) self.now.tape.events cell floor scalar) (last + 1)) }
+        ensures nth { slice_get (below (differs_from (initial_of self.now.objects.values) self.now.tape.events cell floor scalar) (last + 1)) n ≡ Some result }
         ensures at_most { result ≤ last }
         ensures cost { steps.new + floor ≤ steps.old + (last + 1) }
     {
@@ -395,11 +395,11 @@ impl ViewMemory {
         excluded: Option<Scalar>,
         steps: &mut Steps<L>,
     ) -> u32
-        requires cell { HasCell (scalars_of self.now.objects.items) cell }
+        requires cell { HasCell self.now.objects.values cell }
         requires count { length self.now.tape.events + 1 < 4294967295 }
-        ensures count { result ≡ length (reads self.now.rule (initial_of (scalars_of self.now.objects.items)) self.now.tape.events thread cell order excluded) }
+        ensures count { result ≡ length (reads self.now.rule (initial_of self.now.objects.values) self.now.tape.events thread cell order excluded) }
         ensures at_most { result ≤ length self.now.tape.events + 1 }
-        ensures cost { (d : ℕ) → length self.now.tape.events < 2 ^ d → steps.new ≤ steps.old + (floor_bound self.now.tape.events d + looks_bound self.now.rule (initial_of (scalars_of self.now.objects.items)) self.now.tape.events thread cell order excluded) }
+        ensures cost { (d : ℕ) → length self.now.tape.events < 2 ^ d → steps.new ≤ steps.old + (floor_bound self.now.tape.events d + looks_bound self.now.rule (initial_of self.now.objects.values) self.now.tape.events thread cell order excluded) }
     {
         let floor = self.floor(thread, cell, order, steps);
         let newest = self.newest(cell);
@@ -419,12 +419,12 @@ impl ViewMemory {
         n: u32,
         steps: &mut Steps<L>,
     ) -> u32
-        requires cell { HasCell (scalars_of self.now.objects.items) cell }
+        requires cell { HasCell self.now.objects.values cell }
         requires count { length self.now.tape.events + 1 < 4294967295 }
-        requires n { n < length (reads self.now.rule (initial_of (scalars_of self.now.objects.items)) self.now.tape.events thread cell order excluded) }
-        ensures nth { slice_get (reads self.now.rule (initial_of (scalars_of self.now.objects.items)) self.now.tape.events thread cell order excluded) n ≡ Some result }
+        requires n { n < length (reads self.now.rule (initial_of self.now.objects.values) self.now.tape.events thread cell order excluded) }
+        ensures nth { slice_get (reads self.now.rule (initial_of self.now.objects.values) self.now.tape.events thread cell order excluded) n ≡ Some result }
         ensures at_most { result ≤ newest self.now.tape.events cell }
-        ensures cost { (d : ℕ) → length self.now.tape.events < 2 ^ d → steps.new ≤ steps.old + (floor_bound self.now.tape.events d + looks_bound self.now.rule (initial_of (scalars_of self.now.objects.items)) self.now.tape.events thread cell order excluded) }
+        ensures cost { (d : ℕ) → length self.now.tape.events < 2 ^ d → steps.new ≤ steps.old + (floor_bound self.now.tape.events d + looks_bound self.now.rule (initial_of self.now.objects.values) self.now.tape.events thread cell order excluded) }
     {
         let newest = self.newest(cell);
         match excluded {
@@ -444,9 +444,9 @@ impl ViewMemory {
         position: u32,
         steps: &mut Steps<L>,
     ) -> Chosen
-        requires cell { HasCell (scalars_of self.now.objects.items) cell }
+        requires cell { HasCell self.now.objects.values cell }
         requires position { position ≤ newest self.now.tape.events cell }
-        ensures chosen { result ≡ chosen_at (initial_of (scalars_of self.now.objects.items)) self.now.tape.events cell success position }
+        ensures chosen { result ≡ chosen_at (initial_of self.now.objects.values) self.now.tape.events cell success position }
         ensures cost { steps.new ≤ steps.old + 1 }
     {
         Chosen {
@@ -466,11 +466,11 @@ impl ViewMemory {
         n: u32,
         steps: &mut Steps<L>,
     ) -> Chosen
-        requires cell { HasCell (scalars_of self.now.objects.items) cell }
+        requires cell { HasCell self.now.objects.values cell }
         requires count { length self.now.tape.events + 1 < 4294967295 }
-        requires n { n < length (reads self.now.rule (initial_of (scalars_of self.now.objects.items)) self.now.tape.events thread cell order excluded) }
-        ensures chosen { slice_get (map (chosen_at (initial_of (scalars_of self.now.objects.items)) self.now.tape.events cell false) (reads self.now.rule (initial_of (scalars_of self.now.objects.items)) self.now.tape.events thread cell order excluded)) n ≡ Some result }
-        ensures cost { (d : ℕ) → length self.now.tape.events < 2 ^ d → steps.new ≤ steps.old + (floor_bound self.now.tape.events d + looks_bound self.now.rule (initial_of (scalars_of self.now.objects.items)) self.now.tape.events thread cell order excluded + 1) }
+        requires n { n < length (reads self.now.rule (initial_of self.now.objects.values) self.now.tape.events thread cell order excluded) }
+        ensures chosen { slice_get (map (chosen_at (initial_of self.now.objects.values) self.now.tape.events cell false) (reads self.now.rule (initial_of self.now.objects.values) self.now.tape.events thread cell order excluded)) n ≡ Some result }
+        ensures cost { (d : ℕ) → length self.now.tape.events < 2 ^ d → steps.new ≤ steps.old + (floor_bound self.now.tape.events d + looks_bound self.now.rule (initial_of self.now.objects.values) self.now.tape.events thread cell order excluded + 1) }
     {
         let position = self.nth_read(thread, cell, order, excluded, n, steps);
         self.chosen(cell, false, position, steps)
@@ -478,8 +478,8 @@ impl ViewMemory {
 
     /// The newest position, as an option that updates the cell.
     fn update_chosen<L: Ledger>(&self, cell: CellId, steps: &mut Steps<L>) -> Chosen
-        requires { HasCell (scalars_of self.now.objects.items) cell }
-        ensures chosen { result ≡ chosen_at (initial_of (scalars_of self.now.objects.items)) self.now.tape.events cell true (newest self.now.tape.events cell) }
+        requires { HasCell self.now.objects.values cell }
+        ensures chosen { result ≡ chosen_at (initial_of self.now.objects.values) self.now.tape.events cell true (newest self.now.tape.events cell) }
         ensures cost { steps.new ≤ steps.old + 1 }
     {
         let newest = self.newest(cell);
@@ -488,8 +488,8 @@ impl ViewMemory {
 
     /// Whether a comparison may succeed: the newest position holds the expected scalar.
     fn may_succeed<L: Ledger>(&self, cell: CellId, expected: Scalar, steps: &mut Steps<L>) -> bool
-        requires { HasCell (scalars_of self.now.objects.items) cell }
-        ensures may { result ≡ holds (initial_of (scalars_of self.now.objects.items)) self.now.tape.events cell expected (newest self.now.tape.events cell) }
+        requires { HasCell self.now.objects.values cell }
+        ensures may { result ≡ holds (initial_of self.now.objects.values) self.now.tape.events cell expected (newest self.now.tape.events cell) }
         ensures cost { steps.new ≤ steps.old + 1 }
     {
         let newest = self.newest(cell);
@@ -507,15 +507,14 @@ fn excluded(weak: bool, expected: Scalar) -> Option<Scalar>
 impl Memory for ViewMemory {
     ghost log = { λ memory. memory.tape.events };
 
-    ghost objects = { λ memory. scalars_of memory.objects.items };
+    ghost objects = { λ memory. memory.objects.values };
 
     ghost rule = { λ memory. memory.rule };
 
     ghost room = { λ memory. memory.room };
 
     fn add_object(&mut self, initial: Value) -> Result<(), AllocError> {
-        self.objects.push(initial)?;
-        Ok(())
+        self.objects.push(initial)
     }
 
     fn reserve(
@@ -557,11 +556,11 @@ impl Memory for ViewMemory {
         steps: &mut Steps<L>,
     ) -> u32
         requires thread { is_thread self.now.tape.events thread ≡ true }
-        requires cell { HasCell (scalars_of self.now.objects.items) cell }
+        requires cell { HasCell self.now.objects.values cell }
         requires count { length self.now.tape.events + 1 < 4294967295 }
-        ensures count { result ≡ length (choices self.now.rule (initial_of (scalars_of self.now.objects.items)) self.now.tape.events thread cell wanted.now) }
+        ensures count { result ≡ length (choices self.now.rule (initial_of self.now.objects.values) self.now.tape.events thread cell wanted.now) }
         ensures some { 1 ≤ result }
-        ensures cost { (d : ℕ) → length self.now.tape.events < 2 ^ d → steps.new ≤ steps.old + (search_bound self.now.tape.events d + values_bound self.now.rule (initial_of (scalars_of self.now.objects.items)) self.now.tape.events thread cell wanted.now) }
+        ensures cost { (d : ℕ) → length self.now.tape.events < 2 ^ d → steps.new ≤ steps.old + (search_bound self.now.tape.events d + values_bound self.now.rule (initial_of self.now.objects.values) self.now.tape.events thread cell wanted.now) }
     {
         match *wanted {
             Wanted::Load { order } => self.count_reads(thread, cell, order, None, steps),
@@ -596,11 +595,11 @@ impl Memory for ViewMemory {
         steps: &mut Steps<L>,
     ) -> Chosen
         requires thread { is_thread self.now.tape.events thread ≡ true }
-        requires cell { HasCell (scalars_of self.now.objects.items) cell }
+        requires cell { HasCell self.now.objects.values cell }
         requires count { length self.now.tape.events + 1 < 4294967295 }
-        requires n { n < length (choices self.now.rule (initial_of (scalars_of self.now.objects.items)) self.now.tape.events thread cell wanted.now) }
-        ensures chosen { slice_get (choices self.now.rule (initial_of (scalars_of self.now.objects.items)) self.now.tape.events thread cell wanted.now) n ≡ Some result }
-        ensures cost { (d : ℕ) → length self.now.tape.events < 2 ^ d → steps.new ≤ steps.old + (search_bound self.now.tape.events d + values_bound self.now.rule (initial_of (scalars_of self.now.objects.items)) self.now.tape.events thread cell wanted.now) }
+        requires n { n < length (choices self.now.rule (initial_of self.now.objects.values) self.now.tape.events thread cell wanted.now) }
+        ensures chosen { slice_get (choices self.now.rule (initial_of self.now.objects.values) self.now.tape.events thread cell wanted.now) n ≡ Some result }
+        ensures cost { (d : ℕ) → length self.now.tape.events < 2 ^ d → steps.new ≤ steps.old + (search_bound self.now.tape.events d + values_bound self.now.rule (initial_of self.now.objects.values) self.now.tape.events thread cell wanted.now) }
     {
         match *wanted {
             Wanted::Load { order } => self.read_chosen(thread, cell, order, None, n, steps),
@@ -637,7 +636,7 @@ impl Memory for ViewMemory {
     }
 
     fn commit<L: Ledger>(&mut self, event: Event, steps: &mut Steps<L>) -> Option<Race>
-        requires fits { EventFits self.old.rule (scalars_of self.old.objects.items) self.old.tape.events event }
+        requires fits { EventFits self.old.rule self.old.objects.values self.old.tape.events event }
         requires room { HasRoom self.old.room event }
         requires count { length self.old.tape.events + 1 < 4294967295 }
         ensures race { MatchOption result (race self.old.rule self.old.tape.events event ≡ None) (λ found. race self.old.rule self.old.tape.events event ≡ Some found.earlier) }
@@ -645,7 +644,7 @@ impl Memory for ViewMemory {
         ensures room { IsNone result → self.new.room ≡ one_less self.old.room }
         ensures raced { IsSome result → self.new.tape.events ≡ self.old.tape.events }
         ensures raced_room { IsSome result → self.new.room ≡ self.old.room }
-        ensures same_objects { scalars_of self.new.objects.items ≡ scalars_of self.old.objects.items }
+        ensures same_objects { self.new.objects.values ≡ self.old.objects.values }
         ensures same_rule { self.new.rule ≡ self.old.rule }
         ensures cost { (d : ℕ) → length self.old.tape.events < 2 ^ d → steps.new ≤ steps.old + search_bound self.old.tape.events d }
     {

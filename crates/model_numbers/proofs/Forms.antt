@@ -46,11 +46,11 @@ use Rattle.mu_model.specs.ObjectForms.{newhybrid_act, getiref_act, find_by_act, 
 use Rattle.mu_model.specs.AccessForms.{update_op, load_act, store_act, atomicrmw_act, memory_act}
 use Rattle.mu_model.specs.TrappingForms.{watchpoint_act, wpbranch_act, trapping_act}
 use Rattle.mu_model.specs.StackForms.{swap_returning_act, swap_killing_act, new_stack_act, futex_wait_act, futex_wake_act, switch_stack_act, common_act}
-use Rattle.mu_model.specs.Programs.{act_named, optional_goal, variable_classes, does_named}
+use Rattle.mu_model.specs.Programs.{act_named, optional_goal, does_named}
 use Rattle.model_numbers.specs.Sources.{values_at, classes_at}
 use Rattle.model_numbers.specs.Forms.{computation_at, control_at, allocation_at, addressing_at, access_at, trapping_at, switch_at, common_at, act_at}
 use Rattle.model_numbers.specs.Numbered.{optional_goal_at, does_at}
-use Rattle.model_numbers.proofs.Operands.{body, ScopeFits, value_same, int64_same, typed_same, option_same, values_same, classes_same, cases_same, normal_same, optional_goal_same, optional_normal_same, kept_same, entering_same}
+use Rattle.model_numbers.proofs.Operands.{body, variable_classes, ScopeFits, value_same, int64_same, typed_same, option_same, values_same, classes_same, cases_same, normal_same, optional_goal_same, optional_normal_same, kept_same, entering_same}
 
 computation_same : (s : Scope) (ls : Locals) (vars : List Value) → ScopeFits s ls → (c : Computation) → AllMet (computation_demands (tables_in s) ls c) →
     computation_act s vars c ≡ computation_at s.bundle vars (computation_code (tables_in s) ls c)

@@ -18,15 +18,10 @@ use Rattle.bundle_check.specs.declared.code.Function.{Function}
 use Rattle.bundle_check.specs.Functions.{first_blocks, first_of, function_named, functions_behind, functions_from}
 use Rattle.bundle_check.specs.Checking.{bundle_tables, bundle_functions}
 use Rattle.typed_heap.specs.Places.{with_some}
-use Rattle.mu_model.specs.Programs.{definition_from, named}
-use Rattle.model_numbers.specs.Numbered.{numbered}
-use Rattle.model_numbers.proofs.Names.{some_is, found_added, or_assoc, or_none}
+use Rattle.model_numbers.specs.Laws.{definition_from}
+use Rattle.model_numbers.proofs.Names.{some_is, found_added, stays, or_assoc, or_none}
 
 -- ---- one more name
-
--- what a name stands for goes on to stand
-stays : {T : Type 0} (es : Names T) (n name : List ℕ) (x v : T) → found es name ≡ Some v → found (added es n x) name ≡ Some v
-stays es n name x v h = found_added es n name x ∙ ap (λ o. or_else o (if bytes_eq name n then Some x else None)) h
 
 -- what is found stood there before, or is what was added
 record IsAdded {T : Type 0} (es : Names T) (n name : List ℕ) (x v : T) : Type 0 where
@@ -282,8 +277,9 @@ both_there : (bundle : List Item) (n : ℕ) → is_some (slice_get (bundle_table
 unfolding tables_of
 both_there bundle n = as_many (bundle_tables bundle) (defined_signatures (globals_of bundle) bundle) (first_blocks 0 bundle) 0 0 bundle n
 
-pub body_same : (bundle : List Item) (n : ℕ) → (named bundle).body n ≡ (numbered bundle).body n
-body_same bundle n = by (slice_get (bundle_tables bundle).functions n) (slice_get (bundle_functions bundle) n) (both_there bundle n) (λ f e. first_same bundle n f e)
+pub definition_same : (bundle : List Item) (n : ℕ) →
+    with_some (slice_get (bundle_tables bundle).functions n) (λ g. Some (definition_from (globals_of bundle) n 0 bundle)) ≡ with_some (slice_get (bundle_functions bundle) n) (λ f. Some f.first)
+definition_same bundle n = by (slice_get (bundle_tables bundle).functions n) (slice_get (bundle_functions bundle) n) (both_there bundle n) (λ f e. first_same bundle n f e)
   where
     by : (s : Option ℕ) (o : Option Function) → is_some s ≡ is_some o → ((f : Function) → o ≡ Some f → definition_from (globals_of bundle) n 0 bundle ≡ f.first) →
         with_some s (λ g. Some (definition_from (globals_of bundle) n 0 bundle)) ≡ with_some o (λ f. Some f.first)

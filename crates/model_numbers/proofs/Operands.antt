@@ -1,5 +1,5 @@
 -- Operands, lists of arguments and destinations that meet their demands have the same values by name and by number.
-use Rattle.std.proofs.Common.{◌≡◌, ℕ, true, List, [], ◌∷◌, Option, Some, None, map, length, slice_get, is_some, option_map, zip, refl, sym, ap, ap₂, arith}
+use Rattle.std.proofs.Common.{◌≡◌, ℕ, true, List, [], ◌∷◌, Option, Some, None, map, length, slice_get, is_some, option_map, refl, sym, ◌∙◌, ap, ap₂, arith}
 use Rattle.demands.specs.Demands.{AllMet}
 use Rattle.demands.specs.Names.{found}
 use Rattle.ir_lex.specs.declared.name.Name.{Name}
@@ -22,7 +22,7 @@ use Rattle.code_check.specs.declared.scopes.Locals.{Locals}
 use Rattle.code_check.specs.declared.code.Source.{Source}
 use Rattle.code_check.specs.declared.code.Source.TheVariants as sources
 use Rattle.code_check.specs.declared.scopes.Body.{Body}
-use Rattle.code_check.specs.Operands.{is_there, operand_class, operand_demands, int64_demands, of_type, is_class, member_demands, argument_demands, variable_demands, noted_list, variable_number, global_source, source_of, sources_of, numbers_in}
+use Rattle.code_check.specs.Operands.{is_there, variable_class, operand_class, operand_demands, int64_demands, of_type, is_class, member_demands, argument_demands, variable_demands, noted_list, variable_number, global_source, source_of, sources_of, numbers_in}
 use Rattle.code_check.specs.Destinations.{entry_takes, block_number, exceptional_demands, normal_demands, optional_normal_demands, optional_exceptional_demands, target_of, optional_target, keepalive_demands, keepalive_numbers, entered_demands, entered_code}
 use Rattle.code_check.specs.Destinations.{block_named as entry_named}
 use Rattle.code_check.specs.Stacks.{threadlocal_demands, optional_source}
@@ -35,34 +35,44 @@ use Rattle.code_check.proofs.TypedTables.{cell_is_no_int, function_is_no_int}
 use Rattle.code_check.proofs.TypedOperands.{nat_eq_is, noted, same_class, arguments_fit}
 use Rattle.bundle_tables.specs.Entries.{tables_of}
 use Rattle.bundle_check.specs.Functions.{body_of}
+use Rattle.typed_heap.specs.Places.{with_some}
 use Rattle.frames.specs.Activations.{Value}
-use Rattle.mu_model.specs.Operands.{Scope, tables_in, variables, target_block, global_value, value_named, values_named, goal_to, goal_named, all_some}
+use Rattle.mu_model.specs.Operands.{Scope, tables_in, variables, local_value, target_block, global_value, value_named, values_named, goal_to, goal_named, all_some}
 use Rattle.mu_model.specs.ControlForms.{arm_named}
 use Rattle.mu_model.specs.StackForms.{pass_values, throw_exc, entering_named}
-use Rattle.mu_model.specs.Programs.{some_goal, optional_goal, variable_classes, typed_values, kept_named}
+use Rattle.mu_model.specs.Programs.{some_goal, optional_goal, kept_class, typed_values, kept_named}
 use Rattle.model_numbers.specs.Sources.{value_at, values_at, class_at, classes_at, goal_at, entering_at}
 use Rattle.model_numbers.specs.Forms.{arm_at}
 use Rattle.model_numbers.specs.Numbered.{optional_goal_at, kept_at}
-use Rattle.model_numbers.proofs.Names.{place, found_at_place, block_numbers}
 
 -- what the instructions of a block's function may use
 abbrev pub body : Scope → Body
 body s = body_of (tables_in s) s.first s.function
 
--- what the checker knows of the variables so far is so of the block's variables: the number of each is the place of its name, and its
--- class stands there
+-- the classes of the block's variables
+abbrev pub variable_classes : Scope → List ℕ
+variable_classes s = (variables s).classes
+
+-- what the checker knows of the variables so far is so of the block's variables: what each name stands for, and the class that stands
+-- at each number
 pub record ScopeFits (s : Scope) (ls : Locals) : Type 0 where
-  pub each : (name : List ℕ) (v : Variable) → found ls.names name ≡ Some v → place (variables s.block) name ≡ Some v.number
+  pub each : (name : List ℕ) (v : Variable) → found ls.names name ≡ Some v → found (variables s).names name ≡ Some v
   pub fits : LocalsFit ls
   pub more : (n c : ℕ) → slice_get ls.classes n ≡ Some c → slice_get (variable_classes s) n ≡ Some c
 
 -- ---- operands
 
--- what stands beside the name of a variable
-variable_same : {A : Type 0} (s : Scope) (ls : Locals) (xs : List A) (name : List ℕ) (o : Option Variable) → ScopeFits s ls → found ls.names name ≡ o → is_some o ≡ true →
-    found (zip (variables s.block) xs) name ≡ slice_get xs (variable_number o)
-variable_same s ls xs name None fits e h = cc
-variable_same s ls xs name (Some v) fits e h = found_at_place (variables s.block) xs name v.number (fits.each name v e)
+-- the value of a variable
+variable_same : (s : Scope) (ls : Locals) (vars : List Value) (n : Name) (o : Option Variable) → ScopeFits s ls → found ls.names n.text ≡ o → is_some o ≡ true →
+    local_value s vars n ≡ slice_get vars (variable_number o)
+variable_same s ls vars n None fits e h = cc
+variable_same s ls vars n (Some v) fits e h = ap (λ (o : Option Variable). with_some o (λ (v : Variable). slice_get vars v.number)) (fits.each n.text v e)
+
+-- its class
+kept_class_same : (s : Scope) (ls : Locals) (n : Name) (o : Option Variable) → ScopeFits s ls → found ls.names n.text ≡ o → is_some o ≡ true →
+    kept_class s n ≡ slice_get (variable_classes s) (variable_number o)
+kept_class_same s ls n None fits e h = cc
+kept_class_same s ls n (Some v) fits e h = ap variable_class (fits.each n.text v e) ∙ sym (fits.more v.number v.class (fits.fits.each n.text v e))
 
 global_same : (p : Tables) (bundle : List Item) (vars : List Value) (o : Option Sort) → is_some (global_class p o) ≡ true → global_value bundle o ≡ value_at bundle vars (global_source o)
 global_same p bundle vars None h = cc
@@ -76,7 +86,7 @@ global_same p bundle vars (Some (sorts.Function n)) h = refl
 operand_same : (s : Scope) (ls : Locals) (vars : List Value) → ScopeFits s ls → (o : Operand) → is_there ls o ≡ true → is_some (operand_class (tables_in s) ls o) ≡ true →
     value_named s vars o ≡ value_at s.bundle vars (source_of (tables_in s) ls o)
 unfolding tables_of
-operand_same s ls vars fits (Local n) there class = variable_same s ls vars n.text (found ls.names n.text) fits refl there
+operand_same s ls vars fits (Local n) there class = variable_same s ls vars n (found ls.names n.text) fits refl there
 operand_same s ls vars fits (Global n) there class = global_same (tables_in s) s.bundle vars (found (tables_in s).globals.names n.text) class
 
 is_wanted : (o wanted : Option ℕ) → is_class o wanted ≡ true → is_some o ≡ true
@@ -152,7 +162,7 @@ number_is (Some b) n e h = sym e
 
 block_same : (s : Scope) (n : Name) → is_some (entry_takes (entry_named (body s) n)) ≡ true → target_block s n ≡ Some (block_number (entry_named (body s) n))
 unfolding body_of
-block_same s n h = number_is (entry_named (body s) n) (target_block s n) (block_numbers (tables_in s) [] s.first s.function.blocks n.text) h
+block_same s n h = number_is (entry_named (body s) n) (target_block s n) refl h
 
 -- where an exception goes
 pub goal_same : (s : Scope) (ls : Locals) (vars : List Value) → ScopeFits s ls → (d : Destination) → AllMet (exceptional_demands (tables_in s) (body s) ls d) →
@@ -178,17 +188,23 @@ optional_normal_same s ls vars fits (Some d) m = ap some_goal (normal_same s ls 
 
 -- ---- what is kept, and what a stack is entered with
 
-kept_values_same : {A : Type 0} (s : Scope) (ls : Locals) (xs : List A) → ScopeFits s ls → (ns : List Name) → AllMet (variable_demands ls ns) →
-    map (λ (n : Name). found (zip (variables s.block) xs) n.text) ns ≡ map (slice_get xs) (numbers_in ls ns)
-kept_values_same s ls xs fits [] m = refl
-kept_values_same s ls xs fits (n ∷ ns) m =
-    ap₂ (λ x xs. x ∷ xs) (variable_same s ls xs n.text (found ls.names n.text) fits refl m.0) (kept_values_same s ls xs fits ns m.1)
+kept_values_same : (s : Scope) (ls : Locals) (vars : List Value) → ScopeFits s ls → (ns : List Name) → AllMet (variable_demands ls ns) →
+    map (local_value s vars) ns ≡ map (slice_get vars) (numbers_in ls ns)
+kept_values_same s ls vars fits [] m = refl
+kept_values_same s ls vars fits (n ∷ ns) m =
+    ap₂ (λ x xs. x ∷ xs) (variable_same s ls vars n (found ls.names n.text) fits refl m.0) (kept_values_same s ls vars fits ns m.1)
+
+kept_classes_same : (s : Scope) (ls : Locals) → ScopeFits s ls → (ns : List Name) → AllMet (variable_demands ls ns) →
+    map (kept_class s) ns ≡ map (slice_get (variable_classes s)) (numbers_in ls ns)
+kept_classes_same s ls fits [] m = refl
+kept_classes_same s ls fits (n ∷ ns) m =
+    ap₂ (λ x xs. x ∷ xs) (kept_class_same s ls n (found ls.names n.text) fits refl m.0) (kept_classes_same s ls fits ns m.1)
 
 pub kept_same : (s : Scope) (ls : Locals) (vars : List Value) → ScopeFits s ls → (ns : Option (List Name)) → AllMet (keepalive_demands ls ns) →
     kept_named s vars ns ≡ kept_at (variable_classes s) vars (keepalive_numbers ls ns)
 kept_same s ls vars fits None m = refl
 kept_same s ls vars fits (Some ns) m =
-    ap₂ (λ cs vs. typed_values (all_some cs) (all_some vs)) (kept_values_same s ls (variable_classes s) fits ns m) (kept_values_same s ls vars fits ns m)
+    ap₂ (λ cs vs. typed_values (all_some cs) (all_some vs)) (kept_classes_same s ls fits ns m) (kept_values_same s ls vars fits ns m)
 
 pub entering_same : (s : Scope) (ls : Locals) (vars : List Value) → ScopeFits s ls → (n : NewStackClause) → AllMet (entered_demands (tables_in s) ls n) →
     entering_named s vars n ≡ entering_at s.bundle vars (entered_code (tables_in s) ls n)

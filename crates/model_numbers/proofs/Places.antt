@@ -1,99 +1,57 @@
 -- The instructions of an accepted bundle and their code, place by place.
-use Rattle.std.proofs.Common.{◌≡◌, ℕ, zero, suc, ◌+◌, Bool, false, List, [], ◌∷◌, ◌++◌, Option, Some, None, map, length, slice_get, is_some, option_map, refl, sym, ◌∙◌, ap, subst, append_assoc, append-nil}
+use Rattle.std.proofs.Common.{◌≡◌, ℕ, zero, suc, ◌+◌, Bool, false, List, [], ◌∷◌, ◌++◌, Option, Some, None, map, length, slice_get, is_some, refl, ◌∙◌, ap, subst}
 use Rattle.demands.specs.Demands.{AllMet, first_unmet}
+use Rattle.demands.specs.Names.{found}
 use Rattle.demands.proofs.Meeting.{all_met}
 use Rattle.ir_lex.specs.declared.name.Name.{Name}
 use Rattle.ir_tree.specs.declared.code.Inst.{Inst}
-use Rattle.ir_tree.specs.declared.code.Parameter.{Parameter}
 use Rattle.ir_tree.specs.declared.code.Block.{Block}
 use Rattle.ir_tree.specs.declared.code.BlockHead.{BlockHead}
 use Rattle.ir_tree.specs.declared.items.Funcdef.{Funcdef}
 use Rattle.ir_tree.specs.declared.items.Item.{Item}
 use Rattle.ir_tree.specs.declared.items.Item.TheVariants as items
 use Rattle.bundle_names.specs.Naming.{name_demands}
-use Rattle.check_tables.specs.declared.tables.Tables.{Tables}
-use Rattle.check_tables.specs.Types.{ref_void}
-use Rattle.check_tables.specs.Lookups.{noted_class}
 use Rattle.code_check.specs.declared.code.Code.{Code}
-use Rattle.code_check.specs.declared.scopes.Variable.{Variable}
 use Rattle.code_check.specs.declared.scopes.Locals.{Locals}
-use Rattle.code_check.specs.Instructions.{no_locals, bound, after, gives, inst_demands, insts_demands, insts_code, is_ending, normal_of}
-use Rattle.code_check.specs.Typed.{LocalsFit, TablesFit, joined}
-use Rattle.code_check.specs.TypedLaws.{all_gives}
-use Rattle.code_check.proofs.TypedOperands.{nat_eq_is}
-use Rattle.code_check.proofs.TypedVariables.{get_more, results_fit, results_classes}
-use Rattle.code_check.proofs.TypedInstructions.{all_classes}
+use Rattle.code_check.specs.Instructions.{after, after_all, gives, insts_demands, insts_code, is_ending, normal_of}
+use Rattle.code_check.specs.Typed.{LocalsFit, TablesFit}
+use Rattle.code_check.proofs.TypedVariables.{results_fit}
 use Rattle.bundle_check.specs.declared.code.BlockCode.{BlockCode}
-use Rattle.bundle_check.specs.Blocks.{bound_parameters, bound_handler, head_locals, handler_number, block_demands, blocks_demands, block_code, blocks_code}
+use Rattle.bundle_check.specs.Blocks.{head_locals, handler_number, block_demands, blocks_demands, block_code, blocks_code}
 use Rattle.bundle_check.specs.Functions.{body_of, functions_demands, all_blocks}
 use Rattle.bundle_check.specs.Checking.{bundle_tables, bundle_blocks, check_demands}
-use Rattle.bundle_laws.proofs.Heads.{head_fits, head_has}
+use Rattle.bundle_laws.proofs.Heads.{head_fits}
 use Rattle.bundle_laws.proofs.Tables.{tables_fit}
 use Rattle.typed_heap.specs.Places.{with_some}
 use Rattle.frames.specs.Activations.{Value}
-use Rattle.mu_model.specs.Operands.{Scope, tables_in, handler_texts, result_texts, variables}
-use Rattle.mu_model.specs.Programs.{optional_goal, variable_classes, does_named, scopes_in, scopes_from, scopes_of, named}
+use Rattle.mu_model.specs.Operands.{Scope, tables_in, variables}
+use Rattle.mu_model.specs.Programs.{optional_goal, does_named, scopes_in, scopes_from, scopes_of, named}
 use Rattle.model_numbers.specs.Numbered.{optional_goal_at, does_at, numbered}
-use Rattle.model_numbers.proofs.Names.{place, place_more, LocalsNamed, no_locals_named, bound_named, results_named}
-use Rattle.model_numbers.proofs.Operands.{body, ScopeFits}
+use Rattle.model_numbers.proofs.Names.{Stay, all_stay}
+use Rattle.model_numbers.proofs.Operands.{body, variable_classes, ScopeFits}
 use Rattle.model_numbers.proofs.Forms.{does_same, goes_on_same}
 
 -- ---- the variables so far are the first of the block's
 
--- their names, and their classes
-record IsKnown (s : Scope) (own rest : List (List ℕ)) (later : List ℕ) (ls : Locals) : Type 0 where
-  whole : variables s.block ≡ own ++ rest
-  names : LocalsNamed own ls
-  types : variable_classes s ≡ ls.classes ++ later
+-- those behind the instructions that are left are all
+record IsKnown (s : Scope) (ls : Locals) (left : List Inst) : Type 0 where
+  whole : after_all (tables_in s) ls left ≡ variables s
   fits : LocalsFit ls
 
-known : (s : Scope) (own rest : List (List ℕ)) (later : List ℕ) (ls : Locals) → IsKnown s own rest later ls → ScopeFits s ls
-known s own rest later ls k = record {
-  each = λ name v e.
-      ap (λ (ns : List (List ℕ)). place ns name) k.whole ∙ place_more own rest name v.number (sym (k.names.each name) ∙ ap (option_map (λ (v : Variable). v.number)) e);
-  fits = k.fits;
-  more = λ n c e. ap (λ (cs : List ℕ). slice_get cs n) k.types ∙ get_more ls.classes later n c e;
-}
-
--- ---- heads
-
-abbrev texts : List Name → List (List ℕ)
-texts ns = map (λ (n : Name). n.text) ns
-
-abbrev parameter_texts : List Parameter → List (List ℕ)
-parameter_texts qs = map (λ (q : Parameter). q.name.text) qs
-
-parameters_named : (p : Tables) (own : List (List ℕ)) (ls : Locals) (qs : List Parameter) → LocalsNamed own ls → LocalsNamed (own ++ parameter_texts qs) (bound_parameters p ls qs)
-parameters_named p own ls [] names = subst (λ (xs : List (List ℕ)). LocalsNamed xs ls) (sym (append-nil own)) names
-parameters_named p own ls (q ∷ qs) names =
-    subst (λ (xs : List (List ℕ)). LocalsNamed xs (bound_parameters p (bound ls q.name (noted_class p q.of_type)) qs)) (append_assoc own (q.name.text ∷ []) (parameter_texts qs))
-    (parameters_named p (own ++ q.name.text ∷ []) (bound ls q.name (noted_class p q.of_type)) qs (bound_named own ls q.name (noted_class p q.of_type) names))
-
-handler_named : (p : Tables) (own : List (List ℕ)) (ls : Locals) (n : Option Name) → LocalsNamed own ls → LocalsNamed (own ++ handler_texts n) (bound_handler p ls n)
-handler_named p own ls None names = subst (λ (xs : List (List ℕ)). LocalsNamed xs ls) (sym (append-nil own)) names
-handler_named p own ls (Some n) names = bound_named own ls n (ref_void p.types) names
-
-heads_named : (p : Tables) (h : BlockHead) → LocalsNamed (parameter_texts h.parameters ++ handler_texts h.handler) (head_locals p h)
-heads_named p h = handler_named p (parameter_texts h.parameters) (bound_parameters p no_locals h.parameters) h.handler (parameters_named p [] no_locals h.parameters no_locals_named)
+known : (s : Scope) (ls : Locals) (left : List Inst) → IsKnown s ls left → ScopeFits s ls
+known s ls left k =
+    let stay : Stay ls (after_all (tables_in s) ls left) = all_stay (tables_in s) ls left in
+    record {
+      each = λ name v e. subst (λ (l : Locals). found l.names name ≡ Some v) k.whole (stay.names name v e);
+      fits = k.fits;
+      more = λ n c e. subst (λ (l : Locals). slice_get l.classes n ≡ Some c) k.whole (stay.classes n c e);
+    }
 
 -- ---- instructions
 
 -- one instruction further
-next_known : (s : Scope) (own : List (List ℕ)) (ls : Locals) (ended : Bool) (i : Inst) (is : List Inst) → AllMet (inst_demands (tables_in s) (body s) ls ended i) →
-    IsKnown s own (result_texts (i ∷ is)) (joined (all_gives (tables_in s) (i ∷ is))) ls →
-    IsKnown s (own ++ texts i.results) (result_texts is) (joined (all_gives (tables_in s) is)) (after (tables_in s) ls i)
-unfolding inst_demands
-next_known s own ls ended i is m k =
-    let many : length i.results ≡ length (gives (tables_in s) i.op) = nat_eq_is (length i.results) (length (gives (tables_in s) i.op)) m.1.0 in
-    record {
-      whole = k.whole ∙ sym (append_assoc own (texts i.results) (result_texts is));
-      names = results_named own ls i.results (gives (tables_in s) i.op) many k.names;
-      types =
-          k.types
-          ∙ sym (append_assoc ls.classes (gives (tables_in s) i.op) (joined (all_gives (tables_in s) is)))
-          ∙ ap (λ (cs : List ℕ). cs ++ joined (all_gives (tables_in s) is)) (sym (results_classes ls i.results (gives (tables_in s) i.op) many));
-      fits = results_fit ls i.results (gives (tables_in s) i.op) k.fits;
-    }
+next_known : (s : Scope) (ls : Locals) (i : Inst) (is : List Inst) → IsKnown s ls (i ∷ is) → IsKnown s (after (tables_in s) ls i) is
+next_known s ls i is k = record { whole = k.whole; fits = results_fit ls i.results (gives (tables_in s) i.op) k.fits }
 
 -- what both say of an instruction, where there is one
 abbrev Both : List Item → Scope → List Value → Option Inst → Option Code → Type 0
@@ -101,17 +59,15 @@ Both bundle s vars i c =
     (with_some i (λ x. Some (does_named s vars x)) ≡ with_some c (λ x. Some (does_at bundle (variable_classes s) vars x)))
     × (with_some i (λ x. optional_goal s vars (normal_of x.op)) ≡ with_some c (λ x. optional_goal_at bundle vars x.normal))
 
-insts_same : (s : Scope) (vars : List Value) (own : List (List ℕ)) (ls : Locals) (ended : Bool) (is : List Inst) (at : ℕ) → TablesFit (tables_in s) →
-    IsKnown s own (result_texts is) (joined (all_gives (tables_in s) is)) ls → AllMet (insts_demands (tables_in s) (body s) ls ended is) →
+insts_same : (s : Scope) (vars : List Value) (ls : Locals) (ended : Bool) (is : List Inst) (at : ℕ) → TablesFit (tables_in s) →
+    IsKnown s ls is → AllMet (insts_demands (tables_in s) (body s) ls ended is) →
     Both s.bundle s vars (slice_get is at) (slice_get (insts_code (tables_in s) (body s) ls is) at)
-insts_same s vars own ls ended [] at fit k m = (refl, refl)
-insts_same s vars own ls ended (i ∷ is) zero fit k m = (
-  ap (λ x. Some x) (does_same s ls ended i fit (known s own (result_texts (i ∷ is)) (joined (all_gives (tables_in s) (i ∷ is))) ls k) m.0 vars),
-  goes_on_same s ls ended i
-      (known s (own ++ texts i.results) (result_texts is) (joined (all_gives (tables_in s) is)) (after (tables_in s) ls i) (next_known s own ls ended i is m.0 k)) m.0 vars,
+insts_same s vars ls ended [] at fit k m = (refl, refl)
+insts_same s vars ls ended (i ∷ is) zero fit k m = (
+  ap (λ x. Some x) (does_same s ls ended i fit (known s ls (i ∷ is) k) m.0 vars),
+  goes_on_same s ls ended i (known s (after (tables_in s) ls i) is (next_known s ls i is k)) m.0 vars,
 )
-insts_same s vars own ls ended (i ∷ is) (suc at) fit k m =
-    insts_same s vars (own ++ texts i.results) (after (tables_in s) ls i) (is_ending i.op) is at fit (next_known s own ls ended i is m.0 k) m.1
+insts_same s vars ls ended (i ∷ is) (suc at) fit k m = insts_same s vars (after (tables_in s) ls i) (is_ending i.op) is at fit (next_known s ls i is k) m.1
 
 -- ---- blocks
 
@@ -125,25 +81,15 @@ handler_same : (h : BlockHead) (o : Option Name) → is_some o ≡ is_some (hand
 handler_same h None = refl
 handler_same h (Some n) = refl
 
-head_known : (s : Scope) → IsKnown s (parameter_texts s.block.head.parameters ++ handler_texts s.block.head.handler) (result_texts s.block.insts)
-    (joined (all_gives (tables_in s) s.block.insts)) (head_locals (tables_in s) s.block.head)
-head_known s = record {
-  whole = refl;
-  names = heads_named (tables_in s) s.block.head;
-  types = ap (λ (cs : List ℕ). cs ++ joined (all_gives (tables_in s) s.block.insts)) (sym (head_has (tables_in s) s.block.head));
-  fits = head_fits (tables_in s) s.block.head;
-}
+head_known : (s : Scope) → IsKnown s (head_locals (tables_in s) s.block.head) s.block.insts
+head_known s = record { whole = refl; fits = head_fits (tables_in s) s.block.head }
 
 block_same : (s : Scope) (item k : ℕ) → TablesFit (tables_in s) → AllMet (block_demands (tables_in s) (body s) s.block) →
     BlockIsSame s.bundle s (block_code (tables_in s) (body s) item k s.block)
 block_same s item k fit m = record {
-  types =
-      sym (all_classes (tables_in s) (body s) (head_locals (tables_in s) s.block.head) false s.block.insts m.1.0
-      ∙ ap (λ (cs : List ℕ). cs ++ joined (all_gives (tables_in s) s.block.insts)) (head_has (tables_in s) s.block.head));
+  types = refl;
   handler = handler_same s.block.head s.block.head.handler;
-  each = λ vars at.
-      insts_same s vars (parameter_texts s.block.head.parameters ++ handler_texts s.block.head.handler) (head_locals (tables_in s) s.block.head) false s.block.insts at fit
-      (head_known s) m.1.0;
+  each = λ vars at. insts_same s vars (head_locals (tables_in s) s.block.head) false s.block.insts at fit (head_known s) m.1.0;
 }
 
 -- blocks and their code, which are equally many

@@ -10,7 +10,6 @@ use Rattle.mu_model.specs.Programs.{named}
 use Rattle.mu_model.specs.Step.{step}
 use Rattle.mu_model.specs.Run.{Setting, program_run}
 use Rattle.model_numbers.specs.Numbered.{numbered}
-use Rattle.model_numbers.proofs.Functions.{body_same}
 use Rattle.model_numbers.proofs.Places.{doing_same, going_on_same, has_handler_same}
 
 pub programs_same : (bundle : List Item) → first_unmet (name_demands bundle) ≡ None → first_unmet (check_demands bundle) ≡ None → named bundle ≡ numbered bundle
@@ -18,8 +17,7 @@ programs_same bundle names checked =
     let doing : (named bundle).doing ≡ (numbered bundle).doing = fun_ext (λ b. fun_ext (λ at. fun_ext (λ vars. doing_same bundle names checked b at vars))) in
     let going_on : (named bundle).going_on ≡ (numbered bundle).going_on = fun_ext (λ b. fun_ext (λ at. fun_ext (λ vars. going_on_same bundle names checked b at vars))) in
     let has_handler : (named bundle).has_handler ≡ (numbered bundle).has_handler = fun_ext (λ b. has_handler_same bundle names checked b) in
-    let body : (named bundle).body ≡ (numbered bundle).body = fun_ext (λ n. body_same bundle n) in
-    rw (doing, going_on, has_handler, body) refl
+    rw (doing, going_on, has_handler) refl
 
 pub steps_same : (bundle : List Item) → first_unmet (name_demands bundle) ≡ None → first_unmet (check_demands bundle) ≡ None → (c : Configuration) →
     step (named bundle) c ≡ step (numbered bundle) c

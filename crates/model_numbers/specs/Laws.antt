@@ -1,13 +1,19 @@
 -- Laws of the two readings of a bundle, by its names and by the numbers of its checked code.
-use Rattle.std.specs.Prelude.{◌≡◌, true, ℕ, List, None}
+use Rattle.std.specs.Prelude.{◌≡◌, true, ℕ, ◌+◌, List, [], ◌∷◌, Option, Some, None, length, slice_get, if◌then◌else◌}
 use Rattle.demands.specs.Demands.{first_unmet}
+use Rattle.demands.specs.Names.{found}
 use Rattle.ir_lex.specs.declared.name.Name.{Name}
 use Rattle.ir_tree.specs.declared.items.Item.{Item}
+use Rattle.ir_tree.specs.declared.items.Item.TheVariants as items
 use Rattle.mu_values.specs.Constants.{width_of}
+use Rattle.bundle_names.specs.declared.globals.Globals.{Globals}
+use Rattle.bundle_names.specs.Globals.{globals_of}
 use Rattle.bundle_names.specs.Naming.{name_demands}
 use Rattle.check_tables.specs.Lookups.{noted_class, definition_named}
 use Rattle.check_tables.specs.TypeTests.{is_int}
+use Rattle.bundle_tables.specs.Entries.{is_function}
 use Rattle.bundle_check.specs.Checking.{bundle_tables, check_demands}
+use Rattle.typed_heap.specs.Places.{with_some}
 use Rattle.frames.specs.Activations.{Value}
 use Rattle.mu_model.specs.Types.{class_width}
 use Rattle.mu_model.specs.Configuration.{Configuration}
@@ -35,10 +41,7 @@ GoingsOnAreSame = OfAccepted (λ bundle. (block at : ℕ) (vars : List Value) �
 abbrev pub HandlersAreSame : Type 0
 HandlersAreSame = OfAccepted (λ bundle. (block : ℕ) → (named bundle).has_handler block ≡ (numbered bundle).has_handler block)
 
--- the first block of a function, and the tables; so it is of every bundle
-abbrev pub BodiesAreSame : Type 0
-BodiesAreSame = (bundle : List Item) (function : ℕ) → (named bundle).body function ≡ (numbered bundle).body function
-
+-- the tables; so it is of every bundle
 abbrev pub TablesAreSame : Type 0
 TablesAreSame = (bundle : List Item) → (named bundle).tables ≡ (numbered bundle).tables
 
@@ -48,6 +51,19 @@ StepsAreSame = OfAccepted (λ bundle. (c : Configuration) → step (named bundle
 
 abbrev pub RunsAreSame : Type 0
 RunsAreSame = OfAccepted (λ bundle. (setting : Setting) (function : ℕ) → program_run (named bundle) setting function ≡ program_run (numbered bundle) setting function)
+
+-- The first block of function n among items of which the first stands behind so many blocks. A function may have a declaration and a
+-- definition, in either order.
+abbrev pub definition_from : Globals → ℕ → ℕ → List Item → Option ℕ
+definition_from g n first [] = None
+definition_from g n first (items.Funcdef d ∷ is) =
+    if is_function (found g.names d.name.text) n then Some first else definition_from g n (first + length d.blocks) is
+definition_from g n first (i ∷ is) = definition_from g n first is
+
+-- a function that is there begins with the first block of its definition, where it has one; so it is of every bundle
+abbrev pub BodiesAreOfDefinitions : Type 0
+BodiesAreOfDefinitions = (bundle : List Item) (function : ℕ) →
+    (named bundle).body function ≡ with_some (slice_get (bundle_tables bundle).functions function) (λ g. Some (definition_from (globals_of bundle) function 0 bundle))
 
 -- the width that the class of an int type has is the one that is written
 abbrev pub WidthsAreWritten : Type 0

@@ -1,5 +1,5 @@
 // Laws of the two readings of a bundle: each function is proved, and does nothing.
-ghost use Rattle.model_numbers.specs.Laws.{ProgramsAreSame, DoingsAreSame, GoingsOnAreSame, HandlersAreSame, BodiesAreSame, TablesAreSame, StepsAreSame, RunsAreSame, WidthsAreWritten};
+ghost use Rattle.model_numbers.specs.Laws.{ProgramsAreSame, DoingsAreSame, GoingsOnAreSame, HandlersAreSame, BodiesAreOfDefinitions, TablesAreSame, StepsAreSame, RunsAreSame, WidthsAreWritten};
 
 /// A bundle that meets its demands is one program by name and by number.
 pub fn programs_are_same()
@@ -21,9 +21,9 @@ pub fn handlers_are_same()
     ensures { HandlersAreSame }
 {}
 
-/// Each function has the same first block. This holds of every bundle.
-pub fn bodies_are_same()
-    ensures { BodiesAreSame }
+/// Each function begins with the first block of its definition. This holds of every bundle.
+pub fn bodies_are_of_definitions()
+    ensures { BodiesAreOfDefinitions }
 {}
 
 /// The tables are the same. This holds of every bundle.

@@ -1,5 +1,5 @@
 -- Why a text was accepted.
-use Rattle.std.proofs.Common.{◌≡◌, ℕ, true, false, List, sym, subst, refl, Option, Some, None}
+use Rattle.std.proofs.Common.{◌≡◌, ℕ, true, false, List, ap, sym, subst, refl, Option, Some, None}
 use Rattle.std.specs.Prelude.{Ok, Err}
 use Rattle.mu_base.specs.declared.status.Status.{Status}
 use Rattle.mu_base.specs.declared.status.Status.TheVariants.{Refused, Usage, SinkFault, Memory}
@@ -10,7 +10,7 @@ use Rattle.mu_texts.specs.declared.what.What.TheVariants.{Bundle, Hail, Client, 
 use Rattle.mu_texts.specs.declared.ready.Ready.{Ready}
 use Rattle.mu_texts.specs.declared.ready.Ready.TheVariants as ready
 use Rattle.mu_texts.specs.declared.ready.Telling.TheVariants.{Lines, Counts}
-use Rattle.mu_texts.specs.Answer.{Part, ◌>>=◌, as_written, accepted, for_check, for_print, entered, loaded, client_part, scheduled, is_end, ready_part}
+use Rattle.mu_texts.specs.Answer.{Answer, no_answer, Part, ◌>>=◌, as_written, accepted, for_check, for_print, entered, loaded, client_part, scheduled, is_end, ready_part}
 use Rattle.mu_texts.proofs.Accepting.{StopsSo, then, writing, accepting, entering_named, loading, scripting, scheduling}
 use Rattle.mu_command.specs.declared.job.Job.{Job}
 use Rattle.trial_text.specs.Trial.{trial_text}
@@ -25,7 +25,7 @@ use Rattle.mu_command.proofs.Trials.{entry_word, usual_run, no_files}
 use Rattle.mu_command.specs.Central.{Answered, OfJob, IsAccepted}
 
 -- what is found on the way ends so where what is fetched does
-module _ (P : Status → Type 0) (refused : P Refused) (memory : P Memory) where
+module _ (P : Answer → Type 0) (refused : (answer : Answer) → answer.status ≡ Refused → P answer) (memory : P no_answer) where
   judging : {A : Type 0} (what : What) (o : Outcome) (part : List ℕ → Part A) → StopsSo P (fetched what o) → ((bytes : List ℕ) → StopsSo P (part bytes)) → StopsSo P (judged what part o)
   judging what o part s h = then P (fetched what o) part s h
 
@@ -50,8 +50,11 @@ module _ (P : Status → Type 0) (refused : P Refused) (memory : P Memory) where
 
 -- ---- no early end has a status of what is accepted
 
-abbrev IsEarly : Status → Type 0
-IsEarly s = is_end s ≡ false
+abbrev IsEarly : Answer → Type 0
+IsEarly answer = is_end answer.status ≡ false
+
+is_early : (answer : Answer) → answer.status ≡ Refused → IsEarly answer
+is_early answer e = ap is_end e
 
 no_end : (what : What) (o : Outcome) → StopsSo IsEarly (fetched what o)
 no_end what (got bytes) = tt
@@ -69,7 +72,7 @@ module _ (seen : Seen) (words : List (List ℕ)) (status : Status) (end : is_end
 
   accepted_job : (job : Option Job) (o : Outcomes) → AllowsJob seen words job o → (answer_of words job o).status ≡ status → OfJob (IsAccepted seen words status) job
   accepted_job None o allowed s = absurd (let no = ends Usage status s end in cc)
-  accepted_job (Some job) o allowed s = accepted_part job o allowed (found words job o) refl (finding_all IsEarly refl refl words o (λ what. no_end what (o what)) job) s
+  accepted_job (Some job) o allowed s = accepted_part job o allowed (found words job o) refl (finding_all IsEarly is_early refl words o (λ what. no_end what (o what)) job) s
 
 is_whole : (status : Status) → is_end status ≡ true → IsWhole status
 is_whole status end = ((λ e. let no = ends SinkFault status (sym e) end in cc), (λ e. let no = ends Memory status (sym e) end in cc))

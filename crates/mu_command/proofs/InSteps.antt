@@ -1,6 +1,8 @@
 -- The pieces of a run, step by step.
 use Rattle.std.proofs.Common.{◌≡◌, ℕ, zero, suc, ◌+◌, List, [], ◌∷◌, ◌++◌, length, reverse, refl, sym, ap, ◌∙◌, subst, arith, Option, Some, None, append_assoc, length-append, add_assoc}
 use Rattle.std.proofs.lemmas.List.{reverse-reverse}
+use Rattle.std.proofs.lemmas.List.Folds.{concat-append}
+use Rattle.std.specs.List.{concat}
 use Rattle.std.specs.Prelude.{◌≢◌, IfSome}
 use Rattle.std.specs.Io.KnownBytes.{Appends}
 use Rattle.mu_base.specs.declared.status.Status.{Status}
@@ -21,21 +23,21 @@ use Rattle.run_texts.specs.Pieces.{lines_text}
 use Rattle.thread_acts.specs.Outcome.{outcome_of}
 use Rattle.mu_texts.specs.Answer.{Answer, run_answer}
 use Rattle.model_laws.specs.Bounds.{HasEnding}
-use Rattle.mu_command.specs.Written.{joined, cuts_from, AppendsEnds, Wrote, WrotePart, IsWhole, Writes}
+use Rattle.mu_command.specs.Written.{cuts_from, AppendsEnds, Wrote, WrotePart, IsWhole, Writes}
 use Rattle.mu_command.specs.Steps.{answered_step, step_pieces, last_piece, behind_pieces, Goes, IsOver}
-use Rattle.mu_command.proofs.Puts.{joined-append, appends_twice, nothing_put, put_whole, put_stops, only_put, no_memory}
+use Rattle.mu_command.proofs.Puts.{appends_twice, nothing_put, put_whole, put_stops, only_put, no_memory}
 
 -- ---- pieces behind pieces
 
-cuts_both : (n : ℕ) (ps qs : List (List ℕ)) → cuts_from n (ps ++ qs) ≡ cuts_from n ps ++ cuts_from (n + length (joined ps)) qs
+cuts_both : (n : ℕ) (ps qs : List (List ℕ)) → cuts_from n (ps ++ qs) ≡ cuts_from n ps ++ cuts_from (n + length (concat ps)) qs
 cuts_both n [] qs = let z : n ≡ n + 0 = omega arith in ap (λ (k : ℕ). cuts_from k qs) z
 cuts_both n (p ∷ ps) qs =
     ap (λ (cs : List ℕ). (n + length p) ∷ cs)
     (cuts_both (n + length p) ps qs
     ∙ ap (λ (k : ℕ). cuts_from (n + length p) ps ++ cuts_from k qs)
-    (add_assoc n (length p) (length (joined ps)) ∙ ap (λ (k : ℕ). n + k) (sym (length-append p (joined ps)))))
+    (add_assoc n (length p) (length (concat ps)) ∙ ap (λ (k : ℕ). n + k) (sym (length-append p (concat ps)))))
 
-both_ends : (ps qs : List (List ℕ)) (w0 w1 e0 e1 e2 : Option (List ℕ)) → Appends w0 w1 (joined ps) → AppendsEnds w0 e0 e1 ps → AppendsEnds w1 e1 e2 qs → AppendsEnds w0 e0 e2 (ps ++ qs)
+both_ends : (ps qs : List (List ℕ)) (w0 w1 e0 e1 e2 : Option (List ℕ)) → Appends w0 w1 (concat ps) → AppendsEnds w0 e0 e1 ps → AppendsEnds w1 e1 e2 qs → AppendsEnds w0 e0 e2 (ps ++ qs)
 both_ends ps qs None w1 e0 e1 e2 a s m = tt
 both_ends ps qs (Some x) None e0 e1 e2 a s m = absurd a
 both_ends ps qs (Some x) (Some y) None e1 e2 a s m = tt
@@ -45,7 +47,7 @@ both_ends ps qs (Some x) (Some y) (Some e) (Some f) (Some g) a s m = rw (m, s, a
 
 both_wrote : (ps qs : List (List ℕ)) (w0 w1 w2 e0 e1 e2 : Option (List ℕ)) → Wrote ps w0 w1 e0 e1 → Wrote qs w1 w2 e1 e2 → Wrote (ps ++ qs) w0 w2 e0 e2
 both_wrote ps qs w0 w1 w2 e0 e1 e2 a b = record {
-  bytes = rw (joined-append ps qs) (appends_twice (joined ps) (joined qs) w0 w1 w2 a.bytes b.bytes);
+  bytes = rw (concat-append ps qs) (appends_twice (concat ps) (concat qs) w0 w1 w2 a.bytes b.bytes);
   ends = both_ends ps qs w0 w1 e0 e1 e2 a.bytes a.ends b.ends;
 }
 
@@ -56,7 +58,7 @@ part_behind ps qs w0 w1 w2 e0 e1 e2 a b = record {
   is = ap (λ (l : List (List ℕ)). ps ++ l) b.is ∙ sym (append_assoc ps b.done b.left);
   part = b.part;
   begins = b.begins;
-  bytes = rw (joined-append ps b.done, append_assoc) (appends_twice (joined ps) (joined b.done ++ b.part) w0 w1 w2 a.bytes b.bytes);
+  bytes = rw (concat-append ps b.done, append_assoc) (appends_twice (concat ps) (concat b.done ++ b.part) w0 w1 w2 a.bytes b.bytes);
   ends = both_ends ps b.done w0 w1 e0 e1 e2 a.bytes a.ends b.ends;
 }
 
@@ -162,6 +164,12 @@ not_made bundle c w e n ends = no_memory (run_answer bundle (run (named bundle) 
 pub went_is : (bundle code : List Item) (c d : Configuration) (end : StepEnd) (ls ms : List Line) → end ≡ Went ms → ls ≡ ms → bundle ≡ code → outcome_of end d ≡ answered_step (named bundle) c → Next (record d { lines = reverse ls }) ≡ answered_step (named code) c
 went_is bundle code c d end ls ms is same one h =
     ap (λ ls. Next (record d { lines = reverse ls })) same ∙ ap (λ end. outcome_of end d) (sym is) ∙ h ∙ ap (λ b. answered_step (named b) c) one
+
+-- a step that was made at once has no lines
+pub went_at_once : (bundle code : List Item) (c d : Configuration) (w e : Option (List ℕ)) → bundle ≡ code → outcome_of (Went []) d ≡ answered_step (named bundle) c → Goes code c d w w e e
+went_at_once bundle code c d w e one h = went code c d w w e e [] (h ∙ ap (λ b. answered_step (named b) c) one) (no_lines code [] w e refl)
+
+pub ruleset at_once = (went_at_once)
 
 -- ---- what was put so far, and what is left of the run, make the whole
 

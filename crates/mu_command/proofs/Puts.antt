@@ -1,31 +1,29 @@
 -- Pieces put one after another.
 use Rattle.std.proofs.Common.{◌≡◌, ℕ, ◌+◌, List, [], ◌∷◌, ◌++◌, length, refl, sym, ap, ◌∙◌, Option, Some, None, append_assoc, length-append, add-zero, add_assoc, drop, subst}
 use Rattle.std.proofs.lemmas.List.{append-nil, take_at, take-append-drop}
+use Rattle.std.proofs.lemmas.List.Folds.{concat-append}
+use Rattle.std.specs.List.{concat}
 use Rattle.std.specs.Io.KnownBytes.{Appends, Keeps}
 use Rattle.mu_base.specs.declared.status.Status.{Status}
 use Rattle.mu_base.specs.declared.status.Status.TheVariants.{Memory}
 use Rattle.mu_base.specs.Files.{IsPrefix}
 use Rattle.mu_base.specs.Sink.{AppendsPrefix, MarksEnd, PutsPart}
 use Rattle.mu_texts.specs.Answer.{Answer, in_one_piece}
-use Rattle.mu_command.specs.Written.{joined, cuts_from, AppendsEnds, Wrote, IsWhole, Writes, stopped}
+use Rattle.mu_command.specs.Written.{cuts_from, AppendsEnds, Wrote, IsWhole, Writes, stopped}
 use Rattle.mu_base.specs.declared.sink.PutFault.{PutFault}
 use Rattle.mu_base.specs.declared.sink.PutFault.TheVariants.{Fault, Memory as NoMemory}
 
-pub joined-append : (ps qs : List (List ℕ)) → joined (ps ++ qs) ≡ joined ps ++ joined qs
-joined-append [] qs = refl
-joined-append (p ∷ ps) qs = rw (joined-append ps qs, append_assoc) refl
-
-cuts-push : (n : ℕ) (ps : List (List ℕ)) (p : List ℕ) → cuts_from n (ps ++ p ∷ []) ≡ cuts_from n ps ++ (n + length (joined ps) + length p) ∷ []
+cuts-push : (n : ℕ) (ps : List (List ℕ)) (p : List ℕ) → cuts_from n (ps ++ p ∷ []) ≡ cuts_from n ps ++ (n + length (concat ps) + length p) ∷ []
 cuts-push n [] p = rw add-zero refl
 cuts-push n (q ∷ ps) p = rw (cuts-push (n + length q) ps p, length-append) (simp add_assoc)
 
-wrote_bytes : (ps : List (List ℕ)) (p : List ℕ) (w0 w1 w2 : Option (List ℕ)) → Appends w0 w1 (joined ps) → Appends w1 w2 p → Appends w0 w2 (joined (ps ++ p ∷ []))
+wrote_bytes : (ps : List (List ℕ)) (p : List ℕ) (w0 w1 w2 : Option (List ℕ)) → Appends w0 w1 (concat ps) → Appends w1 w2 p → Appends w0 w2 (concat (ps ++ p ∷ []))
 wrote_bytes ps p None w1 w2 a b = tt
 wrote_bytes ps p (Some x) None w2 a b = absurd a
 wrote_bytes ps p (Some x) (Some y) None a b = absurd b
-wrote_bytes ps p (Some x) (Some y) (Some z) a b = rw (b, a, joined-append ps (p ∷ []), append-nil, append_assoc) refl
+wrote_bytes ps p (Some x) (Some y) (Some z) a b = rw (b, a, concat-append ps (p ∷ []), append-nil, append_assoc) refl
 
-wrote_ends : (ps : List (List ℕ)) (p : List ℕ) (w0 w1 w2 e0 e1 e2 : Option (List ℕ)) → Appends w0 w1 (joined ps) → AppendsEnds w0 e0 e1 ps →
+wrote_ends : (ps : List (List ℕ)) (p : List ℕ) (w0 w1 w2 e0 e1 e2 : Option (List ℕ)) → Appends w0 w1 (concat ps) → AppendsEnds w0 e0 e1 ps →
     Appends w1 w2 p → MarksEnd e1 e2 w2 → AppendsEnds w0 e0 e2 (ps ++ p ∷ [])
 wrote_ends ps p None w1 w2 e0 e1 e2 a s b m = tt
 wrote_ends ps p (Some x) None w2 e0 e1 e2 a s b m = absurd a
@@ -79,8 +77,8 @@ put_stops done p left answer w0 w1 w2 e0 e1 e2 status is fails w a k = record {
     left = p ∷ left;
     is = is;
     part = a.0;
-    begins = prefix_more [] a.0 p (joined left) a.1;
-    bytes = appends_twice (joined done) a.0 w0 w1 w2 w.bytes a.2;
+    begins = prefix_more [] a.0 p (concat left) a.1;
+    bytes = appends_twice (concat done) a.0 w0 w1 w2 w.bytes a.2;
     ends = keep_ends w0 e0 e1 e2 done w.ends k;
   };
   whole = λ h. absurd (fails h);
@@ -104,7 +102,7 @@ not_put p w e = record { bytes = kept_is_part w w p (keeps w); mark = keeps e }
 -- all pieces were put
 pub all_put : (answer : Answer) (w0 w1 e0 e1 : Option (List ℕ)) (status : Status) → status ≡ answer.status → Wrote answer.pieces w0 w1 e0 e1 → Writes answer w0 w1 e0 e1 status
 all_put answer w0 w1 e0 e1 status is w = record {
-  part = record { done = answer.pieces; left = []; is = sym (append-nil answer.pieces); part = []; begins = refl; bytes = rw (append-nil (joined answer.pieces)) w.bytes; ends = w.ends };
+  part = record { done = answer.pieces; left = []; is = sym (append-nil answer.pieces); part = []; begins = refl; bytes = rw (append-nil (concat answer.pieces)) w.bytes; ends = w.ends };
   whole = λ h. w;
   status_of = λ h. is;
 }

@@ -94,3 +94,9 @@ ending_is_whole (endings.HeapFull i asked left) = ((λ h. cc), (λ h. cc))
 ending_is_whole (endings.ThreadsFull i) = ((λ h. cc), (λ h. cc))
 ending_is_whole (endings.AllWaiting is) = ((λ h. cc), (λ h. cc))
 ending_is_whole (endings.Budget n) = ((λ h. cc), (λ h. cc))
+
+-- a step that was made at once is counted as one without events
+pub counted_at_once : (bundle : List Item) (c d : Configuration) → outcome_of (Went []) d ≡ answered_step (named bundle) c → IsCounted bundle c d (record { events = 0; ending = None })
+counted_at_once bundle c d is = record { end = Went []; is = is; counts = refl }
+
+pub ruleset at_once = (counted_at_once)

@@ -18,11 +18,18 @@ use Rattle.mu_command.specs.declared.job.Job.TheVariants.{Check, Print, Run, Tri
 use Rattle.mu_command.specs.declared.job.RunJob.{RunJob}
 use Rattle.mu_command.specs.Job.{word, usual_steps, usual_cells}
 
--- a fetch gives the file's bytes, or a line that names the file
+-- the lines of files that were not fetched, each of which names the file
+abbrev pub read_fault_line : What → Answer
+read_fault_line what = line (codes "read fault " ++ name_of what) ReadFault
+
+abbrev pub too_long_line : What → Answer
+too_long_line what = line (codes "too long " ++ name_of what) TooLong
+
+-- a fetch gives the file's bytes, or such a line
 abbrev pub fetched : What → Outcome → Part (List ℕ)
 fetched what (got bytes) = Ok bytes
-fetched what failed = Err (line (codes "read fault " ++ name_of what) ReadFault)
-fetched what too_long = Err (line (codes "too long " ++ name_of what) TooLong)
+fetched what failed = Err (read_fault_line what)
+fetched what too_long = Err (too_long_line what)
 
 -- What the fetches come to, file by file.
 abbrev pub Outcomes : Type 0

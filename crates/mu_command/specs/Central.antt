@@ -36,11 +36,6 @@ pub record Answered (seen : Seen) (words : List (List ℕ)) (written new_written
 
 -- ---- causes
 
--- one of the files that the job names has that
-abbrev pub SomeFile : (What → ℕ → Type 0) → Option Job → Type 0
-SomeFile P None = ⊥
-SomeFile P (Some job) = (what : What) × (n : ℕ) × (file_of job what ≡ Some n) × P what n
-
 -- a fetch of the file that a word names may have failed: its count rose, or it is told that there is no such file
 abbrev pub MayFail : Seen → List (List ℕ) → What → ℕ → Type 0
 MayFail seen words what n = Rose (seen.before (slot_of what)) (seen.now (slot_of what)) ⊎ IsMissing seen.told (word words n)
@@ -49,8 +44,20 @@ MayFail seen words what n = Rose (seen.before (slot_of what)) (seen.now (slot_of
 abbrev pub IsPast : Seen → List (List ℕ) → What → ℕ → Type 0
 IsPast seen words what n = IsLonger seen.told (word words n) file_limit × (seen.now (slot_of what) ≡ seen.before (slot_of what))
 
+-- A file that the job names was not fetched: that holds of it, its line is what is found with outcomes that the inputs allow, so that all
+-- before it is accepted, and this line is what is written.
+pub record IsUnfetched (P : Seen → List (List ℕ) → What → ℕ → Type 0) (line_of : What → Answer) (seen : Seen) (words : List (List ℕ)) (written new_written marks new_marks : Option (List ℕ)) (status : Status) (job : Job) : Type 0 where
+  pub what : What
+  pub number : ℕ
+  pub names : file_of job what ≡ Some number
+  pub holds : P seen words what number
+  pub outcomes : Outcomes
+  pub allowed : AllowsJob seen words (Some job) outcomes
+  pub is : found words job outcomes ≡ Err (line_of what)
+  pub writes : Writes (line_of what) written new_written marks new_marks status
+
 -- outcomes that the inputs allow for the files of the job, and what is found with them: it is there, and its answer has this status; or
--- a file or the entry is refused
+-- a file or the entry is refused, and the line of this very refusal is what is written
 pub record IsAccepted (seen : Seen) (words : List (List ℕ)) (status : Status) (job : Job) : Type 0 where
   pub outcomes : Outcomes
   pub allowed : AllowsJob seen words (Some job) outcomes
@@ -58,12 +65,13 @@ pub record IsAccepted (seen : Seen) (words : List (List ℕ)) (status : Status) 
   pub is : found words job outcomes ≡ Ok ready
   pub ends : (ready_answer ready).status ≡ status
 
-pub record IsRefused (seen : Seen) (words : List (List ℕ)) (job : Job) : Type 0 where
+pub record IsRefused (seen : Seen) (words : List (List ℕ)) (written new_written marks new_marks : Option (List ℕ)) (job : Job) : Type 0 where
   pub outcomes : Outcomes
   pub allowed : AllowsJob seen words (Some job) outcomes
   pub refusal : Answer
   pub is : found words job outcomes ≡ Err refusal
   pub status : refusal.status ≡ Refused
+  pub writes : Writes refusal written new_written marks new_marks Refused
 
 -- of the job, where there is one
 abbrev pub OfJob : (Job → Type 0) → Option Job → Type 0

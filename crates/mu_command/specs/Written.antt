@@ -1,5 +1,6 @@
 -- To believe: what a sink tells after a call, beside an answer.
 use Rattle.std.specs.Prelude.{◌≡◌, ◌≢◌, ℕ, ◌+◌, List, [], ◌∷◌, ◌++◌, length, Option, None, Some, ⊤}
+use Rattle.std.specs.List.{concat}
 use Rattle.std.specs.Io.KnownBytes.{Appends}
 use Rattle.mu_base.specs.declared.status.Status.{Status}
 use Rattle.mu_base.specs.declared.status.Status.TheVariants.{SinkFault, Memory}
@@ -7,11 +8,6 @@ use Rattle.mu_base.specs.declared.sink.PutFault.{PutFault}
 use Rattle.mu_base.specs.declared.sink.PutFault.TheVariants.{Fault, Memory as NoMemory}
 use Rattle.mu_base.specs.Files.{IsPrefix}
 use Rattle.mu_texts.specs.Answer.{Answer}
-
--- the pieces, one after another
-abbrev pub joined : List (List ℕ) → List ℕ
-joined [] = []
-joined (piece ∷ pieces) = piece ++ joined pieces
 
 -- where the pieces end, the first of which begins at n
 abbrev pub cuts_from : ℕ → List (List ℕ) → List ℕ
@@ -27,7 +23,7 @@ AppendsEnds (Some bytes) (Some ends) (Some new) pieces = new ≡ ends ++ cuts_fr
 
 -- these pieces were written, each whole, and nothing else
 pub record Wrote (pieces : List (List ℕ)) (written new_written marks new_marks : Option (List ℕ)) : Type 0 where
-  pub bytes : Appends written new_written (joined pieces)
+  pub bytes : Appends written new_written (concat pieces)
   pub ends : AppendsEnds written marks new_marks pieces
 
 -- the first pieces were written whole, and then at most a part of what follows them
@@ -36,8 +32,8 @@ pub record WrotePart (pieces : List (List ℕ)) (written new_written marks new_m
   pub left : List (List ℕ)
   pub is : pieces ≡ done ++ left
   pub part : List ℕ
-  pub begins : IsPrefix part (joined left)
-  pub bytes : Appends written new_written (joined done ++ part)
+  pub begins : IsPrefix part (concat left)
+  pub bytes : Appends written new_written (concat done ++ part)
   pub ends : AppendsEnds written marks new_marks done
 
 -- neither the sink nor memory failed

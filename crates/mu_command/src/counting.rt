@@ -1,5 +1,5 @@
 // Counts the steps and the events of a run, and tells of it in one line.
-ghost use Rattle.std.specs.Prelude.{◌≡◌, ◌≢◌, ◌≤◌, ◌++◌, Some, IfOk, IfSome, OnOk, codes, decimal};
+ghost use Rattle.std.specs.Prelude.{◌≡◌, ◌≢◌, ◌≤◌, ◌++◌, Some, None, IfOk, IfSome, OnOk, codes, decimal, false};
 ghost use Rattle.std.specs.List.{count_by};
 ghost use Rattle.mu_base.specs.Faults.{Rose};
 ghost use Rattle.mu_model.specs.Outcomes.{Stuck};
@@ -55,12 +55,14 @@ fn events_in(lines: &[Line]) -> usize
     lines.iter().filter(|line| is_event(*line)).count()
 }
 
-// Makes a step and counts it. None where no memory is found.
-fn count_step<M: Memory + Drop, C: Determined + Drop>(
+// Makes a step of any kind and counts it. None where no memory is found.
+fn count_any_step<M: Memory + Drop, C: Determined + Drop>(
     machine: &mut Machine<M, C>,
 ) -> Option<Counted>
-    requires { answered_step (named machine.old.bundle) machine.old.configuration ≢ Stuck }
+    requires fresh { machine.old.ended ≡ false }
+    requires there { answered_step (named machine.old.bundle) machine.old.configuration ≢ Stuck }
     ensures same { machine.new.bundle ≡ machine.old.bundle }
+    ensures fresh { IfSome result (λ step. step.ending ≡ None → machine.new.ended ≡ false) }
     ensures counted { IfSome result (IsCounted machine.old.bundle machine.old.configuration machine.new.configuration) }
 {
     match machine.step() {
@@ -76,12 +78,33 @@ fn count_step<M: Memory + Drop, C: Determined + Drop>(
     }
 }
 
+// Makes a step and counts it, as `count_any_step` does. Most steps are frequent ones, which have no lines.
+#[tactic(auto, using(crate::proofs::Tallies::at_once))]
+fn count_step<M: Memory + Drop, C: Determined + Drop>(
+    machine: &mut Machine<M, C>,
+) -> Option<Counted>
+    requires fresh { machine.old.ended ≡ false }
+    requires there { answered_step (named machine.old.bundle) machine.old.configuration ≢ Stuck }
+    ensures same { machine.new.bundle ≡ machine.old.bundle }
+    ensures fresh { IfSome result (λ step. step.ending ≡ None → machine.new.ended ≡ false) }
+    ensures counted { IfSome result (IsCounted machine.old.bundle machine.old.configuration machine.new.configuration) }
+{
+    if machine.advance() {
+        return Some(Counted {
+            events: 0,
+            ending: None,
+        });
+    }
+    count_any_step(machine)
+}
+
 // Makes the steps of a run up to its ending, which comes within so many, and counts them. None where no memory is found.
 fn count_run<M: Memory + Drop, C: Determined + Drop>(
     machine: &mut Machine<M, C>,
     limit: u64,
 ) -> Option<Tally>
-    requires { HasEnding (run (named machine.old.bundle) limit machine.old.configuration) }
+    requires fresh { machine.old.ended ≡ false }
+    requires ends { HasEnding (run (named machine.old.bundle) limit machine.old.configuration) }
     ensures { IfSome result (λ tally. tally_behind 0 0 (run (named machine.old.bundle) limit machine.old.configuration) ≡ Some tally) }
 {
     let mut steps = 0u64;
@@ -152,6 +175,7 @@ pub fn write_counts<S: Sink, M: Memory + Drop, C: Determined + Drop>(
     steps: u64,
 ) -> Status
     requires same { machine.old.bundle ≡ code.now }
+    requires fresh { machine.old.ended ≡ false }
     requires ends { HasEnding (run (named code.now) steps machine.old.configuration) }
     ensures writes { Writes (trial_answer n code.now (run (named code.now) steps machine.old.configuration))
         (S.written out.old) (S.written out.new) (S.ends out.old) (S.ends out.new) result }

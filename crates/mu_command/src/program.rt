@@ -4,8 +4,8 @@ ghost use Rattle.mu_base.specs.Faults.{Rose};
 ghost use Rattle.mu_base.specs.Files.{Files};
 ghost use Rattle.text_programs.specs.Moments.{EndsSoundly};
 ghost use Rattle.mu_texts.specs.Answer.{is_end};
-ghost use Rattle.mu_command.specs.Answer.{answer_of};
-ghost use Rattle.mu_command.specs.Central.{Answered, MayFail, IsPast, SomeFile, OfJob, IsAccepted, IsRefused, IsQuiet, outcomes_of, OneAnswer, EachMoment, HasSoundLog, HasOneOwner, IsNotStuck};
+ghost use Rattle.mu_command.specs.Answer.{answer_of, read_fault_line, too_long_line};
+ghost use Rattle.mu_command.specs.Central.{Answered, MayFail, IsPast, IsUnfetched, OfJob, IsAccepted, IsRefused, IsQuiet, outcomes_of, OneAnswer, EachMoment, HasSoundLog, HasOneOwner, IsNotStuck};
 ghost use Rattle.mu_command.specs.Job.{job_of};
 ghost use Rattle.mu_command.specs.Written.{IsWhole, Writes};
 
@@ -66,15 +66,19 @@ pub fn mu<I: Inputs, S: Sink>(alloc: Global, words: &Words, inputs: &mut I, out:
     ensures answered { Answered (record { told = I.holds inputs.old; before = I.faults inputs.old; now = I.faults inputs.new }) words.now
         (S.written out.old) (S.written out.new) (S.ends out.old) (S.ends out.new) result }
 
-    // The causes of the statuses.
+    // The causes of the statuses. A file that was not fetched is the one that the written line names, and all before it is accepted; a
+    // refusal is the written one.
     ensures usage { job_of words.now ≡ None → IsWhole result → result ≡ Status.Usage }
     ensures usage_only { result ≡ Status.Usage → job_of words.now ≡ None }
-    ensures read_fault { result ≡ Status.ReadFault → SomeFile
-        (MayFail (record { told = I.holds inputs.old; before = I.faults inputs.old; now = I.faults inputs.new }) words.now) (job_of words.now) }
-    ensures too_long { result ≡ Status.TooLong → SomeFile
-        (IsPast (record { told = I.holds inputs.old; before = I.faults inputs.old; now = I.faults inputs.new }) words.now) (job_of words.now) }
+    ensures read_fault { result ≡ Status.ReadFault → OfJob
+        (IsUnfetched MayFail read_fault_line (record { told = I.holds inputs.old; before = I.faults inputs.old; now = I.faults inputs.new }) words.now
+        (S.written out.old) (S.written out.new) (S.ends out.old) (S.ends out.new) result) (job_of words.now) }
+    ensures too_long { result ≡ Status.TooLong → OfJob
+        (IsUnfetched IsPast too_long_line (record { told = I.holds inputs.old; before = I.faults inputs.old; now = I.faults inputs.new }) words.now
+        (S.written out.old) (S.written out.new) (S.ends out.old) (S.ends out.new) result) (job_of words.now) }
     ensures refused { result ≡ Status.Refused → OfJob
-        (IsRefused (record { told = I.holds inputs.old; before = I.faults inputs.old; now = I.faults inputs.new }) words.now) (job_of words.now) }
+        (IsRefused (record { told = I.holds inputs.old; before = I.faults inputs.old; now = I.faults inputs.new }) words.now
+        (S.written out.old) (S.written out.new) (S.ends out.old) (S.ends out.new)) (job_of words.now) }
     ensures accepted { is_end result ≡ true → OfJob
         (IsAccepted (record { told = I.holds inputs.old; before = I.faults inputs.old; now = I.faults inputs.new }) words.now result) (job_of words.now) }
     ensures sink_fault { result ≡ Status.SinkFault → Rose (S.faults out.old) (S.faults out.new) }

@@ -1,5 +1,5 @@
 // The second half of the program: writes what was found.
-ghost use Rattle.std.specs.Prelude.{◌≡◌, ◌≢◌, ◌≤◌, ◌∷◌, [], Some, IfNone, IfSome, IfOk, OnOk, OnErr, IfErr};
+ghost use Rattle.std.specs.Prelude.{◌≡◌, ◌≢◌, ◌≤◌, ◌∷◌, [], Some, IfNone, IfSome, IfOk, OnOk, OnErr, IfErr, false};
 ghost use Rattle.mu_base.specs.Faults.{Rose};
 ghost use Rattle.mu_base.specs.Sink.{PutsWhole, PutsPart};
 ghost use Rattle.mu_model.specs.Outcomes.{Stuck};
@@ -110,17 +110,19 @@ fn put_last<S: Sink>(
     }
 }
 
-// Makes a step and puts its lines. None where the run goes on, else the status of the program.
+// Makes a step of any kind and puts its lines. None where the run goes on, else the status of the program.
 #[tactic(auto, using(crate::proofs::InSteps::running))]
-fn make_step<S: Sink, M: Memory + Drop, C: Determined + Drop>(
+fn make_any_step<S: Sink, M: Memory + Drop, C: Determined + Drop>(
     out: &mut S,
     code: &Checked,
     machine: &mut Machine<M, C>,
     text: &mut Vec<u8>,
 ) -> Option<Status>
     requires same { machine.old.bundle ≡ code.now }
+    requires fresh { machine.old.ended ≡ false }
     requires there { answered_step (named code.now) machine.old.configuration ≢ Stuck }
     ensures same { machine.new.bundle ≡ code.now }
+    ensures fresh { IfNone result (machine.new.ended ≡ false) }
     ensures goes { IfNone result (Goes code.now machine.old.configuration machine.new.configuration (S.written out.old) (S.written out.new) (S.ends out.old) (S.ends out.new)) }
     ensures over { IfSome result (λ status. IsOver code.now machine.old.configuration (S.written out.old) (S.written out.new) (S.ends out.old) (S.ends out.new) status) }
     ensures never_falls { S.faults out.old ≤ S.faults out.new }
@@ -139,6 +141,30 @@ fn make_step<S: Sink, M: Memory + Drop, C: Determined + Drop>(
     }
 }
 
+// Makes a step as `make_any_step` does. Most steps are frequent ones, which have no lines.
+#[tactic(auto, using(crate::proofs::InSteps::at_once))]
+fn make_step<S: Sink, M: Memory + Drop, C: Determined + Drop>(
+    out: &mut S,
+    code: &Checked,
+    machine: &mut Machine<M, C>,
+    text: &mut Vec<u8>,
+) -> Option<Status>
+    requires same { machine.old.bundle ≡ code.now }
+    requires fresh { machine.old.ended ≡ false }
+    requires there { answered_step (named code.now) machine.old.configuration ≢ Stuck }
+    ensures same { machine.new.bundle ≡ code.now }
+    ensures fresh { IfNone result (machine.new.ended ≡ false) }
+    ensures goes { IfNone result (Goes code.now machine.old.configuration machine.new.configuration (S.written out.old) (S.written out.new) (S.ends out.old) (S.ends out.new)) }
+    ensures over { IfSome result (λ status. IsOver code.now machine.old.configuration (S.written out.old) (S.written out.new) (S.ends out.old) (S.ends out.new) status) }
+    ensures never_falls { S.faults out.old ≤ S.faults out.new }
+    ensures fault { IfSome result (λ status. status ≡ Status.SinkFault → Rose (S.faults out.old) (S.faults out.new)) }
+{
+    if machine.advance() {
+        return None;
+    }
+    make_any_step(out, code, machine, text)
+}
+
 // Makes the steps of a run up to its ending, which comes within so many, and puts the lines of each.
 fn write_steps<S: Sink, M: Memory + Drop, C: Determined + Drop>(
     alloc: Global,
@@ -148,6 +174,7 @@ fn write_steps<S: Sink, M: Memory + Drop, C: Determined + Drop>(
     steps: u64,
 ) -> Status
     requires same { machine.old.bundle ≡ code.now }
+    requires fresh { machine.old.ended ≡ false }
     requires ends { HasEnding (run (named code.now) steps machine.old.configuration) }
     ensures writes { Writes (run_answer code.now (run (named code.now) steps machine.old.configuration))
         (S.written out.old) (S.written out.new) (S.ends out.old) (S.ends out.new) result }
@@ -174,6 +201,7 @@ fn begin(
 ) -> Result<Machine<ViewMemory, RunClient>, AllocError>
     requires { IsRunnable code.now start }
     ensures bundle { IfOk result (λ m. m.bundle ≡ code.now) }
+    ensures fresh { IfOk result (λ m. m.ended ≡ false) }
     ensures first { IfOk result (λ m. first_configuration (named code.now) start.setting start.entry ≡ Some m.configuration) }
 {
     let memory = ViewMemory::new(alloc, start.rule);
@@ -199,6 +227,7 @@ fn write_told<S: Sink, M: Memory + Drop, C: Determined + Drop>(
     telling: Telling,
 ) -> Status
     requires same { machine.old.bundle ≡ code.now }
+    requires fresh { machine.old.ended ≡ false }
     requires ends { HasEnding (run (named code.now) steps machine.old.configuration) }
     ensures writes { Writes (told_answer telling code.now (run (named code.now) steps machine.old.configuration))
         (S.written out.old) (S.written out.new) (S.ends out.old) (S.ends out.new) result }

@@ -1,12 +1,10 @@
 -- To believe: what the names and operands of an instruction stand for, in its block, with the values of the block's variables.
-use Rattle.std.specs.Prelude.{ℕ, suc, ◌+◌, ◌^◌, Bool, List, [], ◌∷◌, ◌++◌, Option, Some, None, map, slice_get, nat_eq, nat_le, nat_lt, zip, if◌then◌else◌, ◌&&◌}
-use Rattle.demands.specs.Names.{Names, found}
+use Rattle.std.specs.Prelude.{ℕ, ◌^◌, Bool, List, [], ◌∷◌, Option, Some, None, map, option_map, slice_get, nat_eq, nat_le, nat_lt, if◌then◌else◌, ◌&&◌}
+use Rattle.demands.specs.Names.{found}
 use Rattle.ir_lex.specs.declared.name.Name.{Name}
 use Rattle.ir_tree.specs.declared.operands.Operand.{Operand}
 use Rattle.ir_tree.specs.declared.operands.Operand.TheVariants as operands
 use Rattle.ir_tree.specs.declared.operands.Destination.{Destination}
-use Rattle.ir_tree.specs.declared.code.Inst.{Inst}
-use Rattle.ir_tree.specs.declared.code.Parameter.{Parameter}
 use Rattle.ir_tree.specs.declared.code.Block.{Block}
 use Rattle.ir_tree.specs.declared.items.Funcdef.{Funcdef}
 use Rattle.ir_tree.specs.declared.items.Item.{Item}
@@ -18,7 +16,13 @@ use Rattle.bundle_names.specs.Globals.{globals_of}
 use Rattle.check_tables.specs.declared.tables.Tables.{Tables}
 use Rattle.check_tables.specs.Lookups.{noted_class}
 use Rattle.bundle_constants.specs.Bundle.{constant_values}
+use Rattle.bundle_check.specs.Blocks.{head_locals}
+use Rattle.bundle_check.specs.Functions.{entries_from}
 use Rattle.bundle_check.specs.Checking.{bundle_tables}
+use Rattle.code_check.specs.declared.scopes.BlockEntry.{BlockEntry}
+use Rattle.code_check.specs.declared.scopes.Locals.{Locals}
+use Rattle.code_check.specs.declared.scopes.Variable.{Variable}
+use Rattle.code_check.specs.Instructions.{after_all}
 use Rattle.code_check.specs.Operands.{noted_list}
 use Rattle.typed_heap.specs.Places.{with_some}
 use Rattle.frames.specs.Activations.{Value, Goal}
@@ -42,25 +46,13 @@ class s t = noted_class (tables_in s) t
 abbrev pub classes : Scope → List Name → List ℕ
 classes s ts = noted_list (tables_in s) ts
 
--- the names of a block's variables: its parameters, its handler and the results of its instructions
-abbrev pub handler_texts : Option Name → List (List ℕ)
-handler_texts None = []
-handler_texts (Some n) = n.text ∷ []
+-- the variables of a block, as they are behind its last instruction
+abbrev pub variables : Scope → Locals
+variables s = after_all (tables_in s) (head_locals (tables_in s) s.block.head) s.block.insts
 
-abbrev pub result_texts : List Inst → List (List ℕ)
-result_texts [] = []
-result_texts (i ∷ is) = map (λ (n : Name). n.text) i.results ++ result_texts is
-
-abbrev pub variables : Block → List (List ℕ)
-variables b = (map (λ (q : Parameter). q.name.text) b.head.parameters ++ handler_texts b.head.handler) ++ result_texts b.insts
-
--- the number of the block with a name among blocks of which the first has this number
-abbrev pub block_from : ℕ → List Block → Names ℕ
-block_from k [] = []
-block_from k (b ∷ bs) = (b.head.name.text, k) ∷ block_from (suc k) bs
-
+-- the number of the function's block with a name
 abbrev pub target_block : Scope → Name → Option ℕ
-target_block s n = found (block_from s.first s.function.blocks) n.text
+target_block s n = option_map (λ (b : BlockEntry). b.number) (found (entries_from (tables_in s) [] s.first s.function.blocks) n.text)
 
 -- ---- operands: a local name is a variable of the block, a global one a constant, a global's place or a function
 
@@ -77,7 +69,7 @@ global_operand bundle n = global_value bundle (found (globals_of bundle).names n
 
 -- a variable has a value once it stands among those of the frame
 abbrev pub local_value : Scope → List Value → Name → Option Value
-local_value s vars n = found (zip (variables s.block) vars) n.text
+local_value s vars n = with_some (found (variables s).names n.text) (λ (v : Variable). slice_get vars v.number)
 
 abbrev pub value_named : Scope → List Value → Operand → Option Value
 value_named s vars (operands.Local n) = local_value s vars n

@@ -1,5 +1,5 @@
 -- To believe: a bundle as the machine sees it, by its names.
-use Rattle.std.specs.Prelude.{ℕ, ◌+◌, List, [], ◌∷◌, ◌++◌, Option, Some, None, map, length, slice_get, zip, is_some, if◌then◌else◌}
+use Rattle.std.specs.Prelude.{ℕ, ◌+◌, List, [], ◌∷◌, ◌++◌, Option, Some, None, map, length, slice_get, is_some}
 use Rattle.demands.specs.Names.{found}
 use Rattle.ir_lex.specs.declared.name.Name.{Name}
 use Rattle.ir_tree.specs.declared.operands.Destination.{Destination}
@@ -11,14 +11,9 @@ use Rattle.ir_tree.specs.declared.items.Funcdef.{Funcdef}
 use Rattle.ir_tree.specs.declared.items.Item.{Item}
 use Rattle.ir_tree.specs.declared.items.Item.TheVariants as items
 use Rattle.mu_values.specs.Slots.{TypedValues}
-use Rattle.bundle_names.specs.declared.globals.Globals.{Globals}
-use Rattle.bundle_names.specs.Globals.{globals_of}
-use Rattle.bundle_tables.specs.Entries.{is_function}
-use Rattle.bundle_check.specs.Checking.{bundle_tables}
+use Rattle.bundle_check.specs.Checking.{bundle_tables, bundle_functions}
 use Rattle.code_check.specs.Instructions.{normal_of, exceptional_of, keepalive_of}
-use Rattle.code_check.specs.Typed.{joined}
-use Rattle.code_check.specs.TypedLaws.{all_gives}
-use Rattle.bundle_laws.specs.Accepted.{head_classes}
+use Rattle.code_check.specs.Operands.{variable_class}
 use Rattle.typed_heap.specs.Places.{with_some}
 use Rattle.frames.specs.Activations.{Value, Goal}
 use Rattle.frames.specs.Chains.{nothing_kept}
@@ -52,11 +47,8 @@ optional_goal s vars None = Some None
 optional_goal s vars (Some d) = some_goal (goal_named s vars d)
 
 -- the variables that are kept: the class of each, and its value
-abbrev pub variable_classes : Scope → List ℕ
-variable_classes s = head_classes (tables_in s) s.block.head ++ joined (all_gives (tables_in s) s.block.insts)
-
 abbrev pub kept_class : Scope → Name → Option ℕ
-kept_class s n = found (zip (variables s.block) (variable_classes s)) n.text
+kept_class s n = variable_class (found (variables s).names n.text)
 
 abbrev pub typed_values : Option (List ℕ) → Option (List Value) → Option TypedValues
 typed_values cs vs = with_some cs (λ types. with_some vs (λ values. Some (record { types = types; values = values })))
@@ -82,14 +74,6 @@ scopes_from bundle first (i ∷ is) = scopes_from bundle first is
 abbrev pub scopes_of : List Item → List Scope
 scopes_of bundle = scopes_from bundle 0 bundle
 
--- The first block of function n among items of which the first stands behind so many blocks. A function may have a declaration and a
--- definition, in either order.
-abbrev pub definition_from : Globals → ℕ → ℕ → List Item → Option ℕ
-definition_from g n first [] = None
-definition_from g n first (items.Funcdef d ∷ is) =
-    if is_function (found g.names d.name.text) n then Some first else definition_from g n (first + length d.blocks) is
-definition_from g n first (i ∷ is) = definition_from g n first is
-
 -- ---- what the machine asks
 
 abbrev pub named : List Item → Program
@@ -98,6 +82,6 @@ named bundle =
       doing = λ block at vars. with_some (slice_get (scopes_of bundle) block) (λ s. with_some (slice_get s.block.insts at) (λ i. Some (does_named s vars i)));
       going_on = λ block at vars. with_some (slice_get (scopes_of bundle) block) (λ s. with_some (slice_get s.block.insts at) (λ i. optional_goal s vars (normal_of i.op)));
       has_handler = λ block. with_some (slice_get (scopes_of bundle) block) (λ s. Some (is_some s.block.head.handler));
-      body = λ n. with_some (slice_get (bundle_tables bundle).functions n) (λ g. Some (definition_from (globals_of bundle) n 0 bundle));
+      body = λ n. with_some (slice_get (bundle_functions bundle) n) (λ f. Some f.first);
       tables = bundle_tables bundle;
     }

@@ -1,14 +1,17 @@
 -- Laws of a machine's step.
-use Rattle.std.specs.Prelude.{◌≡◌, ◌≢◌, List, None}
-use Rattle.std.proofs.Common.{sym, ◌∙◌, ap}
+use Rattle.std.specs.Prelude.{◌≡◌, ◌≢◌, List, [], None}
+use Rattle.std.proofs.Common.{sym, ◌∙◌, ap, subst}
 use Rattle.demands.specs.Demands.{first_unmet}
 use Rattle.ir_tree.specs.declared.items.Item.{Item}
 use Rattle.bundle_names.specs.Naming.{name_demands}
 use Rattle.bundle_check.specs.Checking.{check_demands}
 use Rattle.mu_model.specs.declared.endings.StepEnd.{StepEnd}
+use Rattle.mu_model.specs.declared.endings.StepEnd.TheVariants.{Went, Ended}
+use Rattle.mu_model.specs.declared.endings.Ending.{Ending}
+use Rattle.mu_model.specs.declared.lines.Line.{Line}
 use Rattle.mu_model.specs.Configuration.{Configuration}
 use Rattle.mu_model.specs.Programs.{named}
-use Rattle.mu_model.specs.Outcomes.{Stuck}
+use Rattle.mu_model.specs.Outcomes.{Outcome, Stuck}
 use Rattle.mu_model.specs.Step.{step}
 use Rattle.model_numbers.specs.Laws.{ProgramsAreSame}
 use Rattle.model_numbers.specs.Numbered.{numbered}
@@ -16,6 +19,7 @@ use Rattle.mu_model.specs.Run.{client_answers}
 use Rattle.thread_acts.specs.Outcome.{outcome_of}
 use Rattle.thread_acts.specs.Held.{Held, configuration}
 use Rattle.thread_acts.specs.Acting.{told}
+use Rattle.mu_step.specs.Running.{IsAgain}
 
 -- a step by numbers is one by names
 pub steps_there : (bundle : List Item) (c : Configuration) → ProgramsAreSame → first_unmet (name_demands bundle) ≡ None → first_unmet (check_demands bundle) ≡ None
@@ -27,4 +31,11 @@ pub steps_answer : (bundle : List Item) (s t : Held) (end : StepEnd) → Program
     → outcome_of end (configuration t) ≡ client_answers (named bundle) (configuration s).client (step (named bundle) (configuration s))
 steps_answer bundle s t end same are met h = h ∙ ap (λ p. client_answers p (configuration s).client (step p (configuration s))) (sym (same bundle are met))
 
-pub ruleset machines = (steps_there, steps_answer)
+-- what comes again: a step that went on says nothing of an ending, and one that ended says it without its lines
+pub went_again : (o : Outcome) (d : Configuration) (ls : List Line) (end : StepEnd) → outcome_of (Went ls) d ≡ o → IsAgain o end
+went_again o d ls end e = subst (λ (o : Outcome). IsAgain o end) e tt
+
+pub ended_again : (o : Outcome) (d : Configuration) (ls : List Line) (e : Ending) (end : StepEnd) → outcome_of (Ended ls e) d ≡ o → end ≡ Ended [] e → IsAgain o end
+ended_again o d ls e end same is = subst (λ (o : Outcome). IsAgain o end) same is
+
+pub ruleset machines = (steps_there, steps_answer, went_again, ended_again)

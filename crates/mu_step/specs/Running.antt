@@ -1,9 +1,22 @@
 -- To believe: what contracts see of a machine.
-use Rattle.std.specs.Prelude.{List}
+use Rattle.std.specs.Prelude.{◌≡◌, Bool, true, false, List, [], ⊤}
 use Rattle.ir_tree.specs.declared.items.Item.{Item}
+use Rattle.mu_model.specs.declared.endings.StepEnd.{StepEnd}
+use Rattle.mu_model.specs.declared.endings.StepEnd.TheVariants.{Went, Ended}
 use Rattle.mu_model.specs.Configuration.{Configuration}
+use Rattle.mu_model.specs.Outcomes.{Outcome, End}
 
--- the bundle that it runs, and where its run has come
+-- the bundle that it runs, where its run has come, and whether it has told the ending
 pub record Running : Type 0 where
   pub bundle : List Item
   pub configuration : Configuration
+  pub ended : Bool
+
+abbrev pub gives_ending : StepEnd → Bool
+gives_ending (Went ls) = false
+gives_ending (Ended ls e) = true
+
+-- an ending that comes again comes without lines
+abbrev pub IsAgain : Outcome → StepEnd → Type 0
+IsAgain (End ls e) end = end ≡ Ended [] e
+IsAgain o end = ⊤

@@ -53,7 +53,7 @@ fn perform<M: Memory, C: Determined>(
         Act::GivesValues => state.give(alloc, code, values, out),
         Act::Faults(case) => state.refuse(alloc, code, case, out),
         Act::Goes { block } => Ok(state.go(alloc, block, values)),
-        Act::Calls { function } => state.call(alloc, code, function, values),
+        Act::Calls { function } => state.call(alloc, code, function, room),
         Act::Replaces { function } => Ok(state.call_in_place(alloc, code, function, values)),
         Act::Returns => state.give_back(alloc, code, room, out),
         Act::Throws(exception) => state.throw(alloc, code, exception, out),

@@ -3,6 +3,7 @@
 
 mod acts;
 mod arriving;
+mod at_once;
 mod entering;
 mod machine;
 mod moving;

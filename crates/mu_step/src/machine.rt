@@ -1,18 +1,21 @@
 // The machine.
-ghost use Rattle.std.specs.Prelude.{◌≡◌, ◌≢◌, ℕ, ◌-◌, ◌≤◌, [], IsSome, IsSomeAnd, Some, IfOk, OnErr};
+ghost use Rattle.std.specs.Prelude.{◌≡◌, ◌≢◌, ℕ, ◌-◌, ◌≤◌, [], IsSome, IsSomeAnd, Some, IfOk, OnErr, true, false, ◌||◌};
 ghost use Rattle.bundle_check.specs.Checking.{bundle_tables};
+ghost use Rattle.mu_model.specs.declared.endings.StepEnd.TheVariants.{Went, Ended};
 ghost use Rattle.mu_model.specs.Programs.{named};
 ghost use Rattle.mu_model.specs.Outcomes.{Stuck};
 ghost use Rattle.mu_model.specs.Step.{step};
 ghost use Rattle.mu_model.specs.Run.{cells_taken, first_configuration, client_answers};
+ghost use Rattle.mu_step.specs.Running.{gives_ending, IsAgain};
 ghost use Rattle.thread_acts.specs.Outcome.{outcome_of, Stays};
 
+use crate::at_once::step_at_once;
 use crate::step::step;
 use bundle_check::Checked;
 use client_hooks::Determined;
 use mem_axioms::Memory;
 use model_numbers::programs_are_same;
-use mu_model::StepEnd;
+use mu_model::{Ending, Lines, StepEnd};
 use mu_threads::Schedule;
 use mu_values::Slots;
 use std::alloc::{AllocError, Global};
@@ -21,8 +24,8 @@ use step_forms::Room;
 use thread_acts::state::State;
 use typed_heap::Heap;
 
-/// A machine that runs checked code, over any memory and any client whose answers are a function of what it is shown. Contracts see the bundle and the configuration that its run has
-/// come to.
+/// A machine that runs checked code, over any memory and any client whose answers are a function of what it is shown. Contracts see the
+/// bundle, the configuration that its run has come to, and whether the run's ending was told.
 #[derive(Drop)]
 pub struct Machine<'a, M: Memory, C: Determined> {
     alloc: Global,
@@ -31,6 +34,7 @@ pub struct Machine<'a, M: Memory, C: Determined> {
     // What these hold between steps means nothing.
     room: Room,
     spare: Slots,
+    ended: bool,
 }
 
 impl<'a, M: Memory, C: Determined> Model for Machine<'a, M, C> {
@@ -40,7 +44,7 @@ impl<'a, M: Memory, C: Determined> Model for Machine<'a, M, C> {
 
     ghost Value = { Running };
 
-    ghost view = { λ m. record { bundle = m.code.now; configuration = configuration m.state } };
+    ghost view = { λ m. record { bundle = m.code.now; configuration = configuration m.state; ended = m.ended } };
 
     ghost invariant = { λ m. m.state.skip ≡ 0 };
 }
@@ -65,6 +69,7 @@ impl<'a, M: Memory + Drop, C: Determined + Drop> Machine<'a, M, C> {
         requires budget { budget ≤ 1000000 }
         requires body { IsSomeAnd ((named code.now).body entry) IsSome }
         ensures bundle { IfOk result (λ m. m.bundle ≡ code.now) }
+        ensures fresh { IfOk result (λ m. m.ended ≡ false) }
         ensures first { IfOk result (λ m. (cells : ℕ) → heap.left ≡ cells - cells_taken (bundle_tables code.now) heap.objects → first_configuration (named code.now) (record { objects = heap.objects; client = C.stands_for client; picks = picks; cells = cells; budget = budget; rule = M.rule memory }) entry ≡ Some m.configuration) }
     {
         let _items = code.items();
@@ -76,15 +81,48 @@ impl<'a, M: Memory + Drop, C: Determined + Drop> Machine<'a, M, C> {
             state,
             room: Room::new(alloc),
             spare: Slots::new(alloc),
+            ended: false,
         })
     }
 
-    /// One step of the run. At a trap the client answers, and goes past its answer where that is taken. Where no memory is found, and where the step gives the ending,
-    /// nothing changes, and the next step gives the same again.
+    /// Makes the next step where that is a frequent one, which writes nothing: an instruction that computes a scalar, or that only goes to a
+    /// block. It takes no memory once the lists of the block are long enough. Else nothing changes, and `step` makes it.
+    #[tactic(auto, using(crate::specs::Machines::machines))]
+    pub fn advance(&mut self) -> bool
+        requires there { client_answers (named self.old.bundle) self.old.configuration.client (step (named self.old.bundle) self.old.configuration) ≢ Stuck }
+        ensures made { result ≡ true → outcome_of (Went []) self.new.configuration ≡ client_answers (named self.old.bundle) self.old.configuration.client (step (named self.old.bundle) self.old.configuration) }
+        ensures bundle { self.new.bundle ≡ self.old.bundle }
+        ensures ended { self.new.ended ≡ self.old.ended }
+        ensures left { result ≡ false → self.new ≡ self.old }
+    {
+        let _items = self.code.items();
+        programs_are_same();
+        let code = self.code;
+        step_at_once(&mut self.state, code, &mut self.room.values)
+    }
+
+    /// Tells the ending: the first time with the lines of its step, and then with none.
+    fn end(&mut self, lines: Lines, ending: Ending) -> StepEnd
+        ensures first { self.old.ended ≡ false → result ≡ Ended lines ending }
+        ensures again { self.old.ended ≡ true → result ≡ Ended [] ending }
+        ensures new { self.new ≡ record self.old { ended = true } }
+    {
+        if self.ended {
+            StepEnd::Ended(Lines::new(self.alloc), ending)
+        } else {
+            self.ended = true;
+            StepEnd::Ended(lines, ending)
+        }
+    }
+
+    /// One step of the run. At a trap the client answers, and goes past its answer where that is taken. Where no memory is found nothing
+    /// changes. Where the step gives the ending the run stays where it is, and the next step gives the same ending, with no lines.
     #[tactic(auto, using(crate::specs::Machines::machines))]
     pub fn step(&mut self) -> Result<StepEnd, AllocError>
         requires there { client_answers (named self.old.bundle) self.old.configuration.client (step (named self.old.bundle) self.old.configuration) ≢ Stuck }
-        ensures ok { IfOk result (λ end. outcome_of end self.new.configuration ≡ client_answers (named self.old.bundle) self.old.configuration.client (step (named self.old.bundle) self.old.configuration)) }
+        ensures ok { IfOk result (λ end. self.old.ended ≡ false → outcome_of end self.new.configuration ≡ client_answers (named self.old.bundle) self.old.configuration.client (step (named self.old.bundle) self.old.configuration)) }
+        ensures again { IfOk result (λ end. self.old.ended ≡ true → IsAgain (client_answers (named self.old.bundle) self.old.configuration.client (step (named self.old.bundle) self.old.configuration)) end) }
+        ensures ended { IfOk result (λ end. self.new.ended ≡ (self.old.ended || gives_ending end)) }
         ensures bundle { self.new.bundle ≡ self.old.bundle }
         ensures err { OnErr result (self.new ≡ self.old) }
         ensures stays { IfOk result (λ end. Stays end self.old.configuration self.new.configuration) }
@@ -92,12 +130,17 @@ impl<'a, M: Memory + Drop, C: Determined + Drop> Machine<'a, M, C> {
         let _items = self.code.items();
         programs_are_same();
         let code = self.code;
-        step(
+        let made = step(
             &mut self.state,
             self.alloc,
             code,
             &mut self.room,
             &mut self.spare,
-        )
+        );
+        match made {
+            Ok(StepEnd::Went(lines)) => Ok(StepEnd::Went(lines)),
+            Ok(StepEnd::Ended(lines, ending)) => Ok(self.end(lines, ending)),
+            Err(refused) => Err(refused),
+        }
     }
 }

@@ -60,7 +60,7 @@ fn take_up<M: Memory, C: Determined>(state: &mut State<M, C>, thread: u32)
 
 /// Picks one of so many threads, and takes it up. The pick is looked at, and not taken yet.
 #[tactic(auto, using(thread_acts::specs::Hand::picks_thread))]
-fn pick_thread<M: Memory, C: Determined>(state: &mut State<M, C>, many: u32)
+pub(crate) fn pick_thread<M: Memory, C: Determined>(state: &mut State<M, C>, many: u32)
     requires many { many ≡ length (runnable_of state.old.seats) }
     requires some { 0 < many }
     requires room { state.old.steps < state.old.budget }
@@ -78,7 +78,7 @@ fn pick_thread<M: Memory, C: Determined>(state: &mut State<M, C>, many: u32)
 }
 
 /// The picks that were looked at are taken where the step was made, and else are left.
-fn settle<M: Memory, C: Determined>(state: &mut State<M, C>, made: bool)
+pub(crate) fn settle<M: Memory, C: Determined>(state: &mut State<M, C>, made: bool)
     ensures made { made ≡ true → configuration state.new ≡ configuration state.old }
     ensures left { made ≡ false → state.new ≡ record state.old { skip = 0 } }
     ensures whole { state.new.skip ≡ 0 }

@@ -1,8 +1,7 @@
--- With which statuses a part of the way ends.
-use Rattle.std.proofs.Common.{ℕ, List, Option, Some, None}
+-- With which answers a part of the way ends.
+use Rattle.std.proofs.Common.{◌≡◌, ℕ, List, refl, Option, Some, None}
 use Rattle.std.specs.Prelude.{Bool, Result, Ok, Err}
-use Rattle.mu_base.specs.declared.status.Status.{Status}
-use Rattle.mu_base.specs.declared.status.Status.TheVariants.{Refused, Memory}
+use Rattle.mu_base.specs.declared.status.Status.TheVariants.{Refused}
 use Rattle.demands.specs.declared.fault.Fault.{Fault}
 use Rattle.demands.specs.declared.fault.Fault.TheVariants as faults
 use Rattle.demands.specs.Demands.{first_unmet}
@@ -24,32 +23,32 @@ use Rattle.mu_threads.specs.ScheduleTexts.{schedule_demands, schedule_numbers}
 use Rattle.mu_texts.specs.declared.what.What.{What}
 use Rattle.mu_texts.specs.declared.what.What.TheVariants.{Bundle, Hail, Client, Schedule}
 use Rattle.mu_texts.specs.Refusals.{name_fault_name, check_fault_name, hail_fault_name, load_fault_name, script_fault_name, schedule_fault_name}
-use Rattle.mu_texts.specs.Answer.{Part, ◌>>=◌, read_part, met_part, named, checked, as_written, accepted, entry_part, entered, hail_part, filled_part, loaded, client_part, scheduled}
+use Rattle.mu_texts.specs.Answer.{Answer, no_answer, Part, ◌>>=◌, read_part, met_part, named, checked, as_written, accepted, entry_part, entered, hail_part, filled_part, loaded, client_part, scheduled}
 
--- an answer that ends the way has a status that is so
-abbrev pub StopsSo : (Status → Type 0) → {A : Type 0} → Part A → Type 0
+-- an answer that ends the way is so
+abbrev pub StopsSo : (Answer → Type 0) → {A : Type 0} → Part A → Type 0
 StopsSo P (Ok x) = Unit {0}
-StopsSo P (Err answer) = P answer.status
+StopsSo P (Err answer) = P answer
 
-pub then : (P : Status → Type 0) → {A B : Type 0} (part : Part A) (more : A → Part B) → StopsSo P part → ((x : A) → StopsSo P (more x)) → StopsSo P (part >>= more)
+pub then : (P : Answer → Type 0) → {A B : Type 0} (part : Part A) (more : A → Part B) → StopsSo P part → ((x : A) → StopsSo P (more x)) → StopsSo P (part >>= more)
 then P (Ok x) more s m = m x
 then P (Err answer) more s m = s
 
 -- what is asked of a text ends with a refusal alone
-module _ (P : Status → Type 0) (refused : P Refused) (memory : P Memory) where
+module _ (P : Answer → Type 0) (refused : (answer : Answer) → answer.status ≡ Refused → P answer) (memory : P no_answer) where
   reading : (r : Result (List Item) TextFault) → StopsSo P (read_part r)
   reading (Ok bundle) = tt
-  reading (Err (text_faults.At kind place)) = refused
+  reading (Err (text_faults.At kind place)) = refused _ refl
   reading (Err text_faults.Memory) = memory
 
   meeting : {K A : Type 0} (what : What) (name : K → List ℕ) (x : A) (fault : Option (Fault K)) → StopsSo P (met_part what name x fault)
   meeting what name x None = tt
-  meeting what name x (Some (faults.At kind place)) = refused
+  meeting what name x (Some (faults.At kind place)) = refused _ refl
   meeting what name x (Some faults.Memory) = memory
 
   entering : (r : Result ℕ EntryFault) → StopsSo P (entry_part r)
   entering (Ok n) = tt
-  entering (Err fault) = refused
+  entering (Err fault) = refused _ refl
 
   pub accepting : (bytes : List ℕ) → StopsSo P (accepted bytes)
   accepting bytes =

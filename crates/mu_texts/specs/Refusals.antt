@@ -40,12 +40,10 @@ name_fault_name name_kinds.Duplicate = codes "Duplicate"
 name_fault_name name_kinds.Unknown = codes "Unknown"
 name_fault_name name_kinds.WrongKind = codes "WrongKind"
 
--- want of memory is no fault of a type, so its name is never written
 abbrev pub type_fault_name : TypeKind → List ℕ
 type_fault_name type_kinds.EndlessType = codes "EndlessType"
 type_fault_name type_kinds.WrongArgument = codes "WrongArgument"
 type_fault_name type_kinds.TooManyLeaves = codes "TooManyLeaves"
-type_fault_name type_kinds.Memory = codes "Memory"
 
 abbrev pub const_fault_name : ConstKind → List ℕ
 const_fault_name const_kinds.OutOfWidth = codes "OutOfWidth"

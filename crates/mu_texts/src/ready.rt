@@ -19,7 +19,7 @@ pub enum Ready {
     Accepted,
     /// The bundle in canonical text.
     Canonical(Bundle),
-    /// What is told of a run of a checked bundle. It is one variant for each telling, since each place that drops what is ready is proved
+    /// What is told of a run of a checked bundle. One variant serves every telling, since each place that drops what is ready is proved
     /// part by part.
     Entered {
         code: Checked,

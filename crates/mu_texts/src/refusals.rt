@@ -59,7 +59,6 @@ fn type_fault_name(kind: TypeKind) -> &'static str
         TypeKind::EndlessType => "EndlessType",
         TypeKind::WrongArgument => "WrongArgument",
         TypeKind::TooManyLeaves => "TooManyLeaves",
-        TypeKind::Memory => "Memory",
     }
 }
 

@@ -3,6 +3,8 @@ use Rattle.std.proofs.Common.{◌≡◌, ℕ, true, false, List, Some, None, ref
 use Rattle.std.specs.Prelude.{nat_le}
 use Rattle.std.proofs.lemmas.Int.{clamps}
 use Rattle.std.proofs.lemmas.Bool.{lt-leb, le-leb}
+use Rattle.demands.specs.declared.fault.Fault.TheVariants.{At}
+use Rattle.demands.specs.Demands.{first_unmet}
 use Rattle.type_laws.specs.declared.definition.TypeDef.{TypeDef}
 use Rattle.std.specs.List.{All}
 use Rattle.std.proofs.Common.{get_or, subst, sym}
@@ -15,15 +17,15 @@ use Rattle.type_laws.specs.Leaves.{leaves}
 use Rattle.mu_types.specs.declared.limits.TheConstants.{MOST_LEAVES}
 use Rattle.mu_types.specs.declared.counting.TheConstants.{CAP}
 use Rattle.mu_types.specs.declared.faults.TypeKind.TheVariants.{EndlessType, TooManyLeaves}
-use Rattle.mu_types.specs.Tests.{first_unmet, endless_type, too_many_leaves, place}
+use Rattle.mu_types.specs.Tests.{endless_type, too_many_leaves, place}
 
-pub endless_some : (g : List TypeDef) (places : List (List ℕ)) (t : ℕ) → contains_itself g t ≡ true → first_unmet (endless_type g places t) ≡ Some (record { kind = EndlessType; place = place places t 0 })
+pub endless_some : (g : List TypeDef) (places : List (List ℕ)) (t : ℕ) → contains_itself g t ≡ true → first_unmet (endless_type g places t) ≡ Some (At EndlessType (place places t 0))
 endless_some g places t h = rw h refl
 
 pub endless_none : (g : List TypeDef) (places : List (List ℕ)) (t : ℕ) → contains_itself g t ≡ false → first_unmet (endless_type g places t) ≡ None
 endless_none g places t h = rw h refl
 
-pub many_some : (g : List TypeDef) (places : List (List ℕ)) (t : ℕ) → nat_le (length (leaves g t)) MOST_LEAVES ≡ false → first_unmet (too_many_leaves g places t) ≡ Some (record { kind = TooManyLeaves; place = place places t 0 })
+pub many_some : (g : List TypeDef) (places : List (List ℕ)) (t : ℕ) → nat_le (length (leaves g t)) MOST_LEAVES ≡ false → first_unmet (too_many_leaves g places t) ≡ Some (At TooManyLeaves (place places t 0))
 many_some g places t h = rw h refl
 
 pub many_none : (g : List TypeDef) (places : List (List ℕ)) (t : ℕ) → nat_le (length (leaves g t)) MOST_LEAVES ≡ true → first_unmet (too_many_leaves g places t) ≡ None

@@ -1,30 +1,32 @@
 -- Worked examples, to read beside the definitions: first faults, and the implied types of a small graph.
 use Rattle.std.specs.Prelude.{◌≡◌, ℕ, List, [], ◌∷◌, Some, None, length, slice_get, refl}
+use Rattle.demands.specs.declared.fault.Fault.TheVariants.{At}
+use Rattle.demands.specs.Demands.{first_unmet}
 use Rattle.type_laws.specs.declared.definition.TypeDef.TheVariants.{Int, Struct, Void, Ref, FuncRef, Sig}
 use Rattle.type_laws.specs.Parts.{leads}
 use Rattle.type_laws.specs.Leaves.{leaves_to}
 use Rattle.mu_types.specs.declared.faults.TypeKind.TheVariants.{EndlessType, WrongArgument}
 use Rattle.mu_types.specs.Implied.{complete}
-use Rattle.mu_types.specs.Tests.{first_fault}
+use Rattle.mu_types.specs.Tests.{written_demands}
 
 -- struct<itself> whose name stands at byte 9
-pub endless_at_its_name : first_fault (record { definitions = Struct (0 ∷ []) ∷ []; places = (9 ∷ 21 ∷ []) ∷ [] }) ≡ Some (record { kind = EndlessType; place = 9 })
+pub endless_at_its_name : first_unmet (written_demands (record { definitions = Struct (0 ∷ []) ∷ []; places = (9 ∷ 21 ∷ []) ∷ [] })) ≡ Some (At EndlessType 9)
 unfolding leads leaves_to
 endless_at_its_name = refl
 
 -- a struct of a reference to it
-pub through_a_reference : first_fault (record { definitions = Struct (1 ∷ []) ∷ Ref 0 ∷ []; places = (9 ∷ 21 ∷ []) ∷ (34 ∷ 43 ∷ []) ∷ [] }) ≡ None
+pub through_a_reference : first_unmet (written_demands (record { definitions = Struct (1 ∷ []) ∷ Ref 0 ∷ []; places = (9 ∷ 21 ∷ []) ∷ (34 ∷ 43 ∷ []) ∷ [] })) ≡ None
 unfolding leads leaves_to
 through_a_reference = refl
 
 -- a width of 12, at the width
-pub width_of_12 : first_fault (record { definitions = Int 12 ∷ []; places = (9 ∷ 18 ∷ []) ∷ [] }) ≡ Some (record { kind = WrongArgument; place = 18 })
+pub width_of_12 : first_unmet (written_demands (record { definitions = Int 12 ∷ []; places = (9 ∷ 18 ∷ []) ∷ [] })) ≡ Some (At WrongArgument 18)
 unfolding leads leaves_to
 width_of_12 = refl
 
 -- all arguments come before all types that contain themselves: the second type's field is void
-pub arguments_come_first : first_fault (record { definitions = Struct (0 ∷ []) ∷ Struct (2 ∷ []) ∷ Void ∷ []; places = (9 ∷ 21 ∷ []) ∷ (34 ∷ 46 ∷ []) ∷ (59 ∷ []) ∷ [] })
-    ≡ Some (record { kind = WrongArgument; place = 46 })
+pub arguments_come_first : first_unmet (written_demands (record { definitions = Struct (0 ∷ []) ∷ Struct (2 ∷ []) ∷ Void ∷ []; places = (9 ∷ 21 ∷ []) ∷ (34 ∷ 46 ∷ []) ∷ (59 ∷ []) ∷ [] }))
+    ≡ Some (At WrongArgument 46)
 unfolding leads leaves_to
 arguments_come_first = refl
 

@@ -1,29 +1,21 @@
--- To believe: what the written types must meet: one ordered list of tests, each with the fault that it names where it is not met.
-use Rattle.std.specs.Prelude.{ℕ, zero, suc, ◌+◌, Bool, true, false, not, cond, ◌&&◌, ◌==◌, nat_le, List, [], ◌∷◌, ◌++◌, length, Option, Some, None, slice_get, slice_index, slice_index_or}
+-- To believe: the demands on written types, in their order.
+use Rattle.std.specs.Prelude.{ℕ, zero, suc, ◌+◌, Bool, true, false, not, ◌&&◌, ◌==◌, nat_le, List, [], length, Option, Some, None, slice_get, slice_index, slice_index_or}
 use Rattle.std.specs.List.{list_any}
+use Rattle.demands.specs.Demands.{Demands, none, demand, ◌⨾◌}
 use Rattle.type_laws.specs.declared.definition.TypeDef.{TypeDef}
 use Rattle.type_laws.specs.declared.definition.TypeDef.TheVariants.{Int, Struct, Array, Hybrid, Void}
 use Rattle.type_laws.specs.Parts.{contains_itself}
 use Rattle.type_laws.specs.Leaves.{leaves}
 use Rattle.mu_types.specs.declared.limits.TheConstants.{WIDTHS, LONGEST_ARRAY, MOST_LEAVES}
-use Rattle.mu_types.specs.declared.faults.TypeFault.{TypeFault}
+use Rattle.mu_types.specs.declared.faults.TypeKind.{TypeKind}
 use Rattle.mu_types.specs.declared.faults.TypeKind.TheVariants.{EndlessType, WrongArgument, TooManyLeaves}
 use Rattle.mu_types.specs.Graph.{Written}
 use Rattle.mu_types.specs.Implied.{complete}
 
-pub record Test : Type 0 where
-  pub met : Bool
-  pub fault : TypeFault
-
--- the fault of the first test that is not met
-abbrev pub first_unmet : List Test → Option TypeFault
-first_unmet [] = None
-first_unmet (test ∷ tests) = cond test.met (first_unmet tests) (Some test.fault)
-
--- the tests of so many numbers from the first on, in order
-abbrev pub each : (ℕ → List Test) → ℕ → ℕ → List Test
-each tests zero first = []
-each tests (suc many) first = tests first ++ each tests many (suc first)
+-- the demands of so many numbers from the first on, in order
+abbrev pub each : (ℕ → Demands TypeKind) → ℕ → ℕ → Demands TypeKind
+each demands zero first = none
+each demands (suc many) first = demands first ⨾ each demands many (suc first)
 
 -- whether values of the type can be parts of others: not those of void or of a hybrid
 abbrev pub can_be_part : Option TypeDef → Bool
@@ -53,27 +45,26 @@ allows graph _ k = true
 abbrev pub place : List (List ℕ) → ℕ → ℕ → ℕ
 place places t k = slice_index (slice_index_or places t []) k
 
-abbrev pub argument_tests : List TypeDef → List (List ℕ) → ℕ → Option TypeDef → List Test
-argument_tests graph places t None = []
-argument_tests graph places t (Some d) =
-    each (λ k. record { met = allows graph d k; fault = record { kind = WrongArgument; place = place places t (k + 1) } } ∷ []) (judged d) 0
+abbrev pub argument_demands : List TypeDef → List (List ℕ) → ℕ → Option TypeDef → Demands TypeKind
+argument_demands graph places t None = none
+argument_demands graph places t (Some d) = each (λ k. demand (place places t (k + 1)) WrongArgument (allows graph d k)) (judged d) 0
 
 -- the arguments of definition t
-abbrev pub wrong_arguments : List TypeDef → List (List ℕ) → ℕ → List Test
-wrong_arguments graph places t = argument_tests graph places t (slice_get graph t)
+abbrev pub wrong_arguments : List TypeDef → List (List ℕ) → ℕ → Demands TypeKind
+wrong_arguments graph places t = argument_demands graph places t (slice_get graph t)
 
 -- definition t does not contain itself
-abbrev pub endless_type : List TypeDef → List (List ℕ) → ℕ → List Test
-endless_type graph places t = record { met = not (contains_itself graph t); fault = record { kind = EndlessType; place = place places t 0 } } ∷ []
+abbrev pub endless_type : List TypeDef → List (List ℕ) → ℕ → Demands TypeKind
+endless_type graph places t = demand (place places t 0) EndlessType (not (contains_itself graph t))
 
 -- definition t has few leaves; of a hybrid the fixed ones count
-abbrev pub too_many_leaves : List TypeDef → List (List ℕ) → ℕ → List Test
-too_many_leaves graph places t = record { met = nat_le (length (leaves graph t)) MOST_LEAVES; fault = record { kind = TooManyLeaves; place = place places t 0 } } ∷ []
+abbrev pub too_many_leaves : List TypeDef → List (List ℕ) → ℕ → Demands TypeKind
+too_many_leaves graph places t = demand (place places t 0) TooManyLeaves (nat_le (length (leaves graph t)) MOST_LEAVES)
 
 -- three passes over the definitions: the arguments of all, then whether one contains itself, then their leaves
-abbrev pub passes : List TypeDef → List (List ℕ) → ℕ → List Test
-passes graph places many = each (wrong_arguments graph places) many 0 ++ each (endless_type graph places) many 0 ++ each (too_many_leaves graph places) many 0
+abbrev pub passes : List TypeDef → List (List ℕ) → ℕ → Demands TypeKind
+passes graph places many = each (wrong_arguments graph places) many 0 ⨾ each (endless_type graph places) many 0 ⨾ each (too_many_leaves graph places) many 0
 
--- the first fault of a graph of written types, None where there is none
-abbrev pub first_fault : Written → Option TypeFault
-first_fault written = first_unmet (passes (complete written.definitions) written.places (length written.definitions))
+-- the demands on a graph of written types
+abbrev pub written_demands : Written → Demands TypeKind
+written_demands written = passes (complete written.definitions) written.places (length written.definitions)

@@ -2,7 +2,8 @@
 ghost use Rattle.std.specs.Prelude.{◌≡◌, ℕ, ◌+◌, ◌*◌, ◌<◌, ◌≤◌, suc, min, Option, None, Some, length, slice_get, slice_index, vec_len, IfOk};
 ghost use Rattle.std.specs.List.{sum_by};
 ghost use Rattle.type_laws.specs.Counts.{count_by};
-ghost use Rattle.mu_types.specs.Tests.{too_many_leaves, first_unmet, each};
+ghost use Rattle.demands.specs.Demands.{first_unmet};
+ghost use Rattle.mu_types.specs.Tests.{too_many_leaves, each};
 ghost use Rattle.type_laws.specs.Leaves.{leaves};
 ghost use Rattle.type_laws.specs.Same.{IsGraph};
 ghost use Rattle.type_laws.specs.Ranks.{AreRanked};
@@ -146,7 +147,7 @@ pub fn first_too_many(
     for t in 0..many {
         if at(counts, t) > MOST_LEAVES {
             let place = place_of(places, t, 0);
-            return Some(TypeFault {
+            return Some(TypeFault::At {
                 kind: TypeKind::TooManyLeaves,
                 place,
             });

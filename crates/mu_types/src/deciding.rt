@@ -1,14 +1,15 @@
 // Judges a graph, and says what is the same in it.
-ghost use Rattle.std.specs.Prelude.{◌≡◌, ◌≢◌, ℕ, ◌+◌, ◌-◌, ◌*◌, ◌^◌, ◌<◌, ◌≤◌, Some, None, length, vec_len, IfOk, IfErr, OnOk};
+ghost use Rattle.std.specs.Prelude.{◌≡◌, ℕ, ◌+◌, ◌-◌, ◌*◌, ◌^◌, ◌<◌, ◌≤◌, length, vec_len, IfOk};
+ghost use Rattle.demands.specs.Demands.{Meets};
 ghost use Rattle.type_laws.specs.Partition.{IsLeast};
 ghost use Rattle.type_laws.specs.Same.{IsGraph};
 ghost use Rattle.mu_types.specs.Implied.{complete};
 ghost use Rattle.mu_types.specs.References.{Referred, IsHeaded};
-ghost use Rattle.mu_types.specs.Tests.{first_fault, first_unmet, passes};
+ghost use Rattle.mu_types.specs.Tests.{passes, written_demands};
 
 use super::counting::{counts_of, first_too_many};
 use super::endless::first_endless;
-use super::faults::{TypeFault, TypeKind};
+use super::faults::TypeFault;
 use super::graph::TypeGraph;
 use super::implied::{Whole, complete_graph};
 use super::judging::first_wrong_argument;
@@ -30,8 +31,7 @@ fn judge(
 ) -> Result<Vec<usize>, TypeFault>
     requires many { many ≤ length all.now }
     requires graph { IsGraph all.now }
-    ensures accepted { OnOk result (first_unmet (passes all.now places.now many) ≡ None) }
-    ensures refused { IfErr result (λ fault. fault.kind ≢ TypeKind.Memory → first_unmet (passes all.now places.now many) ≡ Some fault) }
+    ensures { Meets (passes all.now places.now many) result }
 {
     if let Some(fault) = first_wrong_argument(all, places, many) {
         return Err(fault);
@@ -79,8 +79,7 @@ fn hold(alloc: Global, whole: Whole, written: usize, rank: &[usize]) -> Result<C
 pub fn classes(alloc: Global, graph: TypeGraph) -> Result<Classes, TypeFault>
     requires graph { IsGraph graph.definitions }
     requires few { 3 * length graph.definitions + 7 < 2 ^ 32 - 1 }
-    ensures accepted { OnOk result (first_fault graph ≡ None) }
-    ensures refused { IfErr result (λ fault. fault.kind ≢ TypeKind.Memory → first_fault graph ≡ Some fault) }
+    ensures met { Meets (written_demands graph) result }
     ensures definitions { IfOk result (λ c. c.definitions ≡ complete graph.definitions) }
     ensures written { IfOk result (λ c. c.written ≡ length graph.definitions) }
 {

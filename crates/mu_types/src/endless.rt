@@ -3,7 +3,8 @@ ghost use Rattle.std.specs.Prelude.{◌≡◌, ℕ, ◌+◌, ◌<◌, ◌≤◌,
 ghost use Rattle.std.specs.List.{list_any, All};
 ghost use Rattle.type_laws.specs.Parts.{parts, parts_at, leads, contains_itself};
 ghost use Rattle.type_laws.specs.Ranks.{Descends, IsFree};
-ghost use Rattle.mu_types.specs.Tests.{endless_type, first_unmet, each};
+ghost use Rattle.demands.specs.Demands.{first_unmet};
+ghost use Rattle.mu_types.specs.Tests.{endless_type, each};
 ghost use Rattle.mu_types.specs.Walks.{Marks, is_marked};
 
 use super::faults::{TypeFault, TypeKind};
@@ -213,7 +214,7 @@ pub fn first_endless(
     for t in 0..many {
         if is_endless(alloc, all, rank, descending, t)? {
             let place = place_of(places, t, 0);
-            return Ok(Some(TypeFault {
+            return Ok(Some(TypeFault::At {
                 kind: TypeKind::EndlessType,
                 place,
             }));

@@ -1,11 +1,8 @@
 // What is wrong with a graph of types.
-ghost use Rattle.std.specs.Prelude.{◌≡◌};
-ghost use Rattle.mu_types.specs.declared.faults.TypeKind.TheVariants.{Memory};
-
-use std::alloc::AllocError;
+use demands::Fault;
 use thiserror::Error;
 
-/// What is wrong.
+/// What is wrong with a type.
 #[derive(Clone, Copy, Debug, PartialEq, Eq, Error)]
 pub enum TypeKind {
     /// The type contains itself through structs, arrays and hybrids.
@@ -17,29 +14,8 @@ pub enum TypeKind {
     /// The type has more leaves than are allowed.
     #[error("the type has too many leaves")]
     TooManyLeaves,
-    /// No memory was found.
-    #[error("out of memory")]
-    Memory,
 }
 
-/// What is wrong and where: the place of an argument for `WrongArgument`, of the type's name for `EndlessType` and `TooManyLeaves`;
-/// for `Memory` it says nothing.
-#[derive(Clone, Copy, Debug, PartialEq, Eq, Error)]
-#[error("{kind} at {place}")]
-pub struct TypeFault {
-    /// What is wrong.
-    pub kind: TypeKind,
-    /// A place, as it was given to `TypeGraph::add`.
-    pub place: usize,
-}
-
-impl From<AllocError> for TypeFault {
-    ghost from_gives = { λ _ fault. fault.kind ≡ Memory };
-
-    fn from(_: AllocError) -> Self {
-        TypeFault {
-            kind: TypeKind::Memory,
-            place: 0,
-        }
-    }
-}
+/// Why a graph of types is refused: the first demand that is not met, or want of memory. The place, as it was given to
+/// `TypeGraph::add`, is that of an argument for `WrongArgument`, and of the type's name for the others.
+pub type TypeFault = Fault<TypeKind>;

@@ -1,7 +1,8 @@
 // The first pass: the arguments of each definition.
 ghost use Rattle.std.specs.Prelude.{◌≡◌, ℕ, ◌+◌, ◌<◌, ◌≤◌, ◌==◌, Option, None, Some, length, slice_get, slice_index};
 ghost use Rattle.std.specs.List.{list_any};
-ghost use Rattle.mu_types.specs.Tests.{can_be_part, judged, allows, place, argument_tests, wrong_arguments, first_unmet, each};
+ghost use Rattle.demands.specs.Demands.{first_unmet};
+ghost use Rattle.mu_types.specs.Tests.{can_be_part, judged, allows, place, wrong_arguments, each};
 
 use super::faults::{TypeFault, TypeKind};
 use super::limits::{LONGEST_ARRAY, WIDTHS};
@@ -80,7 +81,7 @@ fn wrong_argument(all: &[TypeDef], places: &[Listing<u32>], t: usize) -> Option<
     for k in 0..judged_arguments(definition) {
         if !is_allowed(all, definition, k) {
             let place = place_of(places, t, k + 1);
-            return Some(TypeFault {
+            return Some(TypeFault::At {
                 kind: TypeKind::WrongArgument,
                 place,
             });

@@ -32,7 +32,7 @@ fn fault_of(alloc: Global, definition: TypeDef) -> Result<Option<TypeFault>, All
 }
 
 fn fault(kind: TypeKind, place: usize) -> Option<TypeFault> {
-    Some(TypeFault { kind, place })
+    Some(TypeFault::At { kind, place })
 }
 
 #[test]
@@ -279,9 +279,10 @@ fn measures_great_graphs(rt: HostRuntime) -> Result<(), Fail> {
         println!(rt; "graph {kind}: {end} ms")?;
         let is_met = match known {
             Some(Ok(_)) => kind < 8,
-            Some(Err(found)) => kind == 8 && found.kind == TypeKind::EndlessType
-                || kind == 9 && found.kind == TypeKind::TooManyLeaves,
-            None => false,
+            Some(Err(TypeFault::At { kind: found, .. })) => kind == 8
+                && found == TypeKind::EndlessType
+                || kind == 9 && found == TypeKind::TooManyLeaves,
+            _ => false,
         };
         assert!(rt; is_met);
     }
@@ -384,7 +385,7 @@ fn compare(alloc: Global, dice: &mut Dice, tally: &mut Tally) -> Result<(), Allo
                 _ => count_one(&mut tally.many),
             }
             let is_met = match known {
-                Some(Err(found)) => found.kind == kind && found.place == place,
+                Some(Err(found)) => found == (TypeFault::At { kind, place }),
                 _ => false,
             };
             if !is_met {

@@ -112,10 +112,13 @@ fn append_each(made: &Made, constants: &[u32], out: &mut Vec<Scalar>) -> Result<
     Ok(())
 }
 
-fn joined(alloc: Global, made: &Made, constants: &[u32]) -> Result<Value, AllocError>
+// The values of some constants one after another. Room for that many scalars is made first, so that a list which has as many is not
+// moved as it grows.
+fn joined(alloc: Global, made: &Made, constants: &[u32], many: usize) -> Result<Value, AllocError>
     ensures { IfOk result (λ v. v.members ≡ flat_map (value_at made.now) constants.now) }
 {
     let mut scalars = Vec::new(alloc);
+    scalars.reserve(many)?;
     append_each(made, constants, &mut scalars)?;
     Ok(Items::from_vec(scalars))
 }
@@ -146,6 +149,8 @@ pub fn make_const(
             *magnitude,
         ),
         LiteralKind::Null => one(alloc, Scalar::Null),
-        LiteralKind::Members { constants, .. } => joined(alloc, made, constants.as_slice()),
+        LiteralKind::Members { constants, .. } => {
+            joined(alloc, made, constants.as_slice(), classes.leaves(t).len())
+        }
     }
 }

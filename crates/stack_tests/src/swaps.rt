@@ -38,10 +38,13 @@ fn enter(
     number: u32,
     passed: Passed,
 ) -> Result<ActiveStack, &'static str>
-    requires { number < length all.old }
+    ensures there { OnOk result (number < length all.old) }
     ensures number { IfOk result (λ s. s.number ≡ number) }
     ensures active { OnOk result (all.new ≡ slice_set all.old number (Active 5)) }
 {
+    if number >= all.count() {
+        return Err("there is such a stack");
+    }
     let stack = all.take(number, 5).map_err(|_| "the stack is ready")?;
     let bound = stack.bind_values(5, passed);
     let mut bound = bound.map_err(|_| "the stack waits for these types")?;
@@ -52,21 +55,42 @@ fn enter(
     Ok(bound)
 }
 
-// What the directory tells once the thread has gone from stack 0, which waits for a value of class 8, to stack 1.
-fn swapped(rt: &impl Abort, all: &Directory)
-    requires { length all.now ≡ 2 }
-{
-    assert_eq!(rt; all.count(), 2);
-    assert_eq!(rt; all.state_of(0), StackState::Ready);
-    assert_eq!(rt; all.state_of(1), StackState::Active(5));
-    assert!(rt; all.ready(1).is_none());
-    match all.ready(0) {
-        Some(stack) => {
-            assert_eq!(rt; stack.number(), 0);
-            assert_eq!(rt; stack.waits().as_slice(), [8].as_slice());
-        }
-        None => assert!(rt; false, "stack 0 is ready"),
+fn is_on_thread_5(rt: &impl Abort, stack: &ActiveStack, number: u32, frames: u32) {
+    assert_eq!(rt; stack.number(), number);
+    assert_eq!(rt; stack.thread(), 5);
+    assert_eq!(rt; stack.frames().count(), frames);
+}
+
+fn state_of(all: &Directory, number: u32) -> Option<StackState> {
+    if number < all.count() {
+        Some(all.state_of(number))
+    } else {
+        None
     }
+}
+
+fn has_states(rt: &impl Abort, all: &Directory, first: StackState, second: StackState) {
+    assert_eq!(rt; all.count(), 2);
+    assert_eq!(rt; state_of(all, 0), Some(first));
+    assert_eq!(rt; state_of(all, 1), Some(second));
+}
+
+// The types that a stack waits for which is ready, where its number is that.
+fn waits_of(all: &Directory, number: u32) -> Option<&[u32]> {
+    if number >= all.count() {
+        return None;
+    }
+    match all.ready(number) {
+        Some(stack) if stack.number() == number => Some(stack.waits().as_slice()),
+        _ => None,
+    }
+}
+
+// What the directory tells once the thread has gone from stack 0, which waits for a value of class 8, to stack 1.
+fn swapped(rt: &impl Abort, all: &Directory) {
+    has_states(rt, all, StackState::Ready, StackState::Active(5));
+    assert_eq!(rt; waits_of(all, 1), None);
+    assert_eq!(rt; waits_of(all, 0), Some([8].as_slice()));
 }
 
 // A thread that leaves stack 0 goes on on it, where it did not stand in the directory since.
@@ -75,38 +99,31 @@ fn leave_and_go_back(
     all: &mut Directory,
     passed: Passed,
     waits: Types,
-) -> Result<(), &'static str>
-    requires { length all.old ≡ 2 }
-{
+) -> Result<(), &'static str> {
     let stack = enter(rt, all, 0, passed)?.unbind(waits);
     let bound = stack.back(5);
-    assert_eq!(rt; bound.number(), 0);
-    assert_eq!(rt; bound.thread(), 5);
-    assert_eq!(rt; bound.frames().count(), 1);
-    assert_eq!(rt; all.state_of(0), StackState::Active(5));
-    assert_eq!(rt; all.state_of(1), StackState::Ready);
-    assert_eq!(rt; all.count(), 2);
+    is_on_thread_5(rt, &bound, 0, 1);
+    has_states(rt, all, StackState::Active(5), StackState::Ready);
     Ok(())
 }
 
-// Thread 5 leaves stack 0, which goes back to the directory, and goes on on stack 1.
+// Thread 5 leaves stack 0, which goes back to the directory.
 #[tactic(auto, using(stacks::proofs::Writes::get_written))]
-fn swap(
+fn leave_first(
     rt: &impl Abort,
     all: &mut Directory,
     waits: Types,
-    first: Passed,
-    second: Passed,
-) -> Result<(), &'static str>
-    requires { length all.old ≡ 2 }
-{
-    let left = enter(rt, all, 0, first)?.unbind(waits);
+    passed: Passed,
+) -> Result<(), &'static str> {
+    let left = enter(rt, all, 0, passed)?.unbind(waits);
     all.put_back(left);
-    let bound = enter(rt, all, 1, second)?;
-    assert_eq!(rt; bound.number(), 1);
-    assert_eq!(rt; bound.thread(), 5);
-    assert_eq!(rt; bound.frames().count(), 2);
-    swapped(rt, all);
+    Ok(())
+}
+
+// Thread 5 goes on on stack 1.
+fn enter_second(rt: &impl Abort, all: &mut Directory, passed: Passed) -> Result<(), &'static str> {
+    let bound = enter(rt, all, 1, passed)?;
+    is_on_thread_5(rt, &bound, 1, 2);
     Ok(())
 }
 
@@ -116,7 +133,9 @@ fn swaps_two_stacks(rt: HostRuntime) -> Result<(), Fail> {
     let first = null_of(rt.alloc(), 4)?;
     let second = null_of(rt.alloc(), 6)?;
     let mut all = two_stacks(rt.alloc())?;
-    swap(&rt, &mut all, waits, first, second)?;
+    leave_first(&rt, &mut all, waits, first)?;
+    enter_second(&rt, &mut all, second)?;
+    swapped(&rt, &all);
     Ok(())
 }
 

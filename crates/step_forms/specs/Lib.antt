@@ -1,5 +1,6 @@
 pub mod AccessLaws
 pub mod Asked
+pub mod AtOnce
 pub mod Classes
 pub mod ConstantLaws
 pub mod OperandLaws

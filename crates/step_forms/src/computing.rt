@@ -7,9 +7,10 @@ ghost use Rattle.mu_model.specs.Types.{class_width};
 ghost use Rattle.mu_model.specs.ComputationForms.{result_or_fault, bit, binary_act, compare_act, convert_act, refcast_act, select_act, extractvalue_act, insertvalue_act};
 ghost use Rattle.model_numbers.specs.Sources.{value_at};
 ghost use Rattle.step_forms.specs.Asked.{asked, lists_of, Lists};
+ghost use Rattle.step_forms.specs.AtOnce.{scalar_or_fault};
 
 use crate::act::Act;
-use crate::operands::{is_one, push_value, read, scalar, scalars};
+use crate::operands::{is_one, read, scalar, scalars};
 use crate::parts::divided;
 use crate::room::Room;
 use crate::variables::Variables;
@@ -20,17 +21,50 @@ use mu_types::TypeDef;
 use mu_values::{BinOp, CmpOp, ConvOp, Scalar};
 use std::alloc::AllocError;
 
-fn result_or_fault(width: u32, computed: Option<u128>) -> Act
-    ensures { (ls : Lists) → asked result ls ≡ result_or_fault width computed }
+/// The integer with these bits, where any were computed.
+fn integer(width: u32, computed: Option<u128>) -> Option<Scalar>
+    ensures { scalar_or_fault result ≡ result_or_fault width computed }
 {
     match computed {
-        Some(bits) => Act::Gives(Scalar::Int { width, bits }),
+        Some(bits) => Some(Scalar::Int { width, bits }),
+        None => None,
+    }
+}
+
+/// What ADD and its like give. None comes exactly where a divisor is 0. The width is that of the operands.
+#[tactic(auto, using(crate::specs::OperandLaws::operands))]
+pub(crate) fn binary_scalar(
+    code: &Checked,
+    vars: &Variables,
+    op: BinOp,
+    class: u32,
+    left: Source,
+    right: Source,
+) -> Option<Scalar>
+    requires { IsSome (binary_act (bundle_tables code.now) op class (value_at code.now vars.now left) (value_at code.now vars.now right)) }
+    ensures { binary_act (bundle_tables code.now) op class (value_at code.now vars.now left) (value_at code.now vars.now right) ≡ Some (scalar_or_fault result) }
+{
+    let a = scalar(code, vars, left);
+    let b = scalar(code, vars, right);
+    match (a, b) {
+        (Scalar::Int { width, bits: a }, Scalar::Int { bits: b, .. }) => integer(
+            width,
+            mu_values::binary(op, width, a, b),
+        ),
+        _ => unreachable!(),
+    }
+}
+
+fn given_or_fault(computed: Option<Scalar>) -> Act
+    ensures { (ls : Lists) → asked result ls ≡ scalar_or_fault computed }
+{
+    match computed {
+        Some(scalar) => Act::Gives(scalar),
         None => Act::Faults(Case::DivideByZero),
     }
 }
 
-/// ADD and its like. The width is that of the operands.
-#[tactic(auto, using(crate::specs::OperandLaws::operands))]
+/// ADD and its like.
 pub fn binary(
     code: &Checked,
     vars: &Variables,
@@ -42,15 +76,7 @@ pub fn binary(
     requires { IsSome (binary_act (bundle_tables code.now) op class (value_at code.now vars.now left) (value_at code.now vars.now right)) }
     ensures { (ls : Lists) → binary_act (bundle_tables code.now) op class (value_at code.now vars.now left) (value_at code.now vars.now right) ≡ Some (asked result ls) }
 {
-    let a = scalar(code, vars, left);
-    let b = scalar(code, vars, right);
-    match (a, b) {
-        (Scalar::Int { width, bits: a }, Scalar::Int { bits: b, .. }) => result_or_fault(
-            width,
-            mu_values::binary(op, width, a, b),
-        ),
-        _ => unreachable!(),
-    }
+    given_or_fault(binary_scalar(code, vars, op, class, left, right))
 }
 
 fn bit(holds: bool) -> u128
@@ -59,16 +85,30 @@ fn bit(holds: bool) -> u128
     if holds { 1 } else { 0 }
 }
 
-/// EQ and its like.
+/// What EQ and its like give.
 #[tactic(auto, using(crate::specs::OperandLaws::comparisons))]
-pub fn compare(code: &Checked, vars: &Variables, op: CmpOp, left: Source, right: Source) -> Act
+pub(crate) fn compare_scalar(
+    code: &Checked,
+    vars: &Variables,
+    op: CmpOp,
+    left: Source,
+    right: Source,
+) -> Scalar
     requires { IsSome (compare_act op (value_at code.now vars.now left) (value_at code.now vars.now right)) }
-    ensures { (ls : Lists) → compare_act op (value_at code.now vars.now left) (value_at code.now vars.now right) ≡ Some (asked result ls) }
+    ensures { compare_act op (value_at code.now vars.now left) (value_at code.now vars.now right) ≡ Some (acts.Gives ((result ∷ []) ∷ [])) }
 {
     let a = scalar(code, vars, left);
     let b = scalar(code, vars, right);
     let bits = bit(mu_values::compare(op, &a, &b));
-    Act::Gives(Scalar::Int { width: 1, bits })
+    Scalar::Int { width: 1, bits }
+}
+
+/// EQ and its like.
+pub fn compare(code: &Checked, vars: &Variables, op: CmpOp, left: Source, right: Source) -> Act
+    requires { IsSome (compare_act op (value_at code.now vars.now left) (value_at code.now vars.now right)) }
+    ensures { (ls : Lists) → compare_act op (value_at code.now vars.now left) (value_at code.now vars.now right) ≡ Some (asked result ls) }
+{
+    Act::Gives(compare_scalar(code, vars, op, left, right))
 }
 
 /// The width of the ints of a class.
@@ -84,8 +124,35 @@ fn width(code: &Checked, class: u32) -> u32
     }
 }
 
-/// TRUNC, ZEXT and SEXT. The width before is that of the operand.
+/// What TRUNC, ZEXT and SEXT give. The width before is that of the operand.
 #[tactic(auto, using(crate::specs::OperandLaws::conversions_there))]
+pub(crate) fn convert_scalar(
+    code: &Checked,
+    vars: &Variables,
+    op: ConvOp,
+    from: u32,
+    to: u32,
+    operand: Source,
+) -> Scalar
+    requires { IsSome (convert_act (bundle_tables code.now) op from to (value_at code.now vars.now operand)) }
+    ensures { convert_act (bundle_tables code.now) op from to (value_at code.now vars.now operand) ≡ Some (acts.Gives ((result ∷ []) ∷ [])) }
+{
+    match scalar(code, vars, operand) {
+        Scalar::Int {
+            width: before,
+            bits,
+        } => {
+            let after = width(code, to);
+            Scalar::Int {
+                width: after,
+                bits: mu_values::convert(op, before, after, bits),
+            }
+        }
+        _ => unreachable!(),
+    }
+}
+
+/// TRUNC, ZEXT and SEXT.
 pub fn convert(
     code: &Checked,
     vars: &Variables,
@@ -97,19 +164,7 @@ pub fn convert(
     requires { IsSome (convert_act (bundle_tables code.now) op from to (value_at code.now vars.now operand)) }
     ensures { (ls : Lists) → convert_act (bundle_tables code.now) op from to (value_at code.now vars.now operand) ≡ Some (asked result ls) }
 {
-    match scalar(code, vars, operand) {
-        Scalar::Int {
-            width: before,
-            bits,
-        } => {
-            let after = width(code, to);
-            Act::Gives(Scalar::Int {
-                width: after,
-                bits: mu_values::convert(op, before, after, bits),
-            })
-        }
-        _ => unreachable!(),
-    }
+    Act::Gives(convert_scalar(code, vars, op, from, to, operand))
 }
 
 /// REFCAST
@@ -124,6 +179,20 @@ pub fn refcast(code: &Checked, vars: &Variables, class: u32, operand: Source) ->
     }
 }
 
+/// A value is given: as itself where it is one scalar, else by way of the room.
+fn give_value(value: &[Scalar], room: &mut Room) -> Result<Act, AllocError>
+    ensures { IfOk result (λ act. asked act (lists_of room.new) ≡ acts.Gives (value.now ∷ [])) }
+{
+    match value {
+        [scalar] => Ok(Act::Gives(*scalar)),
+        _ => {
+            room.values.clear();
+            room.values.push_slice(value)?;
+            Ok(Act::GivesValues)
+        }
+    }
+}
+
 /// The value of an operand is given.
 #[tactic(auto, using(crate::specs::OperandLaws::operands))]
 fn give(
@@ -135,9 +204,8 @@ fn give(
     requires { IsSome (value_at code.now vars.now source) }
     ensures { IfOk result (λ act. with_some (value_at code.now vars.now source) (λ v. Some (acts.Gives (v ∷ []))) ≡ Some (asked act (lists_of room.new))) }
 {
-    room.values.clear();
-    push_value(code, vars, source, &mut room.values)?;
-    Ok(Act::GivesValues)
+    let value = read(code, vars, source);
+    give_value(scalars(&value), room)
 }
 
 /// SELECT
@@ -175,9 +243,7 @@ pub fn extractvalue(
 {
     let value = read(code, vars, operand);
     let parts = divided(code, class, field, scalars(&value));
-    room.values.clear();
-    room.values.push_slice(parts.field)?;
-    Ok(Act::GivesValues)
+    give_value(parts.field, room)
 }
 
 /// INSERTVALUE

@@ -1,8 +1,9 @@
 // Instructions that say where the function goes on, or that enter or leave one.
-ghost use Rattle.std.specs.Prelude.{◌≡◌, map, Some, IsSome, IfOk};
+ghost use Rattle.std.specs.Prelude.{◌≡◌, map, Some, IsSome, IfSome, IfOk};
 ghost use Rattle.mu_values.specs.SameScalar.{same_scalar};
 ghost use Rattle.bundle_check.specs.Checking.{bundle_tables};
 ghost use Rattle.typed_heap.specs.Places.{with_some};
+ghost use Rattle.mu_model.specs.Acts as acts;
 ghost use Rattle.mu_model.specs.ControlForms.{branch_act, branch2_act, switch_act, call_act, tailcall_act, ret_act, throw_act};
 ghost use Rattle.model_numbers.specs.Sources.{value_at, values_at, classes_at, goal_at};
 ghost use Rattle.model_numbers.specs.Forms.{arm_at};
@@ -15,8 +16,45 @@ use crate::variables::Variables;
 use bundle_check::Checked;
 use code_check::{CaseForm, Source, Target};
 use mu_model::Case;
-use mu_values::Scalar;
+use mu_values::{Scalar, Slots};
 use std::alloc::AllocError;
+
+/// The block of a destination, with the values of its arguments in the list. None comes only where no memory is found.
+#[tactic(auto, using(crate::specs::OperandLaws::operands))]
+pub(crate) fn arrive(
+    code: &Checked,
+    vars: &Variables,
+    target: &Target,
+    values: &mut Slots,
+) -> Option<u32>
+    requires { IsSome (branch_act (goal_at code.now vars.now target.now)) }
+    ensures { IfSome result (λ block. branch_act (goal_at code.now vars.now target.now) ≡ Some (acts.Goes (record { block = block; values = values.new.values }))) }
+{
+    match read_goal(code, vars, target, values) {
+        Ok(()) => Some(target.block),
+        Err(_) => None,
+    }
+}
+
+/// The same of one of two destinations.
+#[tactic(auto, using(crate::specs::OperandLaws::operands))]
+pub(crate) fn arrive_at_one(
+    code: &Checked,
+    vars: &Variables,
+    condition: Source,
+    if_one: &Target,
+    if_zero: &Target,
+    values: &mut Slots,
+) -> Option<u32>
+    requires { IsSome (branch2_act (value_at code.now vars.now condition) (goal_at code.now vars.now if_one.now) (goal_at code.now vars.now if_zero.now)) }
+    ensures { IfSome result (λ block. branch2_act (value_at code.now vars.now condition) (goal_at code.now vars.now if_one.now) (goal_at code.now vars.now if_zero.now) ≡ Some (acts.Goes (record { block = block; values = values.new.values }))) }
+{
+    if is_one(code, vars, condition) {
+        arrive(code, vars, if_one, values)
+    } else {
+        arrive(code, vars, if_zero, values)
+    }
+}
 
 /// BRANCH
 #[tactic(auto, using(crate::specs::OperandLaws::operands))]

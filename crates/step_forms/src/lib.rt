@@ -5,6 +5,7 @@
 mod access;
 mod accessing;
 mod act;
+mod at_once;
 mod common;
 mod computing;
 mod control;
@@ -22,6 +23,7 @@ mod way;
 
 pub use access::Access;
 pub use act::Act;
+pub use at_once::{AtOnce, decide_at_once};
 pub use deciding::decide;
 pub use entering::Entering;
 pub use laws::forms_are_there;

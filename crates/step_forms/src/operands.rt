@@ -1,5 +1,5 @@
 // The values of operands, and their classes.
-ghost use Rattle.std.specs.Prelude.{◌≡◌, ◌<◌, [], ◌∷◌, ◌++◌, Some, IsSome, IsSomeAnd, OnOk, length, map, slice_get};
+ghost use Rattle.std.specs.Prelude.{◌≡◌, ◌<◌, [], ◌∷◌, ◌++◌, Some, IsSome, IsSomeAnd, OnOk, OnErr, length, map, slice_get};
 ghost use Rattle.bundle_constants.specs.Bundle.{constant_values};
 ghost use Rattle.bundle_check.specs.Checking.{bundle_tables};
 ghost use Rattle.check_tables.specs.Lookups.{funcref_of, signature_in};
@@ -97,7 +97,7 @@ pub(crate) fn scalars<'a>(read: &'a Reading<'a>) -> &'a [Scalar]
     }
 }
 
-/// Adds the value of an operand to a list.
+/// Adds the value of an operand to a list. Where no memory is found the list is as it was.
 #[tactic(auto, using(crate::specs::OperandLaws::operands))]
 #[inline]
 pub fn push_value(
@@ -107,7 +107,8 @@ pub fn push_value(
     out: &mut Slots,
 ) -> Result<(), AllocError>
     requires { IsSome (value_at code.now vars.now source) }
-    ensures { OnOk result (IsSomeAnd (value_at code.now vars.now source) (λ v. out.new.values ≡ out.old.values ++ v ∷ [])) }
+    ensures ok { OnOk result (IsSomeAnd (value_at code.now vars.now source) (λ v. out.new.values ≡ out.old.values ++ v ∷ [])) }
+    ensures stays { OnErr result (out.new.values ≡ out.old.values) }
 {
     match source {
         Source::Variable(n) => out.push_slice(vars.at(n)),

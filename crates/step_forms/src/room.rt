@@ -13,7 +13,7 @@ pub struct Room {
     pub values: Slots,
     /// The classes of such values.
     pub types: Types,
-    /// Values of operands of a second destination.
+    /// Values of operands of a second destination. Between steps it keeps the room of a frame that has ended for the next one.
     pub others: Slots,
     /// The classes of values that a stack is left for, or that a client is asked for.
     pub waits: Types,

@@ -12,7 +12,6 @@ use Rattle.mu_model.specs.Types.{classes_taken}
 use Rattle.mu_model.specs.Configuration.{Configuration}
 use Rattle.mu_model.specs.Programs.{named}
 use Rattle.mu_model.specs.Run.{Setting, first_configuration, begins_in}
-use Rattle.model_numbers.proofs.Functions.{body_same}
 use Rattle.typed_programs.proofs.Running.{runs_have_an_ending}
 use Rattle.text_programs.specs.Laws.{EnteredRunsHaveAnEnding}
 use Rattle.text_programs.proofs.Texts.{read_have_blocks}
@@ -50,7 +49,7 @@ body_of_some (Some f) h = first_is f.first h
 begun : (bundle : List Item) (s : Setting) (n : ℕ) → MayBeEntered bundle n → (c : Configuration) × (first_configuration (named bundle) s n ≡ Some c)
 begun bundle s n m =
     let b = body_of_some (slice_get (bundle_functions bundle) n) m.has in
-    let e : (named bundle).body n ≡ Some (Some b.0) = body_same bundle n ∙ b.1 in
+    let e : (named bundle).body n ≡ Some (Some b.0) = b.1 in
     (begins_in (named bundle) s n b.0, rw e refl)
 
 pub nothing_is_taken : (bundle : List Item) (name : List ℕ) (n : ℕ) → entry bundle name ≡ Ok n → classes_taken (bundle_tables bundle) n ≡ []

@@ -17,6 +17,7 @@ use mu_model::{Case, StepEnd};
 use mu_values::Slots;
 use std::alloc::{AllocError, Global};
 use std::mem;
+use step_forms::Room;
 
 /// The top frame is that of a function that is entered with these values at that block.
 fn replace_top(frames: &mut Frames, block: u32, values: &mut Slots)
@@ -26,26 +27,34 @@ fn replace_top(frames: &mut Frames, block: u32, values: &mut Slots)
     frames.top_mut().cells.clear();
 }
 
+/// The values in the room. What room was kept for others takes their place.
+fn values_out(alloc: Global, room: &mut Room) -> Slots
+    ensures { result.values ≡ room.old.values.values }
+{
+    let kept = mem::replace(&mut room.others, Slots::new(alloc));
+    mem::replace(&mut room.values, kept)
+}
+
 impl<M: Memory, C: Determined> State<M, C> {
-    /// The thread calls a function.
+    /// The thread calls a function, with the values in the room.
     #[tactic(auto, using(crate::specs::ActLaws::calling))]
     pub fn call(
         &mut self,
         alloc: Global,
         code: &Checked,
         function: u32,
-        values: &mut Slots,
+        room: &mut Room,
     ) -> Result<StepEnd, AllocError>
         requires left { self.old.left ≡ true }
         requires room { self.old.steps < self.old.budget }
-        requires there { acting code.now self.old (acts.Calls function values.old.values) ≢ Stuck }
-        ensures ok { IfOk result (λ end. answers end self.new ≡ acting code.now self.old (acts.Calls function values.old.values)) }
+        requires there { acting code.now self.old (acts.Calls function room.old.values.values) ≢ Stuck }
+        ensures ok { IfOk result (λ end. answers end self.new ≡ acting code.now self.old (acts.Calls function room.old.values.values)) }
         ensures err { OnErr result (self.new ≡ self.old) }
         ensures stays { IfOk result (λ end. Stays end self.old self.new) }
     {
         match code.function(function).first {
             None => Ok(self.undefined(alloc, Case::NoBody)),
-            Some(block) => self.call_at(alloc, code, function, block, values),
+            Some(block) => self.call_at(alloc, code, function, block, room),
         }
     }
 
@@ -56,17 +65,17 @@ impl<M: Memory, C: Determined> State<M, C> {
         code: &Checked,
         function: u32,
         block: u32,
-        values: &mut Slots,
+        room: &mut Room,
     ) -> Result<StepEnd, AllocError>
         requires left { self.old.left ≡ true }
         requires room { self.old.steps < self.old.budget }
         requires there { IsSome (awaited code.now self.old.frames.top function) }
-        ensures ok { IfOk result (λ end. IfSome (awaited code.now self.old.frames.top function) (λ w. answers end self.new ≡ went_on (record self.old { frames = entered_above self.old.frames (entered block values.old.values) w }))) }
+        ensures ok { IfOk result (λ end. IfSome (awaited code.now self.old.frames.top function) (λ w. answers end self.new ≡ went_on (record self.old { frames = entered_above self.old.frames (entered block room.old.values.values) w }))) }
         ensures err { OnErr result (self.new ≡ self.old) }
         ensures stays { IfOk result (λ end. Stays end self.old self.new) }
     {
         let waiting = waiting(alloc, code, self.frames.top(), function)?;
-        let values = mem::replace(values, Slots::new(alloc));
+        let values = values_out(alloc, room);
         enter(&mut self.frames, entered(alloc, block, values), waiting)?;
         Ok(self.went(alloc))
     }

@@ -1,6 +1,7 @@
 // What the thread's instruction gives, and where the thread goes on.
-ghost use Rattle.std.specs.Prelude.{◌≡◌, ◌≢◌, ◌+◌, ◌<◌, [], ◌∷◌, ◌++◌, IfOk, OnErr, true};
+ghost use Rattle.std.specs.Prelude.{◌≡◌, ◌≢◌, ◌+◌, ◌<◌, [], ◌∷◌, ◌++◌, IfOk, OnErr, true, false};
 ghost use Rattle.frames.specs.Chains.{stands};
+ghost use Rattle.mu_model.specs.declared.endings.StepEnd.TheVariants.{Went};
 ghost use Rattle.mu_model.specs.Outcomes.{Stuck};
 ghost use Rattle.mu_model.specs.Acts as acts;
 ghost use Rattle.thread_acts.specs.Held.{Held};
@@ -96,6 +97,50 @@ impl<M: Memory, C: Determined> State<M, C> {
             None => self.push(alloc, scalar),
             Some(_) => self.give_one(alloc, code, scalar, values, out),
         }
+    }
+
+    /// The thread's instruction has one result, of one scalar, for which there is room, and goes on at the next place.
+    fn push_at_once(&mut self, scalar: Scalar) -> bool
+        requires left { self.old.left ≡ true }
+        requires room { self.old.steps < self.old.budget }
+        ensures made { result ≡ true → answers (Went []) self.new ≡ went_on (record self.old { frames = record self.old.frames { top = stands self.old.frames.top self.old.frames.top.block (self.old.frames.top.at + 1) (self.old.frames.top.vars ++ (scalar ∷ []) ∷ []) } }) }
+        ensures left { result ≡ false → self.new ≡ self.old }
+    {
+        if push_on_top(&mut self.frames, scalar).is_err() {
+            return false;
+        }
+        self.count();
+        true
+    }
+
+    /// The thread's instruction has one result, of one scalar, where it goes on at the next place and memory is found. Else nothing
+    /// changes.
+    #[tactic(auto, using(crate::specs::ActLaws::giving_next))]
+    pub fn give_at_once(&mut self, code: &Checked, scalar: Scalar) -> bool
+        requires left { self.old.left ≡ true }
+        requires room { self.old.steps < self.old.budget }
+        requires there { acting code.now self.old (acts.Gives ((scalar ∷ []) ∷ [])) ≢ Stuck }
+        ensures made { result ≡ true → answers (Went []) self.new ≡ acting code.now self.old (acts.Gives ((scalar ∷ []) ∷ [])) }
+        ensures left { result ≡ false → self.new ≡ self.old }
+    {
+        let top = self.frames.top();
+        if top.fresh {
+            return false;
+        }
+        match &code.code(top.block, top.at).normal {
+            None => self.push_at_once(scalar),
+            Some(_) => false,
+        }
+    }
+
+    /// The thread goes to a block with these values, and that is all of the step.
+    pub fn go_at_once(&mut self, block: u32, values: &mut Slots)
+        requires left { self.old.left ≡ true }
+        requires room { self.old.steps < self.old.budget }
+        ensures { answers (Went []) self.new ≡ went_on (record self.old { frames = record self.old.frames { top = stands self.old.frames.top block 0 values.old.values } }) }
+    {
+        self.frames.jump(block, values);
+        self.count();
     }
 
     /// The thread goes to a block with these values.

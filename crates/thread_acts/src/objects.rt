@@ -9,6 +9,8 @@ ghost use Rattle.thread_acts.specs.Acting.{objects_end};
 ghost use Rattle.thread_acts.specs.Remembering.{initials};
 
 use frames::Frames;
+use mu_values::Slots;
+use std::mem;
 use typed_heap::Heap;
 
 /// No heap has more objects.
@@ -45,6 +47,17 @@ pub(crate) fn leave(frames: &mut Frames)
 {
     match frames.leave() {
         Some(_frame) => {}
+        None => unreachable!(),
+    }
+}
+
+/// The same. The list of its values comes in exchange for this one, so that its room may be used again.
+pub(crate) fn leave_for(frames: &mut Frames, slots: &mut Slots)
+    requires { 0 < length frames.old.below }
+    ensures { frames_of frames.new ≡ frames.old.below }
+{
+    match frames.leave() {
+        Some(mut frame) => mem::swap(&mut frame.slots, slots),
         None => unreachable!(),
     }
 }

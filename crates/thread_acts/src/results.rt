@@ -8,7 +8,7 @@ ghost use Rattle.thread_acts.specs.Outcome.{Stays};
 ghost use Rattle.thread_acts.specs.Acting.{answers, acting};
 
 use crate::flow::{passing, stand};
-use crate::objects::{end_objects, leave};
+use crate::objects::{end_objects, leave_for};
 use crate::state::State;
 use bundle_check::Checked;
 use client_hooks::Determined;
@@ -94,20 +94,20 @@ impl<M: Memory, C: Determined> State<M, C> {
         &mut self,
         alloc: Global,
         code: &Checked,
-        room: &Room,
+        room: &mut Room,
         out: &mut Slots,
     ) -> Result<StepEnd, AllocError>
         requires left { self.old.left ≡ true }
         requires room { self.old.steps < self.old.budget }
         requires below { 0 < length self.old.frames.below }
-        requires there { acting code.now self.old (acts.Returns (record { types = room.now.types.members; values = room.now.values.values })) ≢ Stuck }
-        ensures ok { IfOk result (λ end. answers end self.new ≡ acting code.now self.old (acts.Returns (record { types = room.now.types.members; values = room.now.values.values }))) }
+        requires there { acting code.now self.old (acts.Returns (record { types = room.old.types.members; values = room.old.values.values })) ≢ Stuck }
+        ensures ok { IfOk result (λ end. answers end self.new ≡ acting code.now self.old (acts.Returns (record { types = room.old.types.members; values = room.old.values.values }))) }
         ensures err { OnErr result (self.new ≡ self.old) }
         ensures stays { IfOk result (λ end. Stays end self.old self.new) }
     {
         let place = passing(code, self.frames.frame(1), &room.values, out)?;
         end_objects(&mut self.heap, self.frames.top().cells.as_slice());
-        leave(&mut self.frames);
+        leave_for(&mut self.frames, &mut room.others);
         stand(&mut self.frames, place, out);
         Ok(self.went(alloc))
     }

@@ -3,6 +3,7 @@ ghost use Rattle.std.specs.Prelude.{◌≡◌, ◌<◌, [], None, length, slice_
 ghost use Rattle.frames.specs.Chains.{frames_of};
 ghost use Rattle.mu_model.specs.declared.endings.Ending.{Ending};
 ghost use Rattle.mu_model.specs.declared.endings.Case.{Case};
+ghost use Rattle.mu_model.specs.declared.endings.StepEnd.TheVariants.{Went};
 ghost use Rattle.mu_model.specs.Outcomes.{End};
 ghost use Rattle.mu_model.specs.Configuration.{Active, Dead};
 ghost use Rattle.seats.specs.Seats.{IsOn};
@@ -80,6 +81,16 @@ fn end_seat(seats: &mut Seats, thread: u32, stack: u32, frames: &mut Frames) -> 
 
 impl<M: Memory, C: Determined> State<M, C> {
     /// A step was made that wrote nothing.
+    #[tactic(auto, using(crate::specs::StepLaws::answers_on))]
+    pub(crate) fn count(&mut self)
+        requires left { self.old.left ≡ true }
+        requires room { self.old.steps < self.old.budget }
+        ensures { answers (Went []) self.new ≡ went_on self.old }
+    {
+        self.steps += 1;
+    }
+
+    /// The same, with what is said of the step.
     #[tactic(auto, using(crate::specs::StepLaws::answers_on))]
     pub(crate) fn went(&mut self, alloc: Global) -> StepEnd
         requires left { self.old.left ≡ true }

@@ -8,8 +8,8 @@ use Rattle.mu_command.proofs.InSteps.{not_stuck}
 use Rattle.mu_command.proofs.Tallies.{goes_on, has_ending, ends_so}
 use Rattle.mu_command.proofs.counting.count_run.Goals as goal
 
-pub count_step-requires : goal.count_step-requires
-count_step-requires g c =
+pub count_step-requires-clause-there : goal.count_step-requires-clause-there
+count_step-requires-clause-there g c =
     let e : c.steps.left ≡ suc (c.steps.left - 1) = omega (arith, c.steps-test.true) in
     not_stuck (named c.steps.machine.bundle) (c.steps.left - 1) c.steps.machine.configuration
     (subst (λ (k : ℕ). HasEnding (run (named c.steps.machine.bundle) k c.steps.machine.configuration)) e
@@ -23,6 +23,7 @@ steps-preserved g c =
     subst (λ (b : List Item). IsCounted b c.steps.machine.configuration c.count_step.new.machine.configuration c.in_ok-step.step) c.steps.invariant.bundle c.in_ok-step.ensures.counted in
     record {
       bundle = c.count_step.ensures.same ∙ c.steps.invariant.bundle;
+      fresh = c.in_ok-step.ensures.fresh c.in-None.is;
       ends =
           has_ending bundle (c.steps.left - 1) c.steps.machine.configuration c.count_step.new.machine.configuration c.steps.steps c.steps.events c.in_ok-step.step one c.in-None.is
           (subst (λ (k : ℕ). HasEnding (run (named bundle) k c.steps.machine.configuration)) e c.steps.invariant.ends);

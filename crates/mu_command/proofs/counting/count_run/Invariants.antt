@@ -1,4 +1,4 @@
-use Rattle.std.proofs.Common.{◌≡◌, ◌+◌, ◌*◌, ◌≤◌}
+use Rattle.std.proofs.Common.{◌≡◌, ◌+◌, ◌*◌, ◌≤◌, false}
 use Rattle.mu_model.specs.Programs.{named}
 use Rattle.mu_model.specs.Run.{run}
 use Rattle.model_laws.specs.Bounds.{HasEnding}
@@ -9,6 +9,7 @@ use Rattle.mu_command.proofs.counting.count_run.Given as goal
 abbrev pub invariant-steps : goal.invariant-steps
 invariant-steps g l = record {
   bundle : l.machine.bundle ≡ l.initial.machine.bundle;
+  fresh : l.machine.ended ≡ false;
   ends : HasEnding (run (named l.initial.machine.bundle) l.left l.machine.configuration);
   whole :
       tally_behind 0 0 (run (named l.initial.machine.bundle) l.initial.left l.initial.machine.configuration)

@@ -10,8 +10,8 @@ use Rattle.mu_command.specs.Steps.{tally_behind}
 use Rattle.mu_command.proofs.Tallies.{told}
 use Rattle.mu_command.proofs.counting.write_counts.Goals as goal
 
-pub count_run-requires : goal.count_run-requires
-count_run-requires g c =
+pub count_run-requires-clause-ends : goal.count_run-requires-clause-ends
+count_run-requires-clause-ends g c =
     subst (λ (b : List Item). HasEnding (run (named b) c.args.steps c.args.machine.now.configuration)) (sym c.requires.same) c.requires.ends
 
 pub returns-in-Some-clause-writes : goal.returns-in-Some-clause-writes

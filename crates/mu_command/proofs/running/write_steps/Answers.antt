@@ -30,5 +30,6 @@ steps-preserved g c =
           (subst (λ (k : ℕ). SoFar c.args.code.now whole (run (named c.args.code.now) k c.steps.machine.configuration) (g.S.Sink.written c.args.out.now) (g.S.Sink.written c.steps.out)
           (g.S.Sink.ends c.args.out.now) (g.S.Sink.ends c.steps.out)) e c.steps.invariant.far) c.make_step.new.machine.configuration c.in-None.ensures.goes;
       same = c.in-None.ensures.same;
+      fresh = c.in-None.ensures.fresh;
       faults = omega arith;
     }

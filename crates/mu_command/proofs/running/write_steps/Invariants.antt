@@ -1,4 +1,4 @@
-use Rattle.std.proofs.Common.{◌≡◌, ◌≤◌}
+use Rattle.std.proofs.Common.{◌≡◌, ◌≤◌, false}
 use Rattle.mu_model.specs.Programs.{named}
 use Rattle.mu_model.specs.Run.{run}
 use Rattle.mu_texts.specs.Answer.{run_answer}
@@ -12,6 +12,7 @@ invariant-steps g l = record {
       SoFar l.code (run_answer l.code (run (named l.code) l.initial.left l.initial.machine.configuration)) (run (named l.code) l.left l.machine.configuration)
       (g.S.Sink.written l.initial.out) (g.S.Sink.written l.out) (g.S.Sink.ends l.initial.out) (g.S.Sink.ends l.out);
   same : l.machine.bundle ≡ l.code;
+  fresh : l.machine.ended ≡ false;
   faults : g.S.Sink.faults l.initial.out ≤ g.S.Sink.faults l.out;
 }
 

@@ -1,5 +1,4 @@
 use Rattle.std.proofs.Common.{◌≡◌, ◌+◌, ◌-◌, arith}
-use Rattle.mem_axioms.specs.Scalars.{scalars_of}
 use Rattle.mem_views.proofs.Gained.{gives-are}
 use Rattle.mem_views.proofs.RowsKept.{rows-more, rows-below}
 use Rattle.mem_views.proofs.ThreadsMade.{log-more, made-more, child-small}
@@ -12,7 +11,7 @@ use Rattle.mem_views.proofs.view_memory.ViewMemory.add.Goals as goal
 pub add-requires-clause-child : goal.add-requires-clause-child
 add-requires-clause-child c t =
     let memory = c.args.self.now in
-    child-small memory.rule (scalars_of memory.objects.items) memory.tape.events c.args.event t c.requires.fits
+    child-small memory.rule memory.objects.values memory.tape.events c.args.event t c.requires.fits
 
 pub add-requires-clause-above : goal.add-requires-clause-above
 add-requires-clause-above c =
@@ -25,12 +24,12 @@ add_access-requires-clause-can c cell a =
     let few = newest-few memory.tape.events cell in
     let count = c.requires.count in
     let room = room-at memory.room c.args.event cell memory.places.objects.items memory.kept.items memory.cell_fits c.requires.room (memory.log_holds.small c.args.event.thread c.requires.fits.thread) a in
-    rw memory.counted (can-add memory.rule memory.tape.events c.args.event memory.clocks memory.places.objects.items memory.places.owners.items memory.kept.items cell (memory.room.events - 1) memory.places.owned memory.placed memory.cells_hold (omega (arith, few, count)) (next-position memory.rule (scalars_of memory.objects.items) memory.tape.events c.args.event cell c.requires.fits a) room)
+    rw memory.counted (can-add memory.rule memory.tape.events c.args.event memory.clocks memory.places.objects.items memory.places.owners.items memory.kept.items cell (memory.room.events - 1) memory.places.owned memory.placed memory.cells_hold (omega (arith, few, count)) (next-position memory.rule memory.objects.values memory.tape.events c.args.event cell c.requires.fits a) room)
 
 pub invariant_of-self-clause-log_holds : goal.invariant_of-self-clause-log_holds
 invariant_of-self-clause-log_holds c =
     let memory = c.args.self.now in
-    rw c.push.ensures.events (log-more memory.rule (scalars_of memory.objects.items) memory.tape.events c.args.event c.requires.fits c.requires.alone memory.log_holds)
+    rw c.push.ensures.events (log-more memory.rule memory.objects.values memory.tape.events c.args.event c.requires.fits c.requires.alone memory.log_holds)
 
 pub invariant_of-self-clause-made_holds : goal.invariant_of-self-clause-made_holds
 invariant_of-self-clause-made_holds c =

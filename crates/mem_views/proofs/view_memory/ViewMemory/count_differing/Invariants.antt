@@ -1,13 +1,12 @@
 use Rattle.std.proofs.Common.{◌≡◌, ◌+◌, ◌≤◌, length}
 use Rattle.mem_axioms.specs.Objects.{initial_of}
-use Rattle.mem_axioms.specs.Scalars.{scalars_of}
 use Rattle.mem_axioms.specs.Reads.{below}
 use Rattle.mem_views.specs.Differing.{differs_from}
 use Rattle.mem_views.proofs.view_memory.ViewMemory.count_differing.Given as goal
 
 abbrev pub invariant-loop-position : goal.invariant-loop-position
 invariant-loop-position g l = record {
-  counted : l.count ≡ length (below (differs_from (initial_of (scalars_of l.self.objects.items)) l.self.tape.events l.cell l.floor l.scalar) l.position);
+  counted : l.count ≡ length (below (differs_from (initial_of l.self.objects.values) l.self.tape.events l.cell l.floor l.scalar) l.position);
   low : l.count + l.floor ≤ l.position;
   cost : l.steps + l.floor ≤ l.initial.steps + l.position;
 }

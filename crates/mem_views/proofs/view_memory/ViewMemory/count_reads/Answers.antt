@@ -1,13 +1,12 @@
 use Rattle.std.proofs.Common.{◌∙◌, sym, ap, length, List, ℕ, arith}
 use Rattle.mem_axioms.specs.Objects.{initial_of}
-use Rattle.mem_axioms.specs.Scalars.{scalars_of}
 use Rattle.mem_views.proofs.Reading.{floor-low, reads-count, reads-differing, options-count}
 use Rattle.mem_views.proofs.view_memory.ViewMemory.count_reads.Goals as goal
 
 pub overflow_sub-result : goal.overflow_sub-result
 overflow_sub-result g c =
     let memory = c.args.self.now in
-    let low = floor-low memory.rule (initial_of (scalars_of memory.objects.items)) memory.tape.events c.args.thread c.args.cell c.args.order memory.log_holds.sound.axioms in
+    let low = floor-low memory.rule (initial_of memory.objects.values) memory.tape.events c.args.thread c.args.cell c.args.order memory.log_holds.sound.axioms in
     let floor = c.floor-floor.ensures.floor in
     let newest = c.newest-newest.ensures.newest in
     omega (arith, low, floor, newest)
@@ -15,7 +14,7 @@ overflow_sub-result g c =
 pub count_differing-requires-clause-floor : goal.count_differing-requires-clause-floor
 count_differing-requires-clause-floor g c =
     let memory = c.args.self.now in
-    let low = floor-low memory.rule (initial_of (scalars_of memory.objects.items)) memory.tape.events c.args.thread c.args.cell c.args.order memory.log_holds.sound.axioms in
+    let low = floor-low memory.rule (initial_of memory.objects.values) memory.tape.events c.args.thread c.args.cell c.args.order memory.log_holds.sound.axioms in
     let floor = c.floor-floor.ensures.floor in
     let newest = c.newest-newest.ensures.newest in
     omega (arith, low, floor, newest)
@@ -23,7 +22,7 @@ count_differing-requires-clause-floor g c =
 pub returns-in-None-clause-count : goal.returns-in-None-clause-count
 returns-in-None-clause-count g c =
     let memory = c.args.self.now in
-    let initial = initial_of (scalars_of memory.objects.items) in
+    let initial = initial_of memory.objects.values in
     let low = floor-low memory.rule initial memory.tape.events c.args.thread c.args.cell c.args.order memory.log_holds.sound.axioms in
     let count = reads-count memory.rule initial memory.tape.events c.args.thread c.args.cell c.args.order memory.log_holds.sound.axioms in
     let floor = c.floor-floor.ensures.floor in
@@ -33,14 +32,14 @@ returns-in-None-clause-count g c =
 pub returns-in-Some-clause-count : goal.returns-in-Some-clause-count
 returns-in-Some-clause-count g c =
     let memory = c.args.self.now in
-    let initial = initial_of (scalars_of memory.objects.items) in
+    let initial = initial_of memory.objects.values in
     rw c.in-Some.is ((rw (c.floor-floor.ensures.floor, c.newest-newest.ensures.newest) at c.count_differing.ensures.count)
     ∙ sym (ap (λ (positions : List ℕ). length positions) (reads-differing memory.rule initial memory.tape.events c.args.thread c.args.cell c.args.order memory.log_holds.sound.axioms c.in-Some.scalar)))
 
 pub returns-in-Some-clause-cost : goal.returns-in-Some-clause-cost
 returns-in-Some-clause-cost g c d l =
     let memory = c.args.self.now in
-    let initial = initial_of (scalars_of memory.objects.items) in
+    let initial = initial_of memory.objects.values in
     let count = options-count memory.rule initial memory.tape.events c.args.thread c.args.cell c.args.order memory.log_holds.sound.axioms in
     let low = floor-low memory.rule initial memory.tape.events c.args.thread c.args.cell c.args.order memory.log_holds.sound.axioms in
     let floor = c.floor-floor.ensures.floor in

@@ -1,7 +1,6 @@
 use Rattle.std.proofs.Common.{◌≡◌, ◌∙◌, sym, length, slice_index, false}
 use Rattle.std.specs.Prelude.{◌+◌, ◌*◌, replicate}
 use Rattle.mem_axioms.specs.Objects.{initial_of}
-use Rattle.mem_axioms.specs.Scalars.{scalars_of}
 use Rattle.mem_views.proofs.Budget.{four-within}
 use Rattle.mem_views.proofs.CellKept.{cell-few}
 use Rattle.mem_views.proofs.ThreadsMade.{made-small, made-few, cell-made}
@@ -18,18 +17,18 @@ returns-in_default-clause-floor g c = untouched-floor c.args.self.now.rule c.arg
 pub greatest_of_kinds-requires-clause-few : goal.greatest_of_kinds-requires-clause-few
 greatest_of_kinds-requires-clause-few g c =
     let memory = c.args.self.now in
-    rw c.deref-2.ensures.value (made-small memory.rule (scalars_of memory.objects.items) memory.tape.events memory.made.items memory.log_holds memory.made_holds)
+    rw c.deref-2.ensures.value (made-small memory.rule memory.objects.values memory.tape.events memory.made.items memory.log_holds memory.made_holds)
 
 pub greatest_of_kinds-requires-clause-made : goal.greatest_of_kinds-requires-clause-made
 greatest_of_kinds-requires-clause-made g c =
     let memory = c.args.self.now in
-    rw c.deref-2.ensures.value (cell-made memory.rule (scalars_of memory.objects.items) memory.tape.events memory.made.items c.args.cell c.in-Some.kept.now memory.log_holds memory.made_holds c.in-Some.ensures.views)
+    rw c.deref-2.ensures.value (cell-made memory.rule memory.objects.values memory.tape.events memory.made.items c.args.cell c.in-Some.kept.now memory.log_holds memory.made_holds c.in-Some.ensures.views)
 
 pub returns-clause-floor : goal.returns-clause-floor
 returns-clause-floor g c =
     let memory = c.args.self.now in
     let log = memory.tape.events in
-    floor-found memory.rule (initial_of (scalars_of memory.objects.items)) log c.args.thread c.args.cell c.args.order c.in-Some.kept.now c.of-known.result.now c.below-below.result c.fences_before-before.result c.greatest_of_kinds.result c.limit-limit.result
+    floor-found memory.rule (initial_of memory.objects.values) log c.args.thread c.args.cell c.args.order c.in-Some.kept.now c.of-known.result.now c.below-below.result c.fences_before-before.result c.greatest_of_kinds.result c.limit-limit.result
     memory.log_holds.sound.axioms memory.log_holds.named c.in-Some.ensures.views (λ y ey at. memory.log_holds.small ey.thread (memory.log_holds.threads y ey at))
     (λ u. c.of-known.ensures u ∙ memory.rows_hold.threads c.args.thread u) c.limit-limit.ensures.limit c.below-below.ensures
     (λ u. c.fences_before-before.ensures u ∙ before-known memory.rule log c.args.thread c.args.order memory.rows c.limit-limit.result memory.rows_hold c.limit-limit.ensures.limit u)
@@ -45,12 +44,12 @@ returns-clause-cost g c d l =
 pub found_floor-requires-clause-few : goal.found_floor-requires-clause-few
 found_floor-requires-clause-few g c =
     let memory = c.args.self.now in
-    rw c.deref-then-not-seq_cst.ensures.value (made-small memory.rule (scalars_of memory.objects.items) memory.tape.events memory.made.items memory.log_holds memory.made_holds)
+    rw c.deref-then-not-seq_cst.ensures.value (made-small memory.rule memory.objects.values memory.tape.events memory.made.items memory.log_holds memory.made_holds)
 
 pub found_floor-requires-clause-made : goal.found_floor-requires-clause-made
 found_floor-requires-clause-made g c =
     let memory = c.args.self.now in
-    rw (c.deref-then-not-seq_cst.ensures.value, c.deref.ensures.value) (cell-made memory.rule (scalars_of memory.objects.items) memory.tape.events memory.made.items c.args.cell c.in-Some.kept.now memory.log_holds memory.made_holds c.in-Some.ensures.views).all
+    rw (c.deref-then-not-seq_cst.ensures.value, c.deref.ensures.value) (cell-made memory.rule memory.objects.values memory.tape.events memory.made.items c.args.cell c.in-Some.kept.now memory.log_holds memory.made_holds c.in-Some.ensures.views).all
 
 pub returns-then-not-seq_cst-clause-floor : goal.returns-then-not-seq_cst-clause-floor
 returns-then-not-seq_cst-clause-floor g c =
@@ -58,7 +57,7 @@ returns-then-not-seq_cst-clause-floor g c =
     let log = memory.tape.events in
     let zero : c.limit-limit.result ≡ 0 = c.if-limit-eq0.true in
     let relaxed : is_seq_cst c.args.order ≡ false = sym c.if-not-seq_cst.ensures in
-    floor-found memory.rule (initial_of (scalars_of memory.objects.items)) log c.args.thread c.args.cell c.args.order c.in-Some.kept.now c.of-known.result.now (replicate 64 0) (replicate 64 0) c.found_floor.result c.limit-limit.result
+    floor-found memory.rule (initial_of memory.objects.values) log c.args.thread c.args.cell c.args.order c.in-Some.kept.now c.of-known.result.now (replicate 64 0) (replicate 64 0) c.found_floor.result c.limit-limit.result
     memory.log_holds.sound.axioms memory.log_holds.named c.in-Some.ensures.views (λ y ey at. memory.log_holds.small ey.thread (memory.log_holds.threads y ey at))
     (λ u. c.of-known.ensures u ∙ memory.rows_hold.threads c.args.thread u) c.limit-limit.ensures.limit (λ u l. zeros-at 64 u ∙ sym zero)
     (λ u. zeros-at 64 u ∙ (no-fence (is_seq_cst c.args.order) c.limit-limit.result (slice_index memory.rows.joined u) (table_at memory.rows.before c.limit-limit.result u) relaxed zero

@@ -1,5 +1,4 @@
 use Rattle.std.proofs.Common.{◌∙◌, sym}
-use Rattle.mem_axioms.specs.Scalars.{scalars_of}
 use Rattle.mem_views.specs.Holding.{fence_by}
 use Rattle.mem_views.proofs.RowsKept.{rows-few}
 use Rattle.mem_views.proofs.ThreadsMade.{made-small, entries-made}
@@ -9,12 +8,12 @@ use Rattle.mem_views.proofs.view_memory.ViewMemory.limit.Goals as goal
 pub last_fence-requires-clause-few : goal.last_fence-requires-clause-few
 last_fence-requires-clause-few g c =
     let memory = c.args.self.now in
-    rw c.deref.ensures.value (made-small memory.rule (scalars_of memory.objects.items) memory.tape.events memory.made.items memory.log_holds memory.made_holds)
+    rw c.deref.ensures.value (made-small memory.rule memory.objects.values memory.tape.events memory.made.items memory.log_holds memory.made_holds)
 
 pub last_fence-requires-clause-made : goal.last_fence-requires-clause-made
 last_fence-requires-clause-made g c =
     let memory = c.args.self.now in
-    rw c.deref.ensures.value (entries-made (λ n e. n) fence_by memory.rule (scalars_of memory.objects.items) memory.tape.events memory.made.items memory.rows.fences.items memory.log_holds memory.made_holds
+    rw c.deref.ensures.value (entries-made (λ n e. n) fence_by memory.rule memory.objects.values memory.tape.events memory.made.items memory.rows.fences.items memory.log_holds memory.made_holds
     (λ u e t. (fence-parts memory.rule memory.tape.events c.args.thread u e t).1) memory.rows_hold.fences)
 
 pub returns-clause-limit : goal.returns-clause-limit

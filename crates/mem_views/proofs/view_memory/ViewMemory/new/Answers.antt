@@ -1,11 +1,10 @@
-use Rattle.mem_axioms.specs.Scalars.{scalars_of}
 use Rattle.mem_views.proofs.ThreadsMade.{log-none, made-none}
 use Rattle.mem_views.proofs.RowsKept.{rows-none}
 use Rattle.mem_views.proofs.CellsKept.{cells-none}
 use Rattle.mem_views.proofs.view_memory.ViewMemory.new.Goals as goal
 
 pub invariant_of-result-clause-log_holds : goal.invariant_of-result-clause-log_holds
-invariant_of-result-clause-log_holds c = rw c.new-2.ensures (log-none c.args.rule (scalars_of c.new.result.items))
+invariant_of-result-clause-log_holds c = rw c.new-2.ensures (log-none c.args.rule c.new.result.values)
 
 pub invariant_of-result-clause-made_holds : goal.invariant_of-result-clause-made_holds
 invariant_of-result-clause-made_holds c = rw (c.new-3.ensures.items, c.new-2.ensures) made-none

@@ -1,7 +1,6 @@
 use Rattle.std.proofs.Common.{Some, None, length, arith}
 use Rattle.mem_axioms.specs.Objects.{initial_of}
 use Rattle.mem_axioms.specs.Races.{race}
-use Rattle.mem_axioms.specs.Scalars.{scalars_of}
 use Rattle.mem_views.proofs.Budget.{one-within}
 use Rattle.mem_views.proofs.CellKept.{cell-few}
 use Rattle.mem_views.proofs.ThreadsMade.{made-small, made-few, cell-made}
@@ -11,18 +10,18 @@ use Rattle.mem_views.proofs.view_memory.ViewMemory.race_in.Goals as goal
 pub first_racing-requires-clause-few : goal.first_racing-requires-clause-few
 first_racing-requires-clause-few g c =
     let memory = c.args.self.now in
-    rw c.deref.ensures.value (made-small memory.rule (scalars_of memory.objects.items) memory.tape.events memory.made.items memory.log_holds memory.made_holds)
+    rw c.deref.ensures.value (made-small memory.rule memory.objects.values memory.tape.events memory.made.items memory.log_holds memory.made_holds)
 
 pub first_racing-requires-clause-made : goal.first_racing-requires-clause-made
 first_racing-requires-clause-made g c =
     let memory = c.args.self.now in
-    rw c.deref.ensures.value (cell-made memory.rule (scalars_of memory.objects.items) memory.tape.events memory.made.items c.args.cell c.args.kept.now memory.log_holds memory.made_holds c.requires.holds)
+    rw c.deref.ensures.value (cell-made memory.rule memory.objects.values memory.tape.events memory.made.items c.args.cell c.args.kept.now memory.log_holds memory.made_holds c.requires.holds)
 
 pub overflow_sub-result : goal.overflow_sub-result
 overflow_sub-result g c =
     let memory = c.args.self.now in
     let log = memory.tape.events in
-    let objects = scalars_of memory.objects.items in
+    let objects = memory.objects.values in
     let facts = race-facts memory.rule objects log c.args.cell c.args.event.now c.args.kept.now c.args.known.now memory.log_holds c.requires.holds c.requires.fits c.requires.access c.requires.known in
     one-positive (race memory.rule log c.args.event.now) c.in-Some.first (race-found memory.rule (initial_of objects) log c.args.cell c.args.event.now c.args.kept.now c.args.known.now facts (Some c.in-Some.first) c.in-Some.ensures.found)
 
@@ -30,7 +29,7 @@ pub returns-in-Some-clause-race : goal.returns-in-Some-clause-race
 returns-in-Some-clause-race g c =
     let memory = c.args.self.now in
     let log = memory.tape.events in
-    let objects = scalars_of memory.objects.items in
+    let objects = memory.objects.values in
     let facts = race-facts memory.rule objects log c.args.cell c.args.event.now c.args.kept.now c.args.known.now memory.log_holds c.requires.holds c.requires.fits c.requires.access c.requires.known in
     one-lower (race memory.rule log c.args.event.now) c.in-Some.first (race-found memory.rule (initial_of objects) log c.args.cell c.args.event.now c.args.kept.now c.args.known.now facts (Some c.in-Some.first) c.in-Some.ensures.found)
 
@@ -38,7 +37,7 @@ pub returns-in-None-clause-race : goal.returns-in-None-clause-race
 returns-in-None-clause-race g c =
     let memory = c.args.self.now in
     let log = memory.tape.events in
-    let objects = scalars_of memory.objects.items in
+    let objects = memory.objects.values in
     let facts = race-facts memory.rule objects log c.args.cell c.args.event.now c.args.kept.now c.args.known.now memory.log_holds c.requires.holds c.requires.fits c.requires.access c.requires.known in
     none-lower (race memory.rule log c.args.event.now) (race-found memory.rule (initial_of objects) log c.args.cell c.args.event.now c.args.kept.now c.args.known.now facts None c.in-None.ensures.found)
 

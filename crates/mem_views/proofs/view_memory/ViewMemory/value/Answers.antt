@@ -1,7 +1,6 @@
 use Rattle.std.proofs.Common.{◌∙◌, sym, arith, ap, ℕ}
 use Rattle.mem_axioms.specs.Form.{value_at}
 use Rattle.mem_axioms.specs.Objects.{initial_of}
-use Rattle.mem_axioms.specs.Scalars.{scalars_of}
 use Rattle.mem_views.proofs.FloorFound.{form-of}
 use Rattle.mem_views.proofs.ValuesKept.{untouched-newest}
 use Rattle.mem_views.proofs.Reading.{value-initial, value-found, history-newest}
@@ -10,7 +9,7 @@ use Rattle.mem_views.proofs.view_memory.ViewMemory.value.Goals as goal
 pub returns-then-position-eq0-clause-value : goal.returns-then-position-eq0-clause-value
 returns-then-position-eq0-clause-value g c =
     let memory = c.args.self.now in
-    let initial = initial_of (scalars_of memory.objects.items) in
+    let initial = initial_of memory.objects.values in
     c.initial.ensures
     ∙ (sym (value-initial initial memory.tape.events c.args.cell (form-of memory.rule initial memory.tape.events memory.log_holds.sound.axioms))
     ∙ ap (λ (p : ℕ). value_at initial memory.tape.events c.args.cell p) (sym c.if-position-eq0.true))
@@ -21,7 +20,7 @@ value-requires g c = let n = history-newest c.args.self.now.rule c.args.self.now
 pub returns-in-Some-clause-value : goal.returns-in-Some-clause-value
 returns-in-Some-clause-value g c =
     let memory = c.args.self.now in
-    let initial = initial_of (scalars_of memory.objects.items) in
+    let initial = initial_of memory.objects.values in
     value-found memory.rule initial memory.tape.events c.args.cell c.in-Some.kept.now c.args.position c.value.result (form-of memory.rule initial memory.tape.events memory.log_holds.sound.axioms) c.in-Some.ensures.views (omega arith) c.requires.position c.value.ensures.value
 
 pub returns-in-None-clause-value : goal.returns-in-None-clause-value

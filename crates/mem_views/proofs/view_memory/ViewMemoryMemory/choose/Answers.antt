@@ -1,7 +1,6 @@
 use Rattle.std.proofs.Common.{◌≡◌, ◌∙◌, ◌-◌, sym, ap, map, slice_get, List, Option, Some, false, arith}
 use Rattle.mu_values.specs.declared.scalars.Scalar.{Scalar}
 use Rattle.mem_axioms.specs.Objects.{initial_of}
-use Rattle.mem_axioms.specs.Scalars.{scalars_of}
 use Rattle.mem_axioms.specs.Choices.{chosen_at}
 use Rattle.mem_axioms.specs.Reads.{reads}
 use Rattle.mem_axioms.specs.declared.types.Chosen.{Chosen}
@@ -12,19 +11,19 @@ pub read_chosen-requires-clause-n : goal.read_chosen-requires-clause-n
 read_chosen-requires-clause-n g c =
     let memory = c.args.self.now in
     let n = rw c.in-Load.is at c.requires.n in
-    let count = count-load memory.rule (initial_of (scalars_of memory.objects.items)) (memory.tape.events) c.args.thread c.args.cell c.in-Load.order in
+    let count = count-load memory.rule (initial_of memory.objects.values) (memory.tape.events) c.args.thread c.args.cell c.in-Load.order in
     omega (arith, n, count)
 
 pub returns-in-Load-clause-chosen : goal.returns-in-Load-clause-chosen
 returns-in-Load-clause-chosen g c =
     let memory = c.args.self.now in
-    rw c.in-Load.is (ap (λ (options : List Chosen). slice_get options c.args.n) (choices-load memory.rule (initial_of (scalars_of memory.objects.items)) (memory.tape.events) c.args.thread c.args.cell c.in-Load.order) ∙ c.read_chosen.ensures.chosen)
+    rw c.in-Load.is (ap (λ (options : List Chosen). slice_get options c.args.n) (choices-load memory.rule (initial_of memory.objects.values) (memory.tape.events) c.args.thread c.args.cell c.in-Load.order) ∙ c.read_chosen.ensures.chosen)
 
 pub returns-in-Swap-clause-chosen : goal.returns-in-Swap-clause-chosen
 returns-in-Swap-clause-chosen g c =
     let memory = c.args.self.now in
     let log = memory.tape.events in
-    let initial = initial_of (scalars_of memory.objects.items) in
+    let initial = initial_of memory.objects.values in
     let n = rw c.in-Swap.is at c.requires.n in
     let count = count-swap memory.rule initial log c.args.thread c.args.cell in
     let zero : c.args.n ≡ 0 = omega (arith, n, count) in
@@ -35,14 +34,14 @@ read_chosen-requires-then-not-may_succeed-clause-n g c =
     let memory = c.args.self.now in
     let n = rw c.in-Compare.is at c.requires.n in
     let fails = sym c.may_succeed.ensures.may ∙ c.if-not-may_succeed.true in
-    let count = count-failure memory.rule (initial_of (scalars_of memory.objects.items)) (memory.tape.events) c.args.thread c.args.cell c.in-Compare.success c.in-Compare.failure c.in-Compare.expected c.in-Compare.weak fails in
+    let count = count-failure memory.rule (initial_of memory.objects.values) (memory.tape.events) c.args.thread c.args.cell c.in-Compare.success c.in-Compare.failure c.in-Compare.expected c.in-Compare.weak fails in
     rw c.excluded.ensures (omega (arith, n, count))
 
 pub returns-then-not-may_succeed-clause-chosen : goal.returns-then-not-may_succeed-clause-chosen
 returns-then-not-may_succeed-clause-chosen g c =
     let memory = c.args.self.now in
     let log = memory.tape.events in
-    let initial = initial_of (scalars_of memory.objects.items) in
+    let initial = initial_of memory.objects.values in
     let fails = sym c.may_succeed.ensures.may ∙ c.if-not-may_succeed.true in
     rw c.in-Compare.is (nth-failure memory.rule initial log c.args.thread c.args.cell c.in-Compare.success c.in-Compare.failure c.in-Compare.expected c.in-Compare.weak c.args.n fails
     ∙ (ap (λ (excluded : Option Scalar). slice_get (map (chosen_at initial log c.args.cell false) (reads memory.rule initial log c.args.thread c.args.cell c.in-Compare.failure excluded)) c.args.n) (sym c.excluded.ensures) ∙ c.read_chosen-then-not-may_succeed.ensures.chosen))
@@ -52,21 +51,21 @@ returns-then-n-eq0-clause-chosen g c =
     let memory = c.args.self.now in
     let succeeds = sym c.may_succeed.ensures.may ∙ c.if-not-may_succeed.false in
     rw (c.in-Compare.is, c.if-n-eq0.true)
-    (nth-success memory.rule (initial_of (scalars_of memory.objects.items)) (memory.tape.events) c.args.thread c.args.cell c.in-Compare.success c.in-Compare.failure c.in-Compare.expected c.in-Compare.weak succeeds ∙ ap Some (sym c.update_chosen-then-n-eq0.ensures.chosen))
+    (nth-success memory.rule (initial_of memory.objects.values) (memory.tape.events) c.args.thread c.args.cell c.in-Compare.success c.in-Compare.failure c.in-Compare.expected c.in-Compare.weak succeeds ∙ ap Some (sym c.update_chosen-then-n-eq0.ensures.chosen))
 
 pub read_chosen-requires-in-Compare-clause-n : goal.read_chosen-requires-in-Compare-clause-n
 read_chosen-requires-in-Compare-clause-n g c =
     let memory = c.args.self.now in
     let n = rw c.in-Compare.is at c.requires.n in
     let succeeds = sym c.may_succeed.ensures.may ∙ c.if-not-may_succeed.false in
-    let count = count-success memory.rule (initial_of (scalars_of memory.objects.items)) (memory.tape.events) c.args.thread c.args.cell c.in-Compare.success c.in-Compare.failure c.in-Compare.expected c.in-Compare.weak succeeds in
+    let count = count-success memory.rule (initial_of memory.objects.values) (memory.tape.events) c.args.thread c.args.cell c.in-Compare.success c.in-Compare.failure c.in-Compare.expected c.in-Compare.weak succeeds in
     rw c.excluded-in-Compare.ensures (omega (arith, n, count))
 
 pub returns-else-n-eq0-clause-chosen : goal.returns-else-n-eq0-clause-chosen
 returns-else-n-eq0-clause-chosen g c =
     let memory = c.args.self.now in
     let log = memory.tape.events in
-    let initial = initial_of (scalars_of memory.objects.items) in
+    let initial = initial_of memory.objects.values in
     let succeeds = sym c.may_succeed.ensures.may ∙ c.if-not-may_succeed.false in
     rw c.in-Compare.is (nth-after memory.rule initial log c.args.thread c.args.cell c.in-Compare.success c.in-Compare.failure c.in-Compare.expected c.in-Compare.weak c.args.n succeeds (omega arith)
     ∙ (ap (λ (excluded : Option Scalar). slice_get (map (chosen_at initial log c.args.cell false) (reads memory.rule initial log c.args.thread c.args.cell c.in-Compare.failure excluded)) (c.args.n - 1)) (sym c.excluded-in-Compare.ensures) ∙ c.read_chosen-in-Compare.ensures.chosen))

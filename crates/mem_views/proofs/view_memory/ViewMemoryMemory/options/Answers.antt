@@ -1,7 +1,6 @@
 use Rattle.std.proofs.Common.{◌∙◌, ◌+◌, sym, ap, length, ℕ, Option, arith}
 use Rattle.mu_values.specs.declared.scalars.Scalar.{Scalar}
 use Rattle.mem_axioms.specs.Objects.{initial_of}
-use Rattle.mem_axioms.specs.Scalars.{scalars_of}
 use Rattle.mem_axioms.specs.Reads.{reads}
 use Rattle.mem_axioms.specs.Lemmas.Offers.{count-load, count-swap, count-success, count-failure, some-load, some-compare}
 use Rattle.mem_views.proofs.view_memory.ViewMemoryMemory.options.Goals as goal
@@ -9,25 +8,25 @@ use Rattle.mem_views.proofs.view_memory.ViewMemoryMemory.options.Goals as goal
 pub returns-in-Load-clause-count : goal.returns-in-Load-clause-count
 returns-in-Load-clause-count g c =
     let memory = c.args.self.now in
-    rw c.in-Load.is (c.count_reads.ensures.count ∙ count-load memory.rule (initial_of (scalars_of memory.objects.items)) (memory.tape.events) c.args.thread c.args.cell c.in-Load.order)
+    rw c.in-Load.is (c.count_reads.ensures.count ∙ count-load memory.rule (initial_of memory.objects.values) (memory.tape.events) c.args.thread c.args.cell c.in-Load.order)
 
 pub returns-in-Load-clause-some : goal.returns-in-Load-clause-some
 returns-in-Load-clause-some g c =
     let memory = c.args.self.now in
-    let some = some-load memory.rule (initial_of (scalars_of memory.objects.items)) (memory.tape.events) c.args.thread c.args.cell memory.log_holds.sound.axioms c.in-Load.order in
+    let some = some-load memory.rule (initial_of memory.objects.values) (memory.tape.events) c.args.thread c.args.cell memory.log_holds.sound.axioms c.in-Load.order in
     let count = c.count_reads.ensures.count in
     omega (arith, some, count)
 
 pub returns-in-Swap-clause-count : goal.returns-in-Swap-clause-count
 returns-in-Swap-clause-count g c =
     let memory = c.args.self.now in
-    rw c.in-Swap.is (count-swap memory.rule (initial_of (scalars_of memory.objects.items)) (memory.tape.events) c.args.thread c.args.cell)
+    rw c.in-Swap.is (count-swap memory.rule (initial_of memory.objects.values) (memory.tape.events) c.args.thread c.args.cell)
 
 pub returns-then-may_succeed-clause-count : goal.returns-then-may_succeed-clause-count
 returns-then-may_succeed-clause-count g c =
     let memory = c.args.self.now in
     let log = memory.tape.events in
-    let initial = initial_of (scalars_of memory.objects.items) in
+    let initial = initial_of memory.objects.values in
     let count = c.count_reads-failures.ensures.count ∙ ap (λ (excluded : Option Scalar). length (reads memory.rule initial log c.args.thread c.args.cell c.in-Compare.failure excluded)) c.excluded.ensures in
     rw c.in-Compare.is (ap (λ (n : ℕ). n + 1) count ∙ count-success memory.rule initial log c.args.thread c.args.cell c.in-Compare.success c.in-Compare.failure c.in-Compare.expected c.in-Compare.weak (sym c.may_succeed.ensures.may ∙ c.if-may_succeed.true))
 
@@ -35,7 +34,7 @@ pub returns-else-may_succeed-clause-count : goal.returns-else-may_succeed-clause
 returns-else-may_succeed-clause-count g c =
     let memory = c.args.self.now in
     let log = memory.tape.events in
-    let initial = initial_of (scalars_of memory.objects.items) in
+    let initial = initial_of memory.objects.values in
     let count = c.count_reads-failures.ensures.count ∙ ap (λ (excluded : Option Scalar). length (reads memory.rule initial log c.args.thread c.args.cell c.in-Compare.failure excluded)) c.excluded.ensures in
     rw c.in-Compare.is (count ∙ count-failure memory.rule initial log c.args.thread c.args.cell c.in-Compare.success c.in-Compare.failure c.in-Compare.expected c.in-Compare.weak (sym c.may_succeed.ensures.may ∙ c.if-may_succeed.false))
 
@@ -43,7 +42,7 @@ pub returns-else-may_succeed-clause-some : goal.returns-else-may_succeed-clause-
 returns-else-may_succeed-clause-some g c =
     let memory = c.args.self.now in
     let log = memory.tape.events in
-    let initial = initial_of (scalars_of memory.objects.items) in
+    let initial = initial_of memory.objects.values in
     let count = c.count_reads-failures.ensures.count ∙ ap (λ (excluded : Option Scalar). length (reads memory.rule initial log c.args.thread c.args.cell c.in-Compare.failure excluded)) c.excluded.ensures in
     let some = some-compare memory.rule initial log c.args.thread c.args.cell memory.log_holds.sound.axioms c.in-Compare.failure c.in-Compare.expected c.in-Compare.weak (sym c.may_succeed.ensures.may ∙ c.if-may_succeed.false) in
     omega (arith, some, count)

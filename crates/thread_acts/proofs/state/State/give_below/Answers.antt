@@ -8,5 +8,5 @@ passing-requires g c = returns_there _ _ _ _ _ c.self.view_is c.requires.there c
 
 pub returns-clause-ok : goal.returns-clause-ok
 returns-clause-ok g c =
-    returned_so _ _ _ _ _ _ _ _ _ _ _ _ _ _ c.self.view_is c.requires.there c.frame.ensures c.in_ok-place.ensures c.leave.ensures c.end_objects.ensures.objects
+    returned_so _ _ _ _ _ _ _ _ _ _ _ _ _ _ c.self.view_is c.requires.there c.frame.ensures c.in_ok-place.ensures c.leave_for.ensures c.end_objects.ensures.objects
     (c.as_slice.ensures ∙ ap (λ (f : Activation). f.objects) c.top.ensures) c.end_objects.ensures.left c.stand.ensures c.went.ensures.on

@@ -1,5 +1,5 @@
-//! A small bundle is read where there is memory. What other texts come to is shown by the cases of the whole program.
-use crate::read_bundle;
+// A small bundle is read.
+use ir_text::read_bundle;
 use ir_tree::{Item, TypeForm};
 use std::test::Fail;
 

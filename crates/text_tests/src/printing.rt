@@ -1,6 +1,6 @@
-//! A small bundle is printed where there is memory. Other canonical texts are shown by the cases of the whole program.
-use super::print_bundle;
+// A small bundle is printed.
 use ir_lex::{Name, Number, Numeral};
+use ir_print::print_bundle;
 use ir_tree::{Bundle, Const, Item, Literal, TypeForm, Typedef};
 use std::alloc::{AllocError, Global};
 use std::test::Fail;

@@ -1,0 +1,108 @@
+// Steps that are made at once: those of the frequent instructions, which write nothing and give no ending. So nothing is handed on
+// of them but that they were made.
+ghost use Rattle.std.specs.Prelude.{◌≡◌, ◌≢◌, ◌<◌, [], IsSome, IfSome, true, false};
+ghost use Rattle.mu_model.specs.declared.endings.StepEnd.TheVariants.{Went};
+ghost use Rattle.mu_model.specs.Outcomes.{Stuck};
+ghost use Rattle.mu_model.specs.Step.{step};
+ghost use Rattle.model_numbers.specs.Numbered.{numbered};
+ghost use Rattle.step_forms.specs.AtOnce.{decided};
+ghost use Rattle.thread_acts.specs.Held.{configuration};
+ghost use Rattle.thread_acts.specs.Outcome.{outcome_of};
+ghost use Rattle.thread_acts.specs.Acting.{answers, acting, stepping, told};
+ghost use Rattle.thread_acts.specs.StepLaws.{GoesOn};
+
+use crate::step::{pick_thread, settle};
+use bundle_check::Checked;
+use client_hooks::Determined;
+use mem_axioms::Memory;
+use mu_values::Slots;
+use step_forms::{AtOnce, Variables, decide_at_once};
+use thread_acts::state::State;
+
+/// What the thread's next instruction asks, where that is decided at once, with values in the list.
+#[tactic(auto, using(thread_acts::specs::StepLaws::running))]
+fn asks_at_once<M: Memory, C: Determined>(
+    state: &State<M, C>,
+    code: &Checked,
+    values: &mut Slots,
+) -> AtOnce
+    requires waits { GoesOn state.now }
+    requires there { stepping code.now state.now ≢ Stuck }
+    ensures { IfSome (decided result values.new.values) (λ act. stepping code.now state.now ≡ acting code.now state.now act) }
+{
+    let top = state.frames.top();
+    let block = code.block(top.block);
+    let form = &block.code.as_slice()[top.at as usize].form;
+    decide_at_once(
+        code,
+        block.classes.as_slice(),
+        &Variables::of(&top.slots),
+        form,
+        values,
+    )
+}
+
+/// The thread does its next instruction at once, or nothing changes.
+#[tactic(auto, using(crate::proofs::AtOnce::acting_at_once, thread_acts::specs::ActLaws::goes_is))]
+fn run_at_once<M: Memory, C: Determined>(
+    state: &mut State<M, C>,
+    code: &Checked,
+    values: &mut Slots,
+) -> bool
+    requires left { state.old.left ≡ true }
+    requires room { state.old.steps < state.old.budget }
+    requires waits { GoesOn state.old }
+    requires there { stepping code.now state.old ≢ Stuck }
+    ensures made { result ≡ true → answers (Went []) state.new ≡ stepping code.now state.old }
+    ensures left { result ≡ false → state.new ≡ state.old }
+{
+    match asks_at_once(state, code, values) {
+        AtOnce::Gives(scalar) => state.give_at_once(code, scalar),
+        AtOnce::Goes { block } => {
+            state.go_at_once(block, values);
+            true
+        }
+        AtOnce::Other => false,
+    }
+}
+
+/// The step of the thread in hand is made at once, or nothing changes. A thread that waits makes none so.
+#[tactic(auto, using(thread_acts::specs::Hand::waiting_hand, thread_acts::specs::Hand::told_there, thread_acts::specs::StepLaws::told_so))]
+fn turn_at_once<M: Memory, C: Determined>(
+    state: &mut State<M, C>,
+    code: &Checked,
+    values: &mut Slots,
+) -> bool
+    requires left { state.old.left ≡ true }
+    requires room { state.old.steps < state.old.budget }
+    requires there { told code.now state.old.client (stepping code.now state.old) ≢ Stuck }
+    ensures made { result ≡ true → answers (Went []) state.new ≡ told code.now state.old.client (stepping code.now state.old) }
+    ensures left { result ≡ false → state.new ≡ state.old }
+{
+    match state.seats.waiting(state.thread) {
+        Some(_cell) => false,
+        None => run_at_once(state, code, values),
+    }
+}
+
+/// One step of the run is made at once, or the configuration stays.
+pub(crate) fn step_at_once<M: Memory, C: Determined>(
+    state: &mut State<M, C>,
+    code: &Checked,
+    values: &mut Slots,
+) -> bool
+    requires whole { state.old.skip ≡ 0 }
+    requires there { told code.now state.old.client (step (numbered code.now) (configuration state.old)) ≢ Stuck }
+    ensures made { result ≡ true → outcome_of (Went []) (configuration state.new) ≡ told code.now state.old.client (step (numbered code.now) (configuration state.old)) }
+    ensures left { result ≡ false → configuration state.new ≡ configuration state.old }
+    ensures whole { state.new.skip ≡ 0 }
+{
+    let many = state.seats.runnable();
+    if many == 0 || state.steps == state.budget {
+        return false;
+    }
+    pick_thread(state, many);
+    let made = turn_at_once(state, code, values);
+    settle(state, made);
+    made
+}

@@ -1,0 +1,98 @@
+// Instructions that are decided at once: the frequent ones, which come to one scalar or to a block.
+ghost use Rattle.std.specs.Prelude.{◌≡◌, [], ◌∷◌, Some, IsSome, IfSome};
+ghost use Rattle.mu_model.specs.Acts as acts;
+ghost use Rattle.model_numbers.specs.Forms.{computation_at, control_at, act_at};
+ghost use Rattle.step_forms.specs.AtOnce.{decided};
+
+use crate::computing::{binary_scalar, compare_scalar, convert_scalar};
+use crate::control::{arrive, arrive_at_one};
+use crate::variables::Variables;
+use bundle_check::Checked;
+use code_check::{ComputationForm, ControlForm, Form};
+use mu_values::{Scalar, Slots};
+
+/// What an instruction does, where it is decided at once. It is small, so that a step may be made of it without a copy of a whole act.
+#[derive(Clone, Copy, Debug, PartialEq, Eq)]
+pub enum AtOnce {
+    /// It gives its one result this value of one scalar.
+    Gives(Scalar),
+    /// Another block of the function, whose parameters are the values in the list.
+    Goes { block: u32 },
+    /// Nothing was decided.
+    Other,
+}
+
+/// What a computation gives, where it computes one scalar.
+#[tactic(auto, using(crate::specs::AtOnce::computing))]
+fn computed(code: &Checked, vars: &Variables, form: &ComputationForm) -> Option<Scalar>
+    requires { IsSome (computation_at code.now vars.now form.now) }
+    ensures { IfSome result (λ s. computation_at code.now vars.now form.now ≡ Some (acts.Gives ((s ∷ []) ∷ []))) }
+{
+    match form {
+        ComputationForm::Binary {
+            op,
+            class,
+            left,
+            right,
+        } => binary_scalar(code, vars, *op, *class, *left, *right),
+        ComputationForm::Compare {
+            op,
+            left,
+            right,
+            ..
+        } => Some(compare_scalar(code, vars, *op, *left, *right)),
+        ComputationForm::Convert {
+            op,
+            from,
+            to,
+            operand,
+        } => Some(convert_scalar(code, vars, *op, *from, *to, *operand)),
+        _ => None,
+    }
+}
+
+/// The block that an instruction goes to, where that is all that it does, with the values for it in the list.
+fn gone(
+    code: &Checked,
+    types: &[u32],
+    vars: &Variables,
+    form: &ControlForm,
+    values: &mut Slots,
+) -> Option<u32>
+    requires { IsSome (control_at code.now types.now vars.now form.now) }
+    ensures { IfSome result (λ block. control_at code.now types.now vars.now form.now ≡ Some (acts.Goes (record { block = block; values = values.new.values }))) }
+{
+    match form {
+        ControlForm::Branch { target } => arrive(code, vars, target, values),
+        ControlForm::Branch2 {
+            condition,
+            if_one,
+            if_zero,
+        } => arrive_at_one(code, vars, *condition, if_one, if_zero, values),
+        _ => None,
+    }
+}
+
+/// What an instruction does, as `decide` tells it, where that is decided at once. The list is changed even where nothing is decided.
+pub fn decide_at_once(
+    code: &Checked,
+    types: &[u32],
+    vars: &Variables,
+    form: &Form,
+    values: &mut Slots,
+) -> AtOnce
+    requires { IsSome (act_at code.now types.now vars.now form.now) }
+    ensures { IfSome (decided result values.new.values) (λ act. act_at code.now types.now vars.now form.now ≡ Some act) }
+{
+    match form {
+        Form::Computation(form) => match computed(code, vars, form) {
+            Some(scalar) => AtOnce::Gives(scalar),
+            None => AtOnce::Other,
+        },
+        Form::Control(form) => match gone(code, types, vars, form, values) {
+            Some(block) => AtOnce::Goes { block },
+            None => AtOnce::Other,
+        },
+        _ => AtOnce::Other,
+    }
+}
