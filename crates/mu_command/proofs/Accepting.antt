@@ -19,7 +19,7 @@ use Rattle.mu_command.specs.declared.job.RunJob.{RunJob}
 use Rattle.mu_command.specs.Job.{job_of, word}
 use Rattle.mu_command.specs.Answer.{Outcomes, fetched, judged, begun, trial_begun, found, answer_of}
 use Rattle.mu_command.specs.Allowed.{Seen, AllowsJob}
-use Rattle.mu_command.specs.Written.{IsWhole}
+use Rattle.mu_command.specs.Written.{IsWhole, Writes}
 use Rattle.mu_command.proofs.Way.{after_entry, after_objects, after_client, after_picks}
 use Rattle.mu_command.proofs.Trials.{entry_word, usual_run, no_files}
 use Rattle.mu_command.specs.Central.{Answered, OfJob, IsAccepted}
@@ -65,18 +65,19 @@ no_end what too_long = refl
 ends : (s t : Status) → s ≡ t → is_end t ≡ true → is_end s ≡ true
 ends s t e h = subst (λ x. is_end x ≡ true) (sym e) h
 
-module _ (seen : Seen) (words : List (List ℕ)) (status : Status) (end : is_end status ≡ true) where
-  accepted_part : (job : Job) (o : Outcomes) → AllowsJob seen words (Some job) o → (a : Part Ready) → found words job o ≡ a → StopsSo IsEarly a → (ready_part a).status ≡ status → IsAccepted seen words status job
-  accepted_part job o allowed (Ok r) a short s = record { outcomes = o; allowed = allowed; ready = r; is = a; ends = s }
-  accepted_part job o allowed (Err answer) a short s = absurd (let no = ends answer.status status s end in cc)
+module _ (seen : Seen) (words : List (List ℕ)) (w0 w1 e0 e1 : Option (List ℕ)) (status : Status) (end : is_end status ≡ true) where
+  accepted_part : (job : Job) (o : Outcomes) → AllowsJob seen words (Some job) o → (a : Part Ready) → found words job o ≡ a → StopsSo IsEarly a → (ready_part a).status ≡ status → Writes (ready_part a) w0 w1 e0 e1 status →
+      IsAccepted seen words w0 w1 e0 e1 status job
+  accepted_part job o allowed (Ok r) a short s w = record { outcomes = o; allowed = allowed; ready = r; is = a; ends = s; writes = w }
+  accepted_part job o allowed (Err answer) a short s w = absurd (let no = ends answer.status status s end in cc)
 
-  accepted_job : (job : Option Job) (o : Outcomes) → AllowsJob seen words job o → (answer_of words job o).status ≡ status → OfJob (IsAccepted seen words status) job
-  accepted_job None o allowed s = absurd (let no = ends Usage status s end in cc)
-  accepted_job (Some job) o allowed s = accepted_part job o allowed (found words job o) refl (finding_all IsEarly is_early refl words o (λ what. no_end what (o what)) job) s
+  accepted_job : (job : Option Job) (o : Outcomes) → AllowsJob seen words job o → (answer_of words job o).status ≡ status → Writes (answer_of words job o) w0 w1 e0 e1 status → OfJob (IsAccepted seen words w0 w1 e0 e1 status) job
+  accepted_job None o allowed s w = absurd (let no = ends Usage status s end in cc)
+  accepted_job (Some job) o allowed s w = accepted_part job o allowed (found words job o) refl (finding_all IsEarly is_early refl words o (λ what. no_end what (o what)) job) s w
 
 is_whole : (status : Status) → is_end status ≡ true → IsWhole status
 is_whole status end = ((λ e. let no = ends SinkFault status (sym e) end in cc), (λ e. let no = ends Memory status (sym e) end in cc))
 
 pub accepted_cause : (seen : Seen) (words : List (List ℕ)) (w0 w1 e0 e1 : Option (List ℕ)) (status : Status) → Answered seen words w0 w1 e0 e1 status → is_end status ≡ true →
-    OfJob (IsAccepted seen words status) (job_of words)
-accepted_cause seen words w0 w1 e0 e1 status a end = accepted_job seen words status end (job_of words) a.outcomes a.allowed (sym (a.writes.status_of (is_whole status end)))
+    OfJob (IsAccepted seen words w0 w1 e0 e1 status) (job_of words)
+accepted_cause seen words w0 w1 e0 e1 status a end = accepted_job seen words w0 w1 e0 e1 status end (job_of words) a.outcomes a.allowed (sym (a.writes.status_of (is_whole status end))) a.writes

@@ -25,7 +25,7 @@ use Rattle.mu_command.specs.Job.{job_of, file_of, word}
 use Rattle.mu_texts.specs.Start.{Started}
 use Rattle.mu_texts.specs.Answer.{Answer, ready_answer}
 use Rattle.mu_command.specs.Answer.{Outcomes, found, answer_of}
-use Rattle.mu_command.specs.Allowed.{Seen, AllowsWord, AllowsJob, file_limit}
+use Rattle.mu_command.specs.Allowed.{Seen, AllowsJob, file_limit}
 use Rattle.mu_command.specs.Written.{Writes}
 
 -- There are outcomes that the inputs allow, and the answer to them is what is written.
@@ -56,15 +56,17 @@ pub record IsUnfetched (P : Seen → List (List ℕ) → What → ℕ → Type 0
   pub is : found words job outcomes ≡ Err (line_of what)
   pub writes : Writes (line_of what) written new_written marks new_marks status
 
--- outcomes that the inputs allow for the files of the job, and what is found with them: it is there, and its answer has this status; or
--- a file or the entry is refused, and the line of this very refusal is what is written
-pub record IsAccepted (seen : Seen) (words : List (List ℕ)) (status : Status) (job : Job) : Type 0 where
+-- What the job asks is there: it is found with outcomes that the inputs allow, its answer has this status, and that answer is what is
+-- written.
+pub record IsAccepted (seen : Seen) (words : List (List ℕ)) (written new_written marks new_marks : Option (List ℕ)) (status : Status) (job : Job) : Type 0 where
   pub outcomes : Outcomes
   pub allowed : AllowsJob seen words (Some job) outcomes
   pub ready : Ready
   pub is : found words job outcomes ≡ Ok ready
   pub ends : (ready_answer ready).status ≡ status
+  pub writes : Writes (ready_answer ready) written new_written marks new_marks status
 
+-- A file or the entry is refused: so it is with outcomes that the inputs allow, and the line of this very refusal is what is written.
 pub record IsRefused (seen : Seen) (words : List (List ℕ)) (written new_written marks new_marks : Option (List ℕ)) (job : Job) : Type 0 where
   pub outcomes : Outcomes
   pub allowed : AllowsJob seen words (Some job) outcomes

@@ -80,7 +80,8 @@ pub fn mu<I: Inputs, S: Sink>(alloc: Global, words: &Words, inputs: &mut I, out:
         (IsRefused (record { told = I.holds inputs.old; before = I.faults inputs.old; now = I.faults inputs.new }) words.now
         (S.written out.old) (S.written out.new) (S.ends out.old) (S.ends out.new)) (job_of words.now) }
     ensures accepted { is_end result ≡ true → OfJob
-        (IsAccepted (record { told = I.holds inputs.old; before = I.faults inputs.old; now = I.faults inputs.new }) words.now result) (job_of words.now) }
+        (IsAccepted (record { told = I.holds inputs.old; before = I.faults inputs.old; now = I.faults inputs.new }) words.now
+        (S.written out.old) (S.written out.new) (S.ends out.old) (S.ends out.new) result) (job_of words.now) }
     ensures sink_fault { result ≡ Status.SinkFault → Rose (S.faults out.old) (S.faults out.new) }
 
     // What holds at each moment of the run that the words ask for, whatever bytes its files have.

@@ -23,6 +23,13 @@ asked_at_once bundle s f b i j cs vs (Some a) at same classes vars h =
     at.acts a (ap (λ cs. act_at bundle cs f.vars i.form) (sym classes) ∙ ap (λ vs. act_at bundle cs vs i.form) (sym vars) ∙ ap (λ (i : Code). act_at bundle cs vs i.form) same ∙ h)
 asked_at_once bundle s f b i j cs vs None at same classes vars h = tt
 
+-- and so is what is decided of a call or a return
+pub asked_crossing : {A : Type 0} (bundle : List Item) (s : Held) (f : Activation) (b : BlockCode) (i j : Code) (cs : List ℕ) (vs : List Value) (o : Option A) (act : A → Act) → AsksAt bundle s f b i → i ≡ j → cs ≡ b.classes → vs ≡ f.vars
+    → IfSome o (λ a. act_at bundle cs vs j.form ≡ Some (act a)) → IfSome o (λ a. stepping bundle s ≡ acting bundle s (act a))
+asked_crossing bundle s f b i j cs vs (Some a) act at same classes vars h =
+    at.acts (act a) (ap (λ cs. act_at bundle cs f.vars i.form) (sym classes) ∙ ap (λ vs. act_at bundle cs vs i.form) (sym vars) ∙ ap (λ (i : Code). act_at bundle cs vs i.form) same ∙ h)
+asked_crossing bundle s f b i j cs vs None act at same classes vars h = tt
+
 -- an act that the step is has a rule where the step has one
 pub acting_at_once : (bundle : List Item) (s : Held) (a : Act) → stepping bundle s ≢ Stuck → stepping bundle s ≡ acting bundle s a → acting bundle s a ≢ Stuck
 acting_at_once bundle s a h is = λ e. h (is ∙ e)

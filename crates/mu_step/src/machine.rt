@@ -85,8 +85,9 @@ impl<'a, M: Memory + Drop, C: Determined + Drop> Machine<'a, M, C> {
         })
     }
 
-    /// Makes the next step where that is a frequent one, which writes nothing: an instruction that computes a scalar, or that only goes to a
-    /// block. It takes no memory once the lists of the block are long enough. Else nothing changes, and `step` makes it.
+    /// Makes the next step where that is a frequent one, which writes nothing: an instruction that computes a scalar, that only goes to a
+    /// block, that calls a function, or that returns to the frame below. It takes no memory once the lists of the block are long enough, but
+    /// for what a call keeps until its return. Else nothing changes, and `step` makes it.
     #[tactic(auto, using(crate::specs::Machines::machines))]
     pub fn advance(&mut self) -> bool
         requires there { client_answers (named self.old.bundle) self.old.configuration.client (step (named self.old.bundle) self.old.configuration) ≢ Stuck }
@@ -98,7 +99,13 @@ impl<'a, M: Memory + Drop, C: Determined + Drop> Machine<'a, M, C> {
         let _items = self.code.items();
         programs_are_same();
         let code = self.code;
-        step_at_once(&mut self.state, code, &mut self.room.values)
+        step_at_once(
+            &mut self.state,
+            self.alloc,
+            code,
+            &mut self.room,
+            &mut self.spare,
+        )
     }
 
     /// Tells the ending: the first time with the lines of its step, and then with none.

@@ -24,6 +24,7 @@ mod way;
 pub use access::Access;
 pub use act::Act;
 pub use at_once::{AtOnce, decide_at_once};
+pub use control::{call, ret};
 pub use deciding::decide;
 pub use entering::Entering;
 pub use laws::forms_are_there;

@@ -1,5 +1,5 @@
 -- Lemmas of accesses, over the view of a state and its parts.
-use Rattle.std.proofs.Common.{◌≡◌, ◌≢◌, ℕ, zero, suc, ◌+◌, ◌<◌, ◌≤◌, true, false, List, [], ◌∷◌, drop, Option, Some, None, IsSome, IsSomeAnd, Result, Ok, Err, IfOk, length, slice_get, refl, sym, ◌∙◌, ap, subst, arith, add-one}
+use Rattle.std.proofs.Common.{◌≡◌, ◌≢◌, ℕ, zero, suc, ◌+◌, ◌<◌, ◌≤◌, true, false, List, [], ◌∷◌, ◌++◌, drop, Option, Some, None, IsSome, IsSomeAnd, Result, Ok, Err, IfOk, length, slice_get, refl, sym, ◌∙◌, ap, subst, arith, add-one}
 use Rattle.std.specs.Prelude.{reverse}
 use Rattle.ir_tree.specs.declared.items.Item.{Item}
 use Rattle.mu_values.specs.declared.scalars.Scalar.{Scalar}
@@ -140,6 +140,10 @@ module _ (bundle : List Item) (s v : Held) (a : Access) (cell : CellId) (w : Wan
       ∙ ap (λ m. logs s (event s.thread x) (pick m (ahead s)).1 (record s.frames { top = stands s.frames.top block at out })) many
       ∙ sym (option_is bundle s a cell k x (stands s.frames.top block at out) h chosen kind on)
 
+-- where a frame goes on at a place of its block, in the words of the frame that it is
+pub next_of : (bundle : List Item) (f w : Activation) (vs : List Value) (at : ℕ) → f ≡ w → goes_on bundle f vs ≡ Some (stands f f.block at (f.vars ++ vs)) → goes_on bundle f vs ≡ Some (stands f w.block at (w.vars ++ vs))
+next_of bundle f w vs at same way = way ∙ ap (λ (x : Activation). Some (stands f x.block at (x.vars ++ vs))) same
+
 -- ---- an event that is logged, or races
 
 pub logs_race : (s v : Held) (e : Event) (picks : List ℕ) (fr : Chain) (lg : List Event) (rl : Rule) (n : ℕ) (k : Ending) (o : Outcome) → v ≡ s → lg ≡ v.log → rl ≡ v.rule → race rl lg e ≡ Some n → k ≡ race_at v e n → o ≡ End [] k → o ≡ logs s e picks fr
@@ -174,6 +178,20 @@ logs_on s v e options block at number out fr lg after rl kept ps ls view left lo
     ∙ ap (λ n. went_with (record v { frames = standing; log = e ∷ v.log; picks = taken; skip = 0 }) (lines.Event n e ∷ [])) count
     ∙ ap (logs_unless v e taken standing) (sym none)
     ∙ ap (λ (s : Held). logs_unless s e (pick options (ahead s)).1 (record s.frames { top = stands s.frames.top block at out }) (race s.rule s.log e)) view
+
+-- the same where the frames were lent meanwhile, and are as before
+pub logs_race_kept : (s v : Held) (e : Event) (picks : List ℕ) (fr lent : Chain) (lg seen : List Event) (rl used : Rule) (n : ℕ) (k : Ending) (o : Outcome) → v ≡ s → lg ≡ v.log → rl ≡ v.rule → race rl lg e ≡ Some n
+    → k ≡ race_at (record v { frames = lent; log = seen; rule = used }) e n → lent ≡ v.frames → o ≡ End [] k → o ≡ logs s e picks fr
+logs_race_kept s v e picks fr lent lg seen rl used n k o view log rule races ending kept is =
+    logs_race s v e picks fr lg rl n k o view log rule races (ending ∙ ap (λ (fr : Chain). race_at (record v { frames = fr }) e n) kept) is
+
+-- the same where the thread goes on at a place of its block, with values behind its own
+pub logs_next : (s v : Held) (e : Event) (options at number : ℕ) (vs : List Value) (fr : Chain) (lg after : List Event) (rl kept : Rule) (ps : List ℕ) (ls : List Line) → v ≡ s → s.left ≡ true → lg ≡ v.log → rl ≡ v.rule → race rl lg e ≡ None
+    → after ≡ e ∷ lg → kept ≡ rl → fr ≡ record v.frames { top = stands v.frames.top v.frames.top.block at (v.frames.top.vars ++ vs) } → ps ≡ (pick options (ahead v)).1 → number ≡ length v.log → ls ≡ lines.Event number e ∷ []
+    → answers (Went ls) (logged_state v fr after ps kept) ≡ logs s e (pick options (ahead s)).1 (record s.frames { top = stands s.frames.top s.frames.top.block at (s.frames.top.vars ++ vs) })
+logs_next s v e options at number vs fr lg after rl kept ps ls view left log rule alone added same frames picks count written =
+    logs_on s v e options v.frames.top.block at number (v.frames.top.vars ++ vs) fr lg after rl kept ps ls view left log rule alone added same frames picks count written
+    ∙ ap (λ (x : Held). logs s e (pick options (ahead s)).1 (record s.frames { top = stands s.frames.top x.frames.top.block at (x.frames.top.vars ++ vs) })) view
 
 -- ---- a fence
 

@@ -1,5 +1,5 @@
 // Accesses of memory, and fences.
-ghost use Rattle.std.specs.Prelude.{◌≡◌, ◌≢◌, suc, ℕ, ◌+◌, ◌-◌, ◌<◌, [], ◌∷◌, IsSome, IsNone, Some, None, MatchOption, IfOk, OnOk, OnErr, length, slice_get, drop, true, false};
+ghost use Rattle.std.specs.Prelude.{◌≡◌, ◌≢◌, suc, ℕ, ◌+◌, ◌-◌, ◌<◌, ◌≤◌, [], ◌∷◌, ◌++◌, IsSome, IsNone, Some, None, MatchOption, IfOk, OnOk, OnErr, length, slice_get, drop, true, false};
 ghost use Rattle.mem_axioms.specs.declared.types.Mode.TheVariants.{Read};
 ghost use Rattle.mem_axioms.specs.declared.types.Kind.TheVariants as kinds;
 ghost use Rattle.mem_axioms.specs.Objects.{HasCell, initial_of};
@@ -23,10 +23,11 @@ ghost use Rattle.thread_acts.specs.Remembering.{initials};
 ghost use Rattle.thread_acts.specs.Accessing.{picking, race_at, logs};
 
 use crate::finding::case_of;
-use crate::flow::{Place, passing, stand};
+use crate::flow::{Place, next_place, passing, reserve_one, stand, stand_behind};
 use crate::state::{State, ended};
 use bundle_check::Checked;
 use client_hooks::Determined;
+use frames::Frames;
 use heap_cells::CellId;
 use mem_axioms::{Chosen, Event, Kind, Memory, Mode, Race, Wanted};
 use mu_base::{Order, Steps};
@@ -230,6 +231,42 @@ pub fn commit_other<M: Memory, L: Ledger>(memory: &mut M, event: Event, blank: B
     }
 }
 
+/// A memory gets an event, and the top frame goes on at a place with at most one result behind its own variables. Where the event races,
+/// that is the answer, and all is as before.
+fn commit_next<M: Memory, L: Ledger>(
+    memory: &mut M,
+    frames: &mut Frames,
+    event: Event,
+    at: u32,
+    results: &Slots,
+    blank: Blank,
+) -> Result<Option<Race>, AllocError>
+    requires name { blank.name ≡ L.name }
+    requires parts { blank.parts ≡ L.parts }
+    requires one { L.parts ≡ 1 }
+    requires fits { EventFits (M.rule memory.old) (M.objects memory.old) (M.log memory.old) event }
+    requires room { HasRoom (M.room memory.old) event }
+    requires count { length (M.log memory.old) + 1 < 4294967295 }
+    requires few { length results.now.values ≤ 1 }
+    ensures race { IfOk result (λ found. MatchOption found (race (M.rule memory.old) (M.log memory.old) event ≡ None) (λ found. race (M.rule memory.old) (M.log memory.old) event ≡ Some found.earlier)) }
+    ensures added { IfOk result (λ found. IsNone found → M.log memory.new ≡ event ∷ M.log memory.old) }
+    ensures raced { IfOk result (λ found. IsSome found → M.log memory.new ≡ M.log memory.old) }
+    ensures goes { IfOk result (λ found. IsNone found → frames.new ≡ record frames.old { top = stands frames.old.top frames.old.top.block at (frames.old.top.vars ++ results.now.values) }) }
+    ensures stays { IfOk result (λ found. IsSome found → frames.new ≡ frames.old) }
+    ensures err_frames { OnErr result (frames.new ≡ frames.old) }
+    ensures err { OnErr result (M.log memory.new ≡ M.log memory.old) }
+    ensures same_objects { M.objects memory.new ≡ M.objects memory.old }
+    ensures same_rule { M.rule memory.new ≡ M.rule memory.old }
+{
+    let frame = frames.top_mut();
+    reserve_one(&mut frame.slots, results)?;
+    let found = commit::<M, L>(memory, event, blank);
+    if found.is_none() {
+        stand_behind(frame, at, results);
+    }
+    Ok(found)
+}
+
 /// So many picks are taken, and then one among so many options.
 fn take_picks(picks: &mut Schedule, skip: u32, options: u32)
     requires { 0 < options }
@@ -304,8 +341,13 @@ impl<M: Memory, C: Determined> State<M, C> {
             kind: kind_of(access, cell, chosen),
         };
         write_results(access, chosen, values)?;
-        let place = passing(code, self.frames.top(), values, out)?;
-        self.log(alloc, event, Some(cell), options, place, out)
+        match next_place(code, self.frames.top(), values) {
+            Some(at) => self.log_next(alloc, event, Some(cell), options, at, values),
+            None => {
+                let place = passing(code, self.frames.top(), values, out)?;
+                self.log(alloc, event, Some(cell), options, place, out)
+            }
+        }
     }
 
     /// The ending of a run whose last event races.
@@ -361,6 +403,49 @@ impl<M: Memory, C: Determined> State<M, C> {
         }
     }
 
+    /// The same, where it goes on at a place of its block with at most one result behind its own variables.
+    fn log_next(
+        &mut self,
+        alloc: Global,
+        event: Event,
+        cell: Option<CellId>,
+        options: u32,
+        at: u32,
+        results: &Slots,
+    ) -> Result<StepEnd, AllocError>
+        requires left { self.old.left ≡ true }
+        requires room { self.old.steps < self.old.budget }
+        requires makes { (i : ℕ) → makes_thread i event ≡ false }
+        requires fits { EventFits self.old.rule (initials self.old.objects) self.old.log event }
+        requires cell { HasRoom (record { thread = self.old.thread; cell = cell; events = 1 }) event }
+        requires options { 0 < options }
+        requires few { length results.now.values ≤ 1 }
+        ensures ok { IfOk result (λ end. answers end self.new ≡ logs self.old event (pick options (ahead self.old)).1 (record self.old.frames { top = stands self.old.frames.top self.old.frames.top.block at (self.old.frames.top.vars ++ results.now.values) })) }
+        ensures err { OnErr result (self.new ≡ self.old) }
+        ensures stays { IfOk result (λ end. Stays end self.old self.new) }
+    {
+        let lines = line_of(alloc, self.events, event)?;
+        self.memory.reserve(self.thread, cell, 1)?;
+        match commit_next::<M, Brand>(
+            &mut self.memory,
+            &mut self.frames,
+            event,
+            at,
+            results,
+            Blank::new(1),
+        ) {
+            Err(refused) => Err(refused),
+            Ok(Some(race)) => Ok(ended(alloc, self.race_ending(event, race))),
+            Ok(None) => {
+                take_picks(&mut self.picks, self.skip, options);
+                self.skip = 0;
+                self.events += 1;
+                self.steps += 1;
+                Ok(StepEnd::Went(lines))
+            }
+        }
+    }
+
     /// The thread passes a fence.
     pub fn fence(
         &mut self,
@@ -382,7 +467,12 @@ impl<M: Memory, C: Determined> State<M, C> {
             kind: Kind::Fence { order },
         };
         values.clear();
-        let place = passing(code, self.frames.top(), values, out)?;
-        self.log(alloc, event, None, 1, place, out)
+        match next_place(code, self.frames.top(), values) {
+            Some(at) => self.log_next(alloc, event, None, 1, at, values),
+            None => {
+                let place = passing(code, self.frames.top(), values, out)?;
+                self.log(alloc, event, None, 1, place, out)
+            }
+        }
     }
 }

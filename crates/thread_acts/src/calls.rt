@@ -1,5 +1,6 @@
 // Calls.
-ghost use Rattle.std.specs.Prelude.{◌≡◌, ◌≢◌, ◌<◌, IsSome, Some, IfOk, IfSome, OnErr, true};
+ghost use Rattle.std.specs.Prelude.{◌≡◌, ◌≢◌, ◌<◌, [], IsSome, Some, IfOk, IfSome, OnErr, true, false};
+ghost use Rattle.mu_model.specs.declared.endings.StepEnd.TheVariants.{Went};
 ghost use Rattle.mu_model.specs.Outcomes.{Stuck};
 ghost use Rattle.mu_model.specs.Acts as acts;
 ghost use Rattle.thread_acts.specs.Held.{Held};
@@ -8,7 +9,7 @@ ghost use Rattle.thread_acts.specs.Acting.{answers, went_on, acting, awaited, en
 
 use crate::objects::end_objects;
 use crate::state::State;
-use crate::waiting::{enter, entered, waiting};
+use crate::waiting::{enter, enter_for, entered, waiting, waiting_in};
 use bundle_check::Checked;
 use client_hooks::Determined;
 use frames::Frames;
@@ -78,6 +79,56 @@ impl<M: Memory, C: Determined> State<M, C> {
         let values = values_out(alloc, room);
         enter(&mut self.frames, entered(alloc, block, values), waiting)?;
         Ok(self.went(alloc))
+    }
+
+    /// The thread calls a function, with the values in the room, where that has a body and memory is found. Else nothing changes.
+    #[tactic(auto, using(crate::specs::ActLaws::calling))]
+    pub fn call_at_once(
+        &mut self,
+        alloc: Global,
+        code: &Checked,
+        function: u32,
+        room: &mut Room,
+    ) -> bool
+        requires left { self.old.left ≡ true }
+        requires room { self.old.steps < self.old.budget }
+        requires there { acting code.now self.old (acts.Calls function room.old.values.values) ≢ Stuck }
+        ensures made { result ≡ true → answers (Went []) self.new ≡ acting code.now self.old (acts.Calls function room.old.values.values) }
+        ensures left { result ≡ false → self.new ≡ self.old }
+    {
+        match code.function(function).first {
+            None => false,
+            Some(block) => self.enter_at_once(alloc, code, function, block, room),
+        }
+    }
+
+    /// The thread calls a function with that first block, where memory is found. Else nothing changes.
+    fn enter_at_once(
+        &mut self,
+        alloc: Global,
+        code: &Checked,
+        function: u32,
+        block: u32,
+        room: &mut Room,
+    ) -> bool
+        requires left { self.old.left ≡ true }
+        requires room { self.old.steps < self.old.budget }
+        requires there { IsSome (awaited code.now self.old.frames.top function) }
+        ensures made { result ≡ true → IfSome (awaited code.now self.old.frames.top function) (λ w. answers (Went []) self.new ≡ went_on (record self.old { frames = entered_above self.old.frames (entered block room.old.values.values) w })) }
+        ensures left { result ≡ false → self.new ≡ self.old }
+    {
+        let top = self.frames.top();
+        let Ok(mut waiting) = waiting_in(alloc, code, top, function, &mut room.waits) else {
+            return false;
+        };
+        let values = values_out(alloc, room);
+        let frame = entered(alloc, block, values);
+        if enter_for(&mut self.frames, frame, &mut waiting).is_err() {
+            return false;
+        }
+        waiting.leave_room(&mut room.waits);
+        self.count();
+        true
     }
 
     /// The thread calls a function in place of its top frame.

@@ -1,5 +1,5 @@
 // Where a frame stands next.
-ghost use Rattle.std.specs.Prelude.{◌≡◌, ◌+◌, ◌++◌, ◌∷◌, [], IsSome, Some, OnOk, OnErr, IfOk};
+ghost use Rattle.std.specs.Prelude.{◌≡◌, ◌+◌, ◌≤◌, ◌++◌, ◌∷◌, [], IsSome, IfSome, Some, OnOk, OnErr, IfOk, length, slice_get};
 ghost use Rattle.frames.specs.Chains.{stands};
 ghost use Rattle.frames.specs.FrameOf.{frame_of};
 ghost use Rattle.model_numbers.specs.Sources.{goal_at};
@@ -130,4 +130,66 @@ pub(crate) fn push_on_top(frames: &mut Frames, scalar: Scalar) -> Result<(), All
     ensures err { OnErr result (frames.new ≡ frames.old) }
 {
     push_on(frames.top_mut(), scalar)
+}
+
+/// The next place of a frame that goes on there, behind its own variables and at most one result. None where it goes on elsewhere, or
+/// has more results.
+#[tactic(auto, using(crate::specs::ActLaws::going))]
+pub(crate) fn next_place(code: &Checked, frame: &Frame, results: &Slots) -> Option<u32>
+    requires { IsSome (goes_on code.now (frame_of frame.now) results.now.values) }
+    ensures few { IfSome result (λ at. length results.now.values ≤ 1) }
+    ensures next { IfSome result (λ at. goes_on code.now (frame_of frame.now) results.now.values ≡ Some (stands (frame_of frame.now) frame.now.block at (frame.now.slots.values ++ results.now.values))) }
+{
+    if frame.fresh || results.len() > 1 {
+        return None;
+    }
+    match &code.code(frame.block, frame.at).normal {
+        None => {
+            let at = frame.at.checked_add(1)?;
+            Some(at)
+        }
+        Some(_) => None,
+    }
+}
+
+/// Makes room in a list for the one value that another may have.
+pub(crate) fn reserve_one(to: &mut Slots, from: &Slots) -> Result<(), AllocError>
+    ensures same { to.new.values ≡ to.old.values }
+    ensures room { OnOk result (length from.now.values ≤ to.new.spare) }
+    ensures scalars { OnOk result (IfSome (slice_get from.now.values 0) (λ v. length v ≤ to.new.spare_scalars)) }
+{
+    let scalars = if from.len() > 0 { from.at(0).len() } else { 0 };
+    to.reserve(from.len(), scalars)
+}
+
+/// Adds the one value that a list may have to another one, which has room for it.
+#[tactic(auto, using(crate::specs::Lists::one_behind))]
+fn push_one(from: &Slots, to: &mut Slots)
+    requires few { length from.now.values ≤ 1 }
+    requires room { length from.now.values ≤ to.old.spare }
+    requires scalars { IfSome (slice_get from.now.values 0) (λ v. length v ≤ to.old.spare_scalars) }
+    ensures { to.new.values ≡ to.old.values ++ from.now.values }
+{
+    if from.len() == 0 {
+        return;
+    }
+    match to.push_slice(from.at(0)) {
+        Ok(()) => {}
+        Err(_) => unreachable!(),
+    }
+}
+
+/// The frame stands at a place of its block, with the one value that a list may have behind its own, and waits for nothing.
+pub(crate) fn stand_behind(frame: &mut Frame, at: u32, results: &Slots)
+    requires few { length results.now.values ≤ 1 }
+    requires room { length results.now.values ≤ frame.old.slots.spare }
+    requires scalars { IfSome (slice_get results.now.values 0) (λ v. length v ≤ frame.old.slots.spare_scalars) }
+    ensures { frame_of frame.new ≡ stands (frame_of frame.old) frame.old.block at (frame.old.slots.values ++ results.now.values) }
+{
+    push_one(results, &mut frame.slots);
+    frame.at = at;
+    frame.fresh = false;
+    frame.waits.clear();
+    frame.handler = None;
+    frame.kept.clear();
 }

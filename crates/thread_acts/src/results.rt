@@ -1,7 +1,8 @@
 // Returns.
-ghost use Rattle.std.specs.Prelude.{◌≡◌, ◌≢◌, ◌<◌, [], ◌∷◌, IsSome, Some, IfOk, OnErr, length, true};
+ghost use Rattle.std.specs.Prelude.{◌≡◌, ◌≢◌, ◌<◌, [], ◌∷◌, IsSome, Some, IfOk, OnErr, length, true, false};
 ghost use Rattle.mu_values.specs.Slots.{TypedValues};
 ghost use Rattle.mu_model.specs.declared.lines.Line.TheVariants as noted;
+ghost use Rattle.mu_model.specs.declared.endings.StepEnd.TheVariants.{Went};
 ghost use Rattle.mu_model.specs.Outcomes.{Stuck};
 ghost use Rattle.mu_model.specs.Acts as acts;
 ghost use Rattle.thread_acts.specs.Outcome.{Stays};
@@ -110,5 +111,42 @@ impl<M: Memory, C: Determined> State<M, C> {
         leave_for(&mut self.frames, &mut room.others);
         stand(&mut self.frames, place, out);
         Ok(self.went(alloc))
+    }
+
+    /// The thread returns from its function to the frame below it, which goes on with the values in the room, where there is one and memory
+    /// is found. Else nothing changes.
+    #[tactic(auto, using(crate::specs::ActLaws::only_frame))]
+    pub fn return_at_once(&mut self, code: &Checked, room: &mut Room, out: &mut Slots) -> bool
+        requires left { self.old.left ≡ true }
+        requires room { self.old.steps < self.old.budget }
+        requires there { acting code.now self.old (acts.Returns (record { types = room.old.types.members; values = room.old.values.values })) ≢ Stuck }
+        ensures made { result ≡ true → answers (Went []) self.new ≡ acting code.now self.old (acts.Returns (record { types = room.old.types.members; values = room.old.values.values })) }
+        ensures left { result ≡ false → self.new ≡ self.old }
+    {
+        if self.frames.count() == 1 {
+            false
+        } else {
+            self.leave_at_once(code, room, out)
+        }
+    }
+
+    /// The top frame ends, and the one below it goes on with the values in the room, where memory is found. Else nothing changes.
+    #[tactic(auto, using(crate::specs::ActLaws::returning))]
+    fn leave_at_once(&mut self, code: &Checked, room: &mut Room, out: &mut Slots) -> bool
+        requires left { self.old.left ≡ true }
+        requires room { self.old.steps < self.old.budget }
+        requires below { 0 < length self.old.frames.below }
+        requires there { acting code.now self.old (acts.Returns (record { types = room.old.types.members; values = room.old.values.values })) ≢ Stuck }
+        ensures made { result ≡ true → answers (Went []) self.new ≡ acting code.now self.old (acts.Returns (record { types = room.old.types.members; values = room.old.values.values })) }
+        ensures left { result ≡ false → self.new ≡ self.old }
+    {
+        let Ok(place) = passing(code, self.frames.frame(1), &room.values, out) else {
+            return false;
+        };
+        end_objects(&mut self.heap, self.frames.top().cells.as_slice());
+        leave_for(&mut self.frames, &mut room.others);
+        stand(&mut self.frames, place, out);
+        self.count();
+        true
     }
 }

@@ -1,5 +1,5 @@
 // What a frame waits for while a function that it called stands above it.
-ghost use Rattle.std.specs.Prelude.{◌≡◌, ◌∷◌, [], IsSome, Some, IfOk, OnOk, OnErr, length, option_map};
+ghost use Rattle.std.specs.Prelude.{◌≡◌, ◌<◌, ◌∷◌, [], IsSome, Some, IfOk, OnOk, OnErr, length, option_map, slice_get};
 ghost use Rattle.bundle_check.specs.Checking.{bundle_tables};
 ghost use Rattle.frames.specs.FrameOf.{frame_of, goal_of};
 ghost use Rattle.mu_model.specs.Types.{classes_given};
@@ -41,6 +41,11 @@ impl Wait {
     {
         &self.waits
     }
+
+    /// The room of its list of classes goes to that one.
+    pub(crate) fn leave_room(mut self, list: &mut Types) {
+        mem::swap(&mut self.waits, list);
+    }
 }
 
 /// The classes of what a function gives.
@@ -56,6 +61,40 @@ fn classes_given(alloc: Global, code: &Checked, function: u32) -> Result<Types, 
     };
     let classes = Vec::from_slice(alloc, signature.gives.as_slice())?;
     Ok(Types::from_vec(classes))
+}
+
+fn class_at(classes: &[u32], n: usize) -> u32
+    requires { n < length classes.now }
+    ensures { slice_get classes.now n ≡ Some result }
+{
+    classes[n]
+}
+
+/// These classes, in place of what the list held. Where no memory is found some may be missing.
+#[tactic(auto, using(step_forms::specs::OperandLists::copies))]
+fn copy_classes(classes: &[u32], out: &mut Types) -> Result<(), AllocError>
+    ensures { OnOk result (out.new.members ≡ classes.now) }
+{
+    out.clear();
+    for n in 0..classes.len() {
+        out.push(class_at(classes, n))?;
+    }
+    Ok(())
+}
+
+/// The classes of what a function gives, in place of what the list held. Where no memory is found some may be missing.
+fn read_classes_given(code: &Checked, function: u32, out: &mut Types) -> Result<(), AllocError>
+    ensures { OnOk result (out.new.members ≡ classes_given (bundle_tables code.now) function) }
+{
+    out.clear();
+    let tables = code.tables();
+    let Some(number) = tables.functions.as_slice().get(function as usize) else {
+        return Ok(());
+    };
+    let Some(signature) = tables.signatures.as_slice().get(*number as usize) else {
+        return Ok(());
+    };
+    copy_classes(signature.gives.as_slice(), out)
 }
 
 /// A destination with the values of its arguments.
@@ -104,6 +143,22 @@ pub(crate) fn waiting(
     ensures { IfOk result (λ w. awaited code.now (frame_of frame.now) function ≡ Some w) }
 {
     let waits = classes_given(alloc, code, function)?;
+    waiting_for(alloc, code, frame, waits)
+}
+
+/// The same, with the room of that list for the classes. An empty list takes its place.
+pub(crate) fn waiting_in(
+    alloc: Global,
+    code: &Checked,
+    frame: &Frame,
+    function: u32,
+    list: &mut Types,
+) -> Result<Wait, AllocError>
+    requires { IsSome (awaited code.now (frame_of frame.now) function) }
+    ensures { IfOk result (λ w. awaited code.now (frame_of frame.now) function ≡ Some w) }
+{
+    let mut waits = mem::replace(list, Types::new(alloc));
+    read_classes_given(code, function, &mut waits)?;
     waiting_for(alloc, code, frame, waits)
 }
 
@@ -173,11 +228,23 @@ pub(crate) fn enter(frames: &mut Frames, frame: Frame, mut waiting: Wait) -> Res
     ensures ok { OnOk result (frames.new ≡ entered_above frames.old (frame_of frame) waiting) }
     ensures err { OnErr result (frames.new ≡ frames.old) }
 {
-    exchange_on_top(frames, &mut waiting);
+    enter_for(frames, frame, &mut waiting)
+}
+
+/// The same. What the frame waited for before stands then where what it waits for stood.
+pub(crate) fn enter_for(
+    frames: &mut Frames,
+    frame: Frame,
+    waiting: &mut Wait,
+) -> Result<(), AllocError>
+    ensures ok { OnOk result (frames.new ≡ entered_above frames.old (frame_of frame) waiting.old) }
+    ensures err { OnErr result (frames.new ≡ frames.old) }
+{
+    exchange_on_top(frames, waiting);
     match frames.enter(frame) {
         Ok(()) => Ok(()),
         Err(_refused) => {
-            exchange_on_top(frames, &mut waiting);
+            exchange_on_top(frames, waiting);
             Err(AllocError)
         }
     }
