@@ -1,3 +1,4 @@
+pub mod Counted
 pub mod GoingOn
 pub mod Releasing
 pub mod Searching

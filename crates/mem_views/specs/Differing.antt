@@ -1,10 +1,8 @@
 -- The positions that a strong comparison may read, and how many values are looked at.
-use Rattle.std.specs.Prelude.{ℕ, ◌+◌, ◌*◌, Bool, not, ◌&&◌, nat_le, List, length, Option, Some, None}
-use Rattle.mu_base.specs.declared.order.Order.{Order}
+use Rattle.std.specs.Prelude.{ℕ, ◌+◌, ◌*◌, Bool, not, ◌&&◌, nat_le, List, Option, Some, None}
 use Rattle.mu_values.specs.declared.scalars.Scalar.{Scalar}
 use Rattle.heap_cells.specs.declared.cells.CellId.{CellId}
-use Rattle.mem_axioms.specs.Choices.{options, holds}
-use Rattle.mem_axioms.specs.declared.types.Rule.{Rule}
+use Rattle.mem_axioms.specs.Choices.{holds}
 use Rattle.mem_axioms.specs.declared.types.Event.{Event}
 use Rattle.mem_views.specs.Threads.{thread_count}
 
@@ -16,7 +14,13 @@ differs_from initial log cell floor scalar position = nat_le floor position && n
 abbrev pub floor_bound : List Event → ℕ → ℕ
 floor_bound log d = 4 * (thread_count log * (d + 1))
 
--- values are looked at where one is excluded
-abbrev pub looks_bound : Rule → (CellId → Scalar) → List Event → ℕ → CellId → Order → Option Scalar → ℕ
-looks_bound rule initial log thread cell order None = 0
-looks_bound rule initial log thread cell order (Some scalar) = length (options rule initial log thread cell order)
+-- For every d with fewer than 2^d events in the log: to count the positions below one that have another value takes two
+-- searches among the positions of that value, of d + 66 looks each, and a look at the initial scalar. A search is by halves, or,
+-- of at most 64 values, a look at each of them.
+abbrev pub count_bound : ℕ → ℕ
+count_bound d = 2 * d + 133
+
+-- Where a value is excluded, a position is found by at most d + 1 such counts.
+abbrev pub looks_bound : ℕ → Option Scalar → ℕ
+looks_bound d None = 0
+looks_bound d (Some scalar) = (d + 1) * count_bound d

@@ -1,5 +1,5 @@
 // The memory of histories and clocks.
-ghost use Rattle.std.specs.Prelude.{◌≡◌, ℕ, ◌+◌, ◌*◌, ◌^◌, ◌<◌, ◌≤◌, true, false, None, Some, List, [], ◌∷◌, ◌++◌, map, length, slice_index, slice_get, vec_len, vec_capacity, OnOk, OnErr, MatchOption, IsNone, IsSome, IfSome};
+ghost use Rattle.std.specs.Prelude.{◌≡◌, ℕ, ◌+◌, ◌-◌, ◌*◌, ◌^◌, ◌<◌, ◌≤◌, true, false, None, Some, List, [], ◌∷◌, ◌++◌, map, length, take, slice_index, slice_get, vec_len, vec_capacity, OnOk, OnErr, MatchOption, IsNone, IsSome, IfSome};
 ghost use Rattle.mem_axioms.specs.Events.{accesses, is_seq_cst};
 ghost use Rattle.mem_axioms.specs.Logs.{newest};
 ghost use Rattle.mem_axioms.specs.Form.{value_at};
@@ -15,17 +15,19 @@ ghost use Rattle.mem_axioms.specs.declared.types.Kind.TheVariants.{NewThread};
 ghost use Rattle.clock_laws.specs.Clocks.{views, knew, knows, pends};
 ghost use Rattle.clock_laws.specs.ViewFloor.{view_limit};
 ghost use Rattle.clocks.specs.Knowing.{known_by};
-ghost use Rattle.mem_views.specs.Holding.{LogHolds, MadeHolds, RowsHold, CellHolds, ClocksHold, CellsHold, IsUntouched};
+ghost use Rattle.mem_views.specs.Holding.{values_of, LogHolds, MadeHolds, RowsHold, CellHolds, ClocksHold, CellsHold, IsUntouched};
+ghost use Rattle.write_history.specs.Occurrences.{occurrences};
 ghost use Rattle.mem_views.specs.RowsAdded.{RowsRoom};
 ghost use Rattle.mem_views.specs.Roominess.{CellFits};
 ghost use Rattle.mem_views.specs.Answers.{IsKnown};
 ghost use Rattle.mem_views.specs.Bounds.{search_bound, values_bound};
-ghost use Rattle.mem_views.specs.Differing.{differs_from, floor_bound, looks_bound};
+ghost use Rattle.mem_views.specs.Differing.{differs_from, floor_bound, count_bound, looks_bound};
 
 use crate::cell::CellViews;
 use crate::floors::{fences_before, found_floor, greatest_of_kinds, last_fence};
 use crate::gains::{gain, given_by, taken_from};
 use crate::kept_cells;
+use crate::look_ups::greater;
 use crate::places::Places;
 use crate::racing::first_racing;
 use crate::rows::Rows;
@@ -329,33 +331,71 @@ impl ViewMemory {
         floor <= position && !self.holds(cell, scalar, position, steps)
     }
 
-    /// How many positions from the floor on have another value.
+    /// Position 0, if it is from the floor on and has another value: 1 or 0 positions.
+    fn count_initial<L: Ledger>(
+        &self,
+        cell: CellId,
+        floor: u32,
+        scalar: Scalar,
+        steps: &mut Steps<L>,
+    ) -> u32
+        requires { HasCell self.now.objects.values cell }
+        ensures count { result ≡ length (below (differs_from (initial_of self.now.objects.values) self.now.tape.events cell floor scalar) 1) }
+        ensures at_most { result ≤ 1 }
+        ensures cost { steps.new ≤ steps.old + 1 }
+    {
+        if self.differs(cell, floor, scalar, 0, steps) {
+            1
+        } else {
+            0
+        }
+    }
+
+    /// How many of the later positions, from one up to another, that one not among them, have another value.
+    fn count_later<L: Ledger>(
+        &self,
+        cell: CellId,
+        from: u32,
+        end: u32,
+        scalar: Scalar,
+        steps: &mut Steps<L>,
+    ) -> u32
+        requires later { 0 < from }
+        requires from { from ≤ end }
+        requires end { end ≤ newest self.now.tape.events cell + 1 }
+        ensures count { result + occurrences scalar (take end (values_of self.now.tape.events cell)) ≡ end - from + occurrences scalar (take from (values_of self.now.tape.events cell)) }
+        ensures at_most { result ≤ end - from }
+        ensures cost { (d : ℕ) → length self.now.tape.events < 2 ^ d → steps.new ≤ steps.old + (2 * d + 132) }
+    {
+        match self.views_of(cell) {
+            Some(kept) => kept.history.count_others(scalar, from, end, steps),
+            None => 0,
+        }
+    }
+
+    /// How many positions below one, from the floor on, have another value.
     fn count_differing<L: Ledger>(
         &self,
         cell: CellId,
         floor: u32,
-        last: u32,
+        end: u32,
         scalar: Scalar,
         steps: &mut Steps<L>,
     ) -> u32
         requires cell { HasCell self.now.objects.values cell }
-        requires last { last ≡ newest self.now.tape.events cell }
-        requires floor { floor ≤ last }
-        requires few { last + 1 < 4294967295 }
-        ensures count { result ≡ length (below (differs_from (initial_of self.now.objects.values) self.now.tape.events cell floor scalar) (last + 1)) }
-        ensures at_most { result ≤ last + 1 }
-        ensures cost { steps.new + floor ≤ steps.old + (last + 1) }
+        requires floor { floor ≤ end }
+        requires some { 0 < end }
+        requires end { end ≤ newest self.now.tape.events cell + 1 }
+        ensures count { result ≡ length (below (differs_from (initial_of self.now.objects.values) self.now.tape.events cell floor scalar) end) }
+        ensures at_most { result ≤ end }
+        ensures cost { (d : ℕ) → length self.now.tape.events < 2 ^ d → steps.new ≤ steps.old + count_bound d }
     {
-        let mut count = 0;
-        for position in floor..last + 1 {
-            if self.differs(cell, floor, scalar, position, steps) {
-                count += 1;
-            }
-        }
-        count
+        let initial = self.count_initial(cell, floor, scalar, steps);
+        initial + self.count_later(cell, greater(floor, 1), end, scalar, steps)
     }
 
-    /// The n-th of these positions, from the newest down.
+    /// The n-th position from the floor on that has another value, from the newest down. Below it are those that are older, and
+    /// below the next one more, so it is searched by halves.
     fn nth_differing<L: Ledger>(
         &self,
         cell: CellId,
@@ -372,18 +412,22 @@ impl ViewMemory {
         requires n { n < length (below (differs_from (initial_of self.now.objects.values) self.now.tape.events cell floor scalar) (last + 1)) }
         ensures nth { slice_get (below (differs_from (initial_of self.now.objects.values) self.now.tape.events cell floor scalar) (last + 1)) n ≡ Some result }
         ensures at_most { result ≤ last }
-        ensures cost { steps.new + floor ≤ steps.old + (last + 1) }
+        ensures cost { (d : ℕ) → length self.now.tape.events < 2 ^ d → steps.new ≤ steps.old + (d + 1) * count_bound d }
     {
-        let mut left = n;
-        for position in (floor..last + 1).rev() {
-            if self.differs(cell, floor, scalar, position, steps) {
-                if left == 0 {
-                    return position;
-                }
-                left -= 1;
+        let all = self.count_differing(cell, floor, last + 1, scalar, steps);
+        let older = all - (n + 1);
+        let mut low = floor;
+        let mut high = last + 1;
+        while low + 1 < high {
+            let middle = low + (high - low) / 2;
+            let fewer = self.count_differing(cell, floor, middle, scalar, steps);
+            if fewer <= older {
+                low = middle;
+            } else {
+                high = middle;
             }
         }
-        unreachable!()
+        low
     }
 
     /// How many positions may be read.
@@ -399,13 +443,13 @@ impl ViewMemory {
         requires count { length self.now.tape.events + 1 < 4294967295 }
         ensures count { result ≡ length (reads self.now.rule (initial_of self.now.objects.values) self.now.tape.events thread cell order excluded) }
         ensures at_most { result ≤ length self.now.tape.events + 1 }
-        ensures cost { (d : ℕ) → length self.now.tape.events < 2 ^ d → steps.new ≤ steps.old + (floor_bound self.now.tape.events d + looks_bound self.now.rule (initial_of self.now.objects.values) self.now.tape.events thread cell order excluded) }
+        ensures cost { (d : ℕ) → length self.now.tape.events < 2 ^ d → steps.new ≤ steps.old + (floor_bound self.now.tape.events d + looks_bound d excluded) }
     {
         let floor = self.floor(thread, cell, order, steps);
         let newest = self.newest(cell);
         match excluded {
             None => newest - floor + 1,
-            Some(scalar) => self.count_differing(cell, floor, newest, scalar, steps),
+            Some(scalar) => self.count_differing(cell, floor, newest + 1, scalar, steps),
         }
     }
 
@@ -424,7 +468,7 @@ impl ViewMemory {
         requires n { n < length (reads self.now.rule (initial_of self.now.objects.values) self.now.tape.events thread cell order excluded) }
         ensures nth { slice_get (reads self.now.rule (initial_of self.now.objects.values) self.now.tape.events thread cell order excluded) n ≡ Some result }
         ensures at_most { result ≤ newest self.now.tape.events cell }
-        ensures cost { (d : ℕ) → length self.now.tape.events < 2 ^ d → steps.new ≤ steps.old + (floor_bound self.now.tape.events d + looks_bound self.now.rule (initial_of self.now.objects.values) self.now.tape.events thread cell order excluded) }
+        ensures cost { (d : ℕ) → length self.now.tape.events < 2 ^ d → steps.new ≤ steps.old + (floor_bound self.now.tape.events d + looks_bound d excluded) }
     {
         let newest = self.newest(cell);
         match excluded {
@@ -470,7 +514,7 @@ impl ViewMemory {
         requires count { length self.now.tape.events + 1 < 4294967295 }
         requires n { n < length (reads self.now.rule (initial_of self.now.objects.values) self.now.tape.events thread cell order excluded) }
         ensures chosen { slice_get (map (chosen_at (initial_of self.now.objects.values) self.now.tape.events cell false) (reads self.now.rule (initial_of self.now.objects.values) self.now.tape.events thread cell order excluded)) n ≡ Some result }
-        ensures cost { (d : ℕ) → length self.now.tape.events < 2 ^ d → steps.new ≤ steps.old + (floor_bound self.now.tape.events d + looks_bound self.now.rule (initial_of self.now.objects.values) self.now.tape.events thread cell order excluded + 1) }
+        ensures cost { (d : ℕ) → length self.now.tape.events < 2 ^ d → steps.new ≤ steps.old + (floor_bound self.now.tape.events d + looks_bound d excluded + 1) }
     {
         let position = self.nth_read(thread, cell, order, excluded, n, steps);
         self.chosen(cell, false, position, steps)
@@ -560,7 +604,7 @@ impl Memory for ViewMemory {
         requires count { length self.now.tape.events + 1 < 4294967295 }
         ensures count { result ≡ length (choices self.now.rule (initial_of self.now.objects.values) self.now.tape.events thread cell wanted.now) }
         ensures some { 1 ≤ result }
-        ensures cost { (d : ℕ) → length self.now.tape.events < 2 ^ d → steps.new ≤ steps.old + (search_bound self.now.tape.events d + values_bound self.now.rule (initial_of self.now.objects.values) self.now.tape.events thread cell wanted.now) }
+        ensures cost { (d : ℕ) → length self.now.tape.events < 2 ^ d → steps.new ≤ steps.old + (search_bound self.now.tape.events d + values_bound d wanted.now) }
     {
         match *wanted {
             Wanted::Load { order } => self.count_reads(thread, cell, order, None, steps),
@@ -599,7 +643,7 @@ impl Memory for ViewMemory {
         requires count { length self.now.tape.events + 1 < 4294967295 }
         requires n { n < length (choices self.now.rule (initial_of self.now.objects.values) self.now.tape.events thread cell wanted.now) }
         ensures chosen { slice_get (choices self.now.rule (initial_of self.now.objects.values) self.now.tape.events thread cell wanted.now) n ≡ Some result }
-        ensures cost { (d : ℕ) → length self.now.tape.events < 2 ^ d → steps.new ≤ steps.old + (search_bound self.now.tape.events d + values_bound self.now.rule (initial_of self.now.objects.values) self.now.tape.events thread cell wanted.now) }
+        ensures cost { (d : ℕ) → length self.now.tape.events < 2 ^ d → steps.new ≤ steps.old + (search_bound self.now.tape.events d + values_bound d wanted.now) }
     {
         match *wanted {
             Wanted::Load { order } => self.read_chosen(thread, cell, order, None, n, steps),

@@ -10,7 +10,7 @@ abbrev pub Halves : ℕ → ℕ → ℕ → ℕ → Type 0
 Halves length width begun now = (d : ℕ) → length ≤ 2 ^ d → (k : ℕ) × (width < 2 ^ k) × (now + k ≡ begun + d)
 
 -- each look halves what is left
-halves-more : (length width width' begun now now' : ℕ) → Halves length width begun now → 0 < width → width' + width' ≤ width → now' ≡ now + 1 → Halves length width' begun now'
+pub halves-more : (length width width' begun now now' : ℕ) → Halves length width begun now → 0 < width → width' + width' ≤ width → now' ≡ now + 1 → Halves length width' begun now'
 halves-more length width width' begun now now' h w l e d s = go (h d s).0 (h d s).1 (h d s).2
   where
     go : (k : ℕ) → width < 2 ^ k → now + k ≡ begun + d → (k : ℕ) × (width' < 2 ^ k) × (now' + k ≡ begun + d)

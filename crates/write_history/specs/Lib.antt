@@ -2,3 +2,5 @@
 pub mod Rooms
 pub mod Indexes
 pub mod IndexExamples
+pub mod Keys
+pub mod Occurrences

@@ -2,7 +2,9 @@
 #![tactic(auto)]
 
 mod access_index;
+mod groups;
 mod history;
+mod key;
 mod past;
 mod room;
 mod tape;

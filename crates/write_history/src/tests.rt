@@ -47,6 +47,10 @@ fn read_values<L: Ledger>(rt: &impl Abort, history: &History, blank: Blank)
     assert!(rt; initial == Scalar::Null);
     let value = history.value(1, &mut steps);
     assert!(rt; value == Scalar::Object(3));
+    let nulls = history.count_below(Scalar::Null, 2, &mut steps);
+    assert!(rt; nulls == 1);
+    let others = history.count_others(Scalar::Null, 0, 2, &mut steps);
+    assert!(rt; others == 1);
 }
 
 #[test]
@@ -59,6 +63,32 @@ fn keeps_values(rt: HostRuntime) -> Result<(), Fail> {
     let newest = history.newest();
     assert!(rt; newest == 1);
     read_values::<Brand>(&rt, &history, Blank::new(1));
+    Ok(())
+}
+
+fn count_values<L: Ledger>(rt: &impl Abort, history: &History, blank: Blank)
+    requires name { blank.name ≡ L.name }
+    requires parts { blank.parts ≡ L.parts }
+    requires one { L.parts ≡ 1 }
+    requires all { length history.now.values ≡ 70 }
+{
+    let mut steps = Steps::<L>::new(blank);
+    let ones = history.count_below(Scalar::Object(1), 69, &mut steps);
+    assert!(rt; ones == 34);
+    let others = history.count_others(Scalar::Object(1), 1, 70, &mut steps);
+    assert!(rt; others == 34);
+    let nulls = history.count_below(Scalar::Null, 70, &mut steps);
+    assert!(rt; nulls == 0);
+}
+
+#[test]
+fn groups_values(rt: HostRuntime) -> Result<(), Fail> {
+    let mut history = History::new(rt.alloc());
+    for number in 0..70 {
+        history.reserve()?;
+        history.push(Scalar::Object(number % 2));
+    }
+    count_values::<Brand>(&rt, &history, Blank::new(1));
     Ok(())
 }
 

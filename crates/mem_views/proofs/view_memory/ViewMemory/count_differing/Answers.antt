@@ -1,13 +1,16 @@
-use Rattle.std.proofs.Common.{sym, ap, length, List, ℕ, arith}
+use Rattle.std.proofs.Common.{arith}
 use Rattle.mem_axioms.specs.Objects.{initial_of}
-use Rattle.mem_views.proofs.Reading.{below-floor}
+use Rattle.mem_views.proofs.FloorFound.{form-of}
+use Rattle.mem_views.proofs.Counted.{counted-all}
 use Rattle.mem_views.proofs.view_memory.ViewMemory.count_differing.Goals as goal
 
-pub loop-position-init : goal.loop-position-init
-loop-position-init g c =
+pub returns-clause-count : goal.returns-clause-count
+returns-clause-count g c =
     let memory = c.args.self.now in
-    record {
-      counted = sym (ap (λ (positions : List ℕ). length positions) (below-floor (initial_of memory.objects.values) memory.tape.events c.args.cell c.args.floor c.args.scalar));
-      low = omega arith;
-      cost = omega arith;
-    }
+    let initial = initial_of memory.objects.values in
+    let form = form-of memory.rule initial memory.tape.events memory.log_holds.sound.axioms in
+    let from = c.greater.ensures in
+    let first = c.count_initial-initial.ensures.count in
+    let r = c.requires in
+    let all = counted-all initial memory.tape.events c.args.cell c.args.floor c.args.scalar form c.greater.result c.args.end c.count_later.result from (omega (arith, from, r.floor, r.some)) r.end c.count_later.ensures.count in
+    omega (arith, all, first)

@@ -1,6 +1,7 @@
 use Rattle.std.proofs.Common.{◌∙◌, sym, ap, length, List, ℕ, arith}
 use Rattle.mem_axioms.specs.Objects.{initial_of}
-use Rattle.mem_views.proofs.Reading.{floor-low, reads-count, reads-differing, options-count}
+use Rattle.mem_views.proofs.Reading.{floor-low, reads-count, reads-differing}
+use Rattle.mem_views.proofs.Counted.{count-within}
 use Rattle.mem_views.proofs.view_memory.ViewMemory.count_reads.Goals as goal
 
 pub overflow_sub-result : goal.overflow_sub-result
@@ -38,12 +39,7 @@ returns-in-Some-clause-count g c =
 
 pub returns-in-Some-clause-cost : goal.returns-in-Some-clause-cost
 returns-in-Some-clause-cost g c d l =
-    let memory = c.args.self.now in
-    let initial = initial_of memory.objects.values in
-    let count = options-count memory.rule initial memory.tape.events c.args.thread c.args.cell c.args.order memory.log_holds.sound.axioms in
-    let low = floor-low memory.rule initial memory.tape.events c.args.thread c.args.cell c.args.order memory.log_holds.sound.axioms in
-    let floor = c.floor-floor.ensures.floor in
-    let newest = c.newest-newest.ensures.newest in
     let first = c.floor-floor.ensures.cost d l in
-    let rest = c.count_differing.ensures.cost in
-    rw c.in-Some.is (omega (arith, count, low, floor, newest, first, rest))
+    let rest = c.count_differing.ensures.cost d l in
+    let within = count-within d in
+    rw c.in-Some.is (omega (arith, first, rest, within))

@@ -1,13 +1,19 @@
-use Rattle.std.proofs.Common.{◌≡◌, ◌+◌, ◌<◌, ◌≤◌, length, slice_get}
+use Rattle.std.proofs.Common.{ℕ, suc, ◌+◌, ◌-◌, ◌<◌, ◌≤◌, length}
 use Rattle.mem_axioms.specs.Objects.{initial_of}
 use Rattle.mem_axioms.specs.Reads.{below}
 use Rattle.mem_views.specs.Differing.{differs_from}
+use Rattle.mem_views.proofs.Counted.{Counting}
 use Rattle.mem_views.proofs.view_memory.ViewMemory.nth_differing.Given as goal
 
-abbrev pub invariant-loop-position : goal.invariant-loop-position
-invariant-loop-position g l = record {
-  there : l.left < length (below (differs_from (initial_of l.self.objects.values) l.self.tape.events l.cell l.floor l.scalar) l.position);
-  same : slice_get (below (differs_from (initial_of l.self.objects.values) l.self.tape.events l.cell l.floor l.scalar) (l.last + 1)) l.n
-      ≡ slice_get (below (differs_from (initial_of l.self.objects.values) l.self.tape.events l.cell l.floor l.scalar) l.position) l.left;
-  cost : l.steps + l.position ≤ l.initial.steps + (l.last + 1);
+abbrev pub invariant-loop-low : goal.invariant-loop-low
+invariant-loop-low g l = record {
+  from : l.floor ≤ l.low;
+  order : l.low < l.high;
+  top : l.high ≤ l.last + 1;
+  not_above : length (below (differs_from (initial_of l.self.objects.values) l.self.tape.events l.cell l.floor l.scalar) l.low) ≤ l.older;
+  above : l.older < length (below (differs_from (initial_of l.self.objects.values) l.self.tape.events l.cell l.floor l.scalar) l.high);
+  counting : (d : ℕ) → Counting (suc (length l.self.tape.events)) (l.high - l.low) l.initial.steps l.steps d;
 }
+
+abbrev pub decreases-loop-low : goal.decreases-loop-low
+decreases-loop-low g l = l.high - l.low

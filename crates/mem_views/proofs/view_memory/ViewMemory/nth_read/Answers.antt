@@ -1,6 +1,6 @@
 use Rattle.std.proofs.Common.{◌∙◌, sym, ap, slice_get, Some, List, ℕ, ◌-◌, arith}
 use Rattle.mem_axioms.specs.Objects.{initial_of}
-use Rattle.mem_views.proofs.Reading.{floor-low, reads-count, reads-nth, reads-differing, options-count}
+use Rattle.mem_views.proofs.Reading.{floor-low, reads-count, reads-nth, reads-differing}
 use Rattle.mem_views.proofs.view_memory.ViewMemory.nth_read.Goals as goal
 
 pub overflow_sub-result : goal.overflow_sub-result
@@ -41,12 +41,6 @@ returns-in-Some-clause-nth g c =
 
 pub returns-in-Some-clause-cost : goal.returns-in-Some-clause-cost
 returns-in-Some-clause-cost g c d l =
-    let memory = c.args.self.now in
-    let initial = initial_of memory.objects.values in
-    let count = options-count memory.rule initial memory.tape.events c.args.thread c.args.cell c.args.order memory.log_holds.sound.axioms in
-    let low = floor-low memory.rule initial memory.tape.events c.args.thread c.args.cell c.args.order memory.log_holds.sound.axioms in
-    let floor = c.floor-floor.ensures.floor in
-    let newest = c.newest-newest.ensures.newest in
     let first = c.floor-floor.ensures.cost d l in
-    let rest = c.nth_differing.ensures.cost in
-    rw c.in-Some.is (omega (arith, count, low, floor, newest, first, rest))
+    let rest = c.nth_differing.ensures.cost d l in
+    rw c.in-Some.is (omega (arith, first, rest))
