@@ -26,7 +26,7 @@ use Rattle.type_laws.specs.Parts.{parts, parts_at, leads, contains_itself}
 use Rattle.mu_types.specs.declared.limits.TheConstants.{WIDTHS}
 use Rattle.mu_types.specs.Implied.{is_signature, references, references_from, complete}
 use Rattle.mu_types.specs.declared.faults.TypeKind.{TypeKind}
-use Rattle.mu_types.specs.Tests.{each, passes, wrong_arguments, argument_demands, endless_type}
+use Rattle.mu_types.specs.TypeDemands.{each, passes, wrong_arguments, wrong_arguments_of, endless_type}
 use Rattle.mu_values.specs.Constants.{width_of, constant_demands, HasMembers}
 use Rattle.bundle_names.specs.declared.globals.Globals.{Globals}
 use Rattle.bundle_names.specs.Globals.{globals_of}
@@ -278,7 +278,7 @@ widths w places met t v h = go (slice_get (complete w) t) refl h
     written_low d e i m =
         let n : 0 + t ≡ t = omega arith in
         let one : AllMet (wrong_arguments (complete w) places t) = subst (λ (k : ℕ). AllMet (wrong_arguments (complete w) places k)) n (each_met (wrong_arguments (complete w) places) (length w) 0 t met.0 m) in
-        let int : AllMet (argument_demands (complete w) places t (Some (Int v))) = subst (λ (o : Option TypeDef). AllMet (argument_demands (complete w) places t o)) (e ∙ ap Some i) one in
+        let int : AllMet (wrong_arguments_of (complete w) places t (Some (Int v))) = subst (λ (o : Option TypeDef). AllMet (wrong_arguments_of (complete w) places t o)) (e ∙ ap Some i) one in
         allowed_low v int.0
 
     go : (o : Option TypeDef) → slice_get (complete w) t ≡ o → width_of o ≡ Some v → (1 ≤ v) × (v ≤ 128)

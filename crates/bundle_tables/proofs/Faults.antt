@@ -12,7 +12,7 @@ use Rattle.type_laws.specs.Same.{IsGraph}
 use Rattle.mu_types.specs.declared.faults.TypeKind.{TypeKind}
 use Rattle.mu_types.specs.Graph.{Table, Written}
 use Rattle.mu_types.specs.Implied.{complete, references_from}
-use Rattle.mu_types.specs.Tests.{passes, written_demands}
+use Rattle.mu_types.specs.TypeDemands.{passes, written_demands}
 use Rattle.bundle_names.specs.declared.globals.Globals.{Globals}
 use Rattle.bundle_names.specs.Globals.{globals_of}
 use Rattle.mu_types.proofs.References.{complete_is_graph}

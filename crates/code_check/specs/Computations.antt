@@ -18,12 +18,13 @@ use Rattle.mu_values.specs.declared.operators.CmpOp.{CmpOp}
 use Rattle.mu_values.specs.declared.operators.CmpOp.TheVariants as cmp_ops
 use Rattle.mu_values.specs.declared.operators.ConvOp.{ConvOp}
 use Rattle.mu_values.specs.declared.operators.ConvOp.TheVariants as conv_ops
+use Rattle.mu_values.specs.Integers.{is_conversion}
 use Rattle.check_tables.specs.declared.fault.CheckKind.{CheckKind}
 use Rattle.check_tables.specs.declared.fault.CheckKind.TheVariants.{OperandType, BadIndex}
 use Rattle.check_tables.specs.declared.tables.Tables.{Tables}
 use Rattle.check_tables.specs.Types.{class_in, int1}
 use Rattle.check_tables.specs.Lookups.{or_zero, class_named, noted_class, definition_named, leaves_named}
-use Rattle.check_tables.specs.TypeTests.{is_int, is_scalar, is_value_type, is_castable, are_cast, is_struct, fields_of, field_at, is_not_wider, is_not_narrower}
+use Rattle.check_tables.specs.TypeTests.{is_int, is_scalar, is_value_type, is_castable, are_cast, is_struct, fields_of, field_at, width_of}
 use Rattle.code_check.specs.declared.code.ComputationForm.{ComputationForm}
 use Rattle.code_check.specs.declared.code.ComputationForm.TheVariants as forms
 use Rattle.code_check.specs.declared.scopes.Locals.{Locals}
@@ -69,11 +70,9 @@ compares compare_ops.Eq d = is_scalar d
 compares compare_ops.Ne d = is_scalar d
 compares _ d = is_int d
 
--- TRUNC leads to an int that is not wider, ZEXT and SEXT to one that is not narrower
+-- a conversion leads to an int, of a width that it goes to
 abbrev pub converts : ConvertOp → Option TypeDef → Option TypeDef → Bool
-converts convert_ops.Trunc from to = is_not_wider from to
-converts convert_ops.Zext from to = is_not_narrower from to
-converts convert_ops.Sext from to = is_not_narrower from to
+converts op from to = is_int to && is_conversion (convert_op op) (width_of from) (width_of to)
 
 -- ---- fields
 

@@ -5,3 +5,6 @@ pub mod Functions
 pub mod Places
 pub mod Whole
 pub mod Classes
+pub mod Scopes
+pub mod Labels
+pub mod Locals

@@ -1,8 +1,11 @@
 -- Laws of the two readings of a bundle, by its names and by the numbers of its checked code.
-use Rattle.std.specs.Prelude.{◌≡◌, true, ℕ, ◌+◌, List, [], ◌∷◌, Option, Some, None, length, slice_get, if◌then◌else◌}
+use Rattle.std.specs.Prelude.{◌≡◌, Bool, true, ℕ, ◌+◌, List, [], ◌∷◌, ◌++◌, Option, Some, None, length, map, flat_map, find, position, slice_get, bytes_eq, option_map, option_to_list, if◌then◌else◌}
 use Rattle.demands.specs.Demands.{first_unmet}
 use Rattle.demands.specs.Names.{found}
 use Rattle.ir_lex.specs.declared.name.Name.{Name}
+use Rattle.ir_tree.specs.declared.code.Parameter.{Parameter}
+use Rattle.ir_tree.specs.declared.code.Inst.{Inst}
+use Rattle.ir_tree.specs.declared.code.Block.{Block}
 use Rattle.ir_tree.specs.declared.items.Item.{Item}
 use Rattle.ir_tree.specs.declared.items.Item.TheVariants as items
 use Rattle.mu_values.specs.Constants.{width_of}
@@ -17,7 +20,8 @@ use Rattle.typed_heap.specs.Places.{with_some}
 use Rattle.frames.specs.Activations.{Value}
 use Rattle.mu_model.specs.Types.{class_width}
 use Rattle.mu_model.specs.Configuration.{Configuration}
-use Rattle.mu_model.specs.Programs.{named}
+use Rattle.mu_model.specs.Operands.{Scope, local_value, target_block}
+use Rattle.mu_model.specs.Programs.{scopes_of, named}
 use Rattle.mu_model.specs.Step.{step}
 use Rattle.mu_model.specs.Run.{Setting, program_run}
 use Rattle.model_numbers.specs.Numbered.{numbered}
@@ -64,6 +68,27 @@ definition_from g n first (i ∷ is) = definition_from g n first is
 abbrev pub BodiesAreOfDefinitions : Type 0
 BodiesAreOfDefinitions = (bundle : List Item) (function : ℕ) →
     (named bundle).body function ≡ with_some (slice_get (bundle_tables bundle).functions function) (λ g. Some (definition_from (globals_of bundle) function 0 bundle))
+
+-- what holds of each block of a bundle, in its function
+abbrev pub OfBlocks : List Item → (Scope → Type 0) → Type 0
+OfBlocks bundle holds = (block : ℕ) (s : Scope) → slice_get (scopes_of bundle) block ≡ Some s → holds s
+
+abbrev pub is_named : Name → Name → Bool
+is_named n own = bytes_eq n.text own.text
+
+-- the names of a block's variables: its parameters, its handler where it has one, and the results of its instructions, in text order
+abbrev pub variable_names : Block → List Name
+variable_names b = map (λ (q : Parameter). q.name) b.head.parameters ++ option_to_list b.head.handler ++ flat_map (λ (i : Inst). i.results) b.insts
+
+-- a local name has the value that stands at its place among them
+abbrev pub LocalsAreInOrder : Type 0
+LocalsAreInOrder = OfAccepted (λ bundle. OfBlocks bundle (λ s. (vars : List Value) (n : Name) →
+    local_value s vars n ≡ with_some (position (is_named n) (variable_names s.block)) (slice_get vars)))
+
+-- a label leads to the first block with its name in the same function, where there is one; so it is of every bundle
+abbrev pub LabelsLeadToBlocks : Type 0
+LabelsLeadToBlocks = (bundle : List Item) → OfBlocks bundle (λ s. (n : Name) →
+    with_some (target_block s n) (slice_get (scopes_of bundle)) ≡ option_map (λ b. record s { block = b }) (find (λ (b : Block). is_named n b.head.name) s.function.blocks))
 
 -- the width that the class of an int type has is the one that is written
 abbrev pub WidthsAreWritten : Type 0

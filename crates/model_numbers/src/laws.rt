@@ -1,5 +1,5 @@
 // Laws of the two readings of a bundle: each function is proved, and does nothing.
-ghost use Rattle.model_numbers.specs.Laws.{ProgramsAreSame, DoingsAreSame, GoingsOnAreSame, HandlersAreSame, BodiesAreOfDefinitions, TablesAreSame, StepsAreSame, RunsAreSame, WidthsAreWritten};
+ghost use Rattle.model_numbers.specs.Laws.{ProgramsAreSame, DoingsAreSame, GoingsOnAreSame, HandlersAreSame, BodiesAreOfDefinitions, LocalsAreInOrder, LabelsLeadToBlocks, TablesAreSame, StepsAreSame, RunsAreSame, WidthsAreWritten};
 
 /// A bundle that meets its demands is one program by name and by number.
 pub fn programs_are_same()
@@ -24,6 +24,16 @@ pub fn handlers_are_same()
 /// Each function begins with the first block of its definition. This holds of every bundle.
 pub fn bodies_are_of_definitions()
     ensures { BodiesAreOfDefinitions }
+{}
+
+/// A local name has the value at its place among the names of its block.
+pub fn locals_are_in_order()
+    ensures { LocalsAreInOrder }
+{}
+
+/// A label leads to the first block with its name in the same function. This holds of every bundle.
+pub fn labels_lead_to_blocks()
+    ensures { LabelsLeadToBlocks }
 {}
 
 /// The tables are the same. This holds of every bundle.

@@ -6,5 +6,6 @@ mod laws;
 
 pub use laws::{
     bodies_are_of_definitions, doings_are_same, goings_on_are_same, handlers_are_same,
-    programs_are_same, runs_are_same, steps_are_same, tables_are_same, widths_are_written,
+    labels_lead_to_blocks, locals_are_in_order, programs_are_same, runs_are_same, steps_are_same,
+    tables_are_same, widths_are_written,
 };

@@ -1,6 +1,6 @@
 -- To believe: instructions that compute a value from values. An operand is an option: where it has no value, or none of the kind that
 -- is wanted, there is no act.
-use Rattle.std.specs.Prelude.{ℕ, ◌+◌, Bool, true, false, List, [], ◌∷◌, ◌++◌, Option, Some, None, nat_eq, nat_le, length, take, drop, slice_get, if◌then◌else◌, ◌&&◌}
+use Rattle.std.specs.Prelude.{ℕ, ◌+◌, Bool, true, false, List, [], ◌∷◌, ◌++◌, Option, Some, None, nat_eq, length, take, drop, slice_get, if◌then◌else◌, ◌&&◌}
 use Rattle.ir_tree.specs.declared.computing.Computation.{Computation}
 use Rattle.ir_tree.specs.declared.computing.Computation.TheVariants as computations
 use Rattle.mu_values.specs.declared.scalars.Scalar.{Scalar}
@@ -8,8 +8,7 @@ use Rattle.mu_values.specs.declared.scalars.Scalar.TheVariants.{Int}
 use Rattle.mu_values.specs.declared.operators.BinOp.{BinOp}
 use Rattle.mu_values.specs.declared.operators.CmpOp.{CmpOp}
 use Rattle.mu_values.specs.declared.operators.ConvOp.{ConvOp}
-use Rattle.mu_values.specs.declared.operators.ConvOp.TheVariants as conversions
-use Rattle.mu_values.specs.Integers.{binary_value, converted}
+use Rattle.mu_values.specs.Integers.{binary_value, converted, is_conversion}
 use Rattle.mu_values.specs.Comparisons.{compared}
 use Rattle.check_tables.specs.declared.tables.Tables.{Tables}
 use Rattle.check_tables.specs.TypeTests.{fields_of}
@@ -20,7 +19,7 @@ use Rattle.frames.specs.Activations.{Value}
 use Rattle.mu_model.specs.declared.endings.Case.TheVariants as cases
 use Rattle.mu_model.specs.Types.{type_graph, class_definition, class_width}
 use Rattle.mu_model.specs.Acts.{Act, Gives, Faults, Casts}
-use Rattle.mu_model.specs.Operands.{Scope, tables_in, class, value_named, scalar_in, is_integer, bits_in}
+use Rattle.mu_model.specs.Operands.{Scope, tables_in, class, value_named, scalar_in, is_width, is_integer, bits_in}
 
 -- ---- BIN: a zero divisor is a fault
 
@@ -49,11 +48,8 @@ compare_act op a b =
 
 -- ---- TRUNC, ZEXT, SEXT
 
--- TRUNC makes no integer wider, ZEXT and SEXT none narrower
 abbrev pub leads_to : ConvOp → ℕ → ℕ → Bool
-leads_to conversions.Trunc from to = nat_le 1 to && nat_le to from
-leads_to conversions.Zext from to = nat_le from to && nat_le to 128
-leads_to conversions.Sext from to = nat_le from to && nat_le to 128
+leads_to op from to = is_width to && is_conversion op from to
 
 abbrev pub convert_act : Tables → ConvOp → ℕ → ℕ → Option Value → Option Act
 convert_act p op c d a =

@@ -46,7 +46,8 @@ class s t = noted_class (tables_in s) t
 abbrev pub classes : Scope → List Name → List ℕ
 classes s ts = noted_list (tables_in s) ts
 
--- the variables of a block, as they are behind its last instruction
+-- the variables of a block, as they are behind its last instruction: its parameters, then the handler if it has one, then what its
+-- instructions give, in text order
 abbrev pub variables : Scope → Locals
 variables s = after_all (tables_in s) (head_locals (tables_in s) s.block.head) s.block.insts
 
@@ -98,9 +99,13 @@ abbrev pub scalar_in : Option Value → Option Scalar
 scalar_in (Some (s ∷ [])) = Some s
 scalar_in _ = None
 
--- the number is an integer of that many bits, of which there are 1 to 128
+-- integers have 1 to 128 bits
+abbrev pub is_width : ℕ → Bool
+is_width w = nat_le 1 w && nat_le w 128
+
+-- the number is an integer of that many bits
 abbrev pub is_integer : ℕ → ℕ → Bool
-is_integer w n = nat_le 1 w && nat_le w 128 && nat_lt n (2 ^ w)
+is_integer w n = is_width w && nat_lt n (2 ^ w)
 
 -- the bits of an integer of that width
 abbrev pub bits_of_width : Option ℕ → Option Scalar → Option ℕ

@@ -18,7 +18,7 @@ use Rattle.typed_heap.specs.Places.{with_some}
 use Rattle.frames.specs.Activations.{Value, Goal}
 use Rattle.frames.specs.Chains.{nothing_kept}
 use Rattle.mu_model.specs.Acts.{Act, Doing, Program}
-use Rattle.mu_model.specs.Operands.{Scope, tables_in, variables, local_value, all_some, goal_named}
+use Rattle.mu_model.specs.Operands.{Scope, variables, local_value, all_some, goal_named}
 use Rattle.mu_model.specs.ComputationForms.{computation_act}
 use Rattle.mu_model.specs.ControlForms.{control_act}
 use Rattle.mu_model.specs.ObjectForms.{allocation_act, addressing_act}

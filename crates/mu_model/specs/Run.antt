@@ -76,6 +76,10 @@ pub record Setting : Type 0 where
 abbrev pub cells_taken : Tables → List HeapObject → ℕ
 cells_taken p os = sum_by (λ (o : HeapObject). length o.leaves) (drop (length p.global_cells) os)
 
+-- some of a run's cells are taken by objects that are there besides the globals
+abbrev pub cells_left : Tables → Setting → ℕ
+cells_left p s = s.cells - cells_taken p s.objects
+
 -- thread 0 on stack 0, in a function that begins with that block
 abbrev pub begins_in : Program → Setting → ℕ → ℕ → Configuration
 begins_in p s f block =
@@ -88,7 +92,7 @@ begins_in p s f block =
       waiters = [];
       client = s.client;
       picks = s.picks;
-      cells = s.cells - cells_taken p.tables s.objects;
+      cells = cells_left p.tables s;
       steps = 0;
       budget = s.budget;
       rule = s.rule;

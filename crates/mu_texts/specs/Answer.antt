@@ -1,5 +1,5 @@
 -- To believe: what the texts of files come to, and what is written then.
-use Rattle.std.specs.Prelude.{ℕ, ◌+◌, ◌-◌, Bool, true, false, List, [], ◌∷◌, ◌++◌, length, sum_by, Option, None, Some, Result, Ok, Err, codes, decimal}
+use Rattle.std.specs.Prelude.{ℕ, ◌+◌, Bool, true, false, List, [], ◌∷◌, ◌++◌, length, sum_by, Option, None, Some, Result, Ok, Err, codes, decimal}
 use Rattle.std.specs.List.{count_by}
 use Rattle.mu_base.specs.declared.status.Status.{Status}
 use Rattle.mu_base.specs.declared.status.Status.TheVariants as statuses
@@ -27,7 +27,7 @@ use Rattle.mu_threads.specs.ScheduleTexts.{schedule_demands, schedule_numbers}
 use Rattle.mu_model.specs.declared.lines.Line.{Line}
 use Rattle.mu_model.specs.declared.lines.Line.TheVariants as lines
 use Rattle.mu_model.specs.Clients as clients
-use Rattle.mu_model.specs.Run.{Setting, cells_taken, Run, Ends, Breaks, Unfinished, program_run}
+use Rattle.mu_model.specs.Run.{Setting, cells_left, Run, Ends, Breaks, Unfinished, program_run}
 use Rattle.run_texts.specs.Texts.{ending_text, ending_status}
 use Rattle.run_texts.specs.Pieces.{pieces_of}
 use Rattle.mu_texts.specs.declared.what.What.{What}
@@ -130,9 +130,9 @@ client_part code auto bytes = met_part Client script_fault_name (record { entrie
 abbrev pub scheduled : List ℕ → Part (List ℕ)
 scheduled bytes = met_part Schedule schedule_fault_name (schedule_numbers bytes) (first_unmet (schedule_demands bytes))
 
--- a run with that setting, from the function with that number; some of its cells are taken by objects that are there besides the globals
+-- a run with that setting, from the function with that number
 abbrev pub started : List Item → ℕ → Setting → Started
-started code n s = record { entry = n; setting = s; left = s.cells - cells_taken (bundle_tables code) s.objects }
+started code n s = record { entry = n; setting = s; left = cells_left (bundle_tables code) s }
 
 -- the run of a function of a bundle
 unfoldable pub run_of : List Item → ℕ → Setting → Run

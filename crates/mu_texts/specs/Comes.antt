@@ -11,7 +11,7 @@ use Rattle.hail_load.specs.declared.tree.Command.{Command}
 use Rattle.bundle_check.specs.Checking.{bundle_tables}
 use Rattle.bundle_check.specs.Answers.{entry}
 use Rattle.mu_model.specs.Programs.{named as program}
-use Rattle.mu_model.specs.Run.{Setting, cells_taken, first_configuration}
+use Rattle.mu_model.specs.Run.{Setting, cells_taken, cells_left, first_configuration}
 use Rattle.model_laws.specs.Bounds.{HasEnding}
 use Rattle.loaded_programs.specs.Laws.{loaded_objects, IsScripted}
 use Rattle.ir_tree.specs.declared.items.Item.{Item}
@@ -67,7 +67,7 @@ pub record IsRunnable (code : List Item) (start : Started) : Type 0 where
   pub begins : IsSomeAnd ((program code).body start.entry) IsSome
   pub ends : HasEnding (run_of code start.entry start.setting)
   pub short : start.setting.budget ≤ 1000000
-  pub left : start.left ≡ start.setting.cells - cells_taken (bundle_tables code) start.setting.objects
+  pub left : start.left ≡ cells_left (bundle_tables code) start.setting
 
 -- what is to be run can be run
 abbrev pub CanRun : Ready → Type 0

@@ -10,7 +10,7 @@ use Rattle.mu_types.specs.declared.faults.TypeKind.{TypeKind}
 use Rattle.mu_types.specs.declared.faults.TypeKind.TheVariants.{WrongArgument}
 use Rattle.mu_types.specs.Graph.{Written}
 use Rattle.mu_types.specs.Implied.{complete}
-use Rattle.mu_types.specs.Tests.{each, allows, judged, place, wrong_arguments, passes, written_demands}
+use Rattle.mu_types.specs.TypeDemands.{each, allows, judged, place, wrong_arguments, passes, written_demands}
 
 -- of two demands one after the other
 pub met_then : (a b : Demands TypeKind) → first_unmet a ≡ None → first_unmet (a ⨾ b) ≡ first_unmet b

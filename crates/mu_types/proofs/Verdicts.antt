@@ -17,7 +17,7 @@ use Rattle.type_laws.specs.Leaves.{leaves}
 use Rattle.mu_types.specs.declared.limits.TheConstants.{MOST_LEAVES}
 use Rattle.mu_types.specs.declared.counting.TheConstants.{CAP}
 use Rattle.mu_types.specs.declared.faults.TypeKind.TheVariants.{EndlessType, TooManyLeaves}
-use Rattle.mu_types.specs.Tests.{endless_type, too_many_leaves, place}
+use Rattle.mu_types.specs.TypeDemands.{endless_type, too_many_leaves, place}
 
 pub endless_some : (g : List TypeDef) (places : List (List ℕ)) (t : ℕ) → contains_itself g t ≡ true → first_unmet (endless_type g places t) ≡ Some (At EndlessType (place places t 0))
 endless_some g places t h = rw h refl

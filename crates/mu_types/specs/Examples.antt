@@ -7,7 +7,7 @@ use Rattle.type_laws.specs.Parts.{leads}
 use Rattle.type_laws.specs.Leaves.{leaves_to}
 use Rattle.mu_types.specs.declared.faults.TypeKind.TheVariants.{EndlessType, WrongArgument}
 use Rattle.mu_types.specs.Implied.{complete}
-use Rattle.mu_types.specs.Tests.{written_demands}
+use Rattle.mu_types.specs.TypeDemands.{written_demands}
 
 -- struct<itself> whose name stands at byte 9
 pub endless_at_its_name : first_unmet (written_demands (record { definitions = Struct (0 ∷ []) ∷ []; places = (9 ∷ 21 ∷ []) ∷ [] })) ≡ Some (At EndlessType 9)

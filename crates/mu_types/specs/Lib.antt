@@ -8,7 +8,7 @@ pub mod Held
 pub mod Keys
 pub mod Ordered
 pub mod Examples
-pub mod Tests
+pub mod TypeDemands
 pub mod Rounds
 pub mod Rows
 pub mod Blocks

@@ -3,7 +3,7 @@ ghost use Rattle.std.specs.Prelude.{◌≡◌, ℕ, ◌+◌, ◌*◌, ◌<◌, �
 ghost use Rattle.std.specs.List.{sum_by};
 ghost use Rattle.type_laws.specs.Counts.{count_by};
 ghost use Rattle.demands.specs.Demands.{first_unmet};
-ghost use Rattle.mu_types.specs.Tests.{too_many_leaves, each};
+ghost use Rattle.mu_types.specs.TypeDemands.{too_many_leaves, each};
 ghost use Rattle.type_laws.specs.Leaves.{leaves};
 ghost use Rattle.type_laws.specs.Same.{IsGraph};
 ghost use Rattle.type_laws.specs.Ranks.{AreRanked};

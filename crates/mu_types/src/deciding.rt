@@ -5,7 +5,7 @@ ghost use Rattle.type_laws.specs.Partition.{IsLeast};
 ghost use Rattle.type_laws.specs.Same.{IsGraph};
 ghost use Rattle.mu_types.specs.Implied.{complete};
 ghost use Rattle.mu_types.specs.References.{Referred, IsHeaded};
-ghost use Rattle.mu_types.specs.Tests.{passes, written_demands};
+ghost use Rattle.mu_types.specs.TypeDemands.{passes, written_demands};
 
 use super::counting::{counts_of, first_too_many};
 use super::endless::first_endless;

@@ -4,7 +4,7 @@ ghost use Rattle.std.specs.List.{list_any, All};
 ghost use Rattle.type_laws.specs.Parts.{parts, parts_at, leads, contains_itself};
 ghost use Rattle.type_laws.specs.Ranks.{Descends, IsFree};
 ghost use Rattle.demands.specs.Demands.{first_unmet};
-ghost use Rattle.mu_types.specs.Tests.{endless_type, each};
+ghost use Rattle.mu_types.specs.TypeDemands.{endless_type, each};
 ghost use Rattle.mu_types.specs.Walks.{Marks, is_marked};
 
 use super::faults::{TypeFault, TypeKind};

@@ -1,6 +1,5 @@
 // The definitions as they are written.
-ghost use Rattle.std.specs.Prelude.{◌≡◌, ◌+◌, ◌-◌, ◌^◌, ◌<◌, [], ◌∷◌, ◌++◌, length, IfOk, OnOk, OnErr, IsTrue};
-ghost use Rattle.type_laws.specs.Same.{IsGraph};
+ghost use Rattle.std.specs.Prelude.{◌≡◌, ◌+◌, ◌-◌, ◌^◌, ◌<◌, [], ◌∷◌, ◌++◌, length, IfOk, OnOk, OnErr};
 
 use std::alloc::{AllocError, Global};
 use std::marker::Model;
@@ -69,21 +68,5 @@ impl TypeGraph {
             places,
         } = self;
         (definitions, places)
-    }
-
-    /// Whether each argument is an id of the graph.
-    #[cfg(test)]
-    pub(crate) fn is_closed(&self) -> bool
-        ensures { IsTrue result → IsGraph self.now.definitions }
-    {
-        super::closed::are_closed(&self.definitions)
-    }
-
-    /// How many definitions there are.
-    #[cfg(test)]
-    pub(crate) fn count(&self) -> usize
-        ensures { result ≡ length self.now.definitions }
-    {
-        self.definitions.len()
     }
 }

@@ -2,7 +2,7 @@
 ghost use Rattle.std.specs.Prelude.{◌≡◌, ℕ, ◌+◌, ◌<◌, ◌≤◌, ◌==◌, Option, None, Some, length, slice_get, slice_index};
 ghost use Rattle.std.specs.List.{list_any};
 ghost use Rattle.demands.specs.Demands.{first_unmet};
-ghost use Rattle.mu_types.specs.Tests.{can_be_part, judged, allows, place, wrong_arguments, each};
+ghost use Rattle.mu_types.specs.TypeDemands.{can_be_part, judged, allows, place, wrong_arguments, each};
 
 use super::faults::{TypeFault, TypeKind};
 use super::limits::{LONGEST_ARRAY, WIDTHS};

@@ -3,8 +3,6 @@
 
 mod arguments;
 mod blocks;
-#[cfg(test)]
-mod closed;
 mod counting;
 mod deciding;
 mod edges;
@@ -23,12 +21,8 @@ mod preds;
 mod ranking;
 mod refine;
 mod rows;
-#[cfg(test)]
-mod samples;
 mod stable;
 mod table;
-#[cfg(test)]
-mod tests;
 
 pub use deciding::classes;
 pub use faults::{TypeFault, TypeKind};

@@ -87,14 +87,6 @@ impl Classes {
         &self.all[t as usize]
     }
 
-    /// How many definitions there are.
-    #[cfg(test)]
-    pub(crate) fn count(&self) -> usize
-        ensures { result ≡ length self.now.definitions }
-    {
-        self.all.len()
-    }
-
     /// The id of an implied type: one of those that `classes` added. It is looked up, in constant time and without memory.
     pub fn implied(&self, wanted: Implied) -> u32
         requires { IsThere self.now.definitions self.now.written wanted }

@@ -1,5 +1,5 @@
 -- Integers of w bits. They stand as the numbers from 0 to 2^w - 1 that their bits write; w is at least 1.
-use Rattle.std.specs.Prelude.{ℕ, ◌+◌, ◌-◌, ◌*◌, ◌/◌, ◌%◌, ◌^◌, ◌<◌, ◌≤◌, ℤ, pos, ◌-ℤ◌, Option, Some, None, nat_lt, nat_eq, int_div, int_rem, unsigned_abs, bit_and, bit_or, bit_xor, if◌then◌else◌}
+use Rattle.std.specs.Prelude.{ℕ, ◌+◌, ◌-◌, ◌*◌, ◌/◌, ◌%◌, ◌^◌, ◌<◌, ◌≤◌, Bool, ℤ, pos, ◌-ℤ◌, Option, Some, None, nat_lt, nat_le, nat_eq, int_div, int_rem, unsigned_abs, bit_and, bit_or, bit_xor, if◌then◌else◌}
 use Rattle.std.specs.Int.{int_rem_euclid}
 use Rattle.std.specs.Int.Signed.{shr_z}
 use Rattle.mu_values.specs.declared.operators.BinOp.{BinOp}
@@ -49,8 +49,15 @@ converted conversions.Trunc from to n = n % 2 ^ to
 converted conversions.Zext from to n = n
 converted conversions.Sext from to n = bits_of to (signed from n)
 
--- TRUNC makes no integer wider, ZEXT and SEXT none narrower
+-- The widths that a conversion goes between, first the one that may not be greater: TRUNC makes no integer wider, ZEXT and SEXT none
+-- narrower.
+abbrev pub in_order : ConvOp → ℕ → ℕ → ℕ × ℕ
+in_order conversions.Trunc from to = (to, from)
+in_order conversions.Zext from to = (from, to)
+in_order conversions.Sext from to = (from, to)
+
 abbrev pub IsConversion : ConvOp → ℕ → ℕ → Type 0
-IsConversion conversions.Trunc from to = to ≤ from
-IsConversion conversions.Zext from to = from ≤ to
-IsConversion conversions.Sext from to = from ≤ to
+IsConversion op from to = (in_order op from to).0 ≤ (in_order op from to).1
+
+abbrev pub is_conversion : ConvOp → ℕ → ℕ → Bool
+is_conversion op from to = nat_le (in_order op from to).0 (in_order op from to).1

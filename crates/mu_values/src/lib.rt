@@ -25,6 +25,3 @@ pub use operators::{BinOp, CmpOp, ConvOp, UpdateOp};
 pub use scalars::{Scalar, Value};
 pub use slots::{Passed, Slots};
 pub use updates::updated;
-
-#[cfg(test)]
-mod tests;

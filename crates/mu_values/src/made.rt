@@ -63,9 +63,10 @@ impl Made {
 fn one(alloc: Global, scalar: Scalar) -> Result<Value, AllocError>
     ensures { IfOk result (λ v. v.members ≡ scalar ∷ []) }
 {
-    let mut value = Items::new(alloc);
-    value.push(scalar)?;
-    Ok(value)
+    // Most constants are one scalar: room for more would spread a bundle's constants over four times the memory.
+    let mut scalars = Vec::with_capacity(alloc, 1)?;
+    scalars.push(scalar)?;
+    Ok(Items::from_vec(scalars))
 }
 
 #[tactic(auto, using(crate::proofs::Signed::bits_neg_low))]

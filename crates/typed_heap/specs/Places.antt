@@ -1,5 +1,5 @@
 -- To believe: casts of references, places that are found from others, and cells that may be accessed.
-use Rattle.std.specs.Prelude.{ℕ, Bool, true, false, ◌&&◌, not, nat_le, List, Option, Some, None, Result, Ok, Err, length, take, slice_get, sum_by, ℤ, pos, ◌+ℤ◌, ◌*ℤ◌, nat_abs, int_lt, if◌then◌else◌}
+use Rattle.std.specs.Prelude.{ℕ, Bool, true, false, ◌&&◌, not, nat_le, List, Option, Some, None, Result, Ok, Err, option_and_then, length, take, slice_get, sum_by, ℤ, pos, ◌+ℤ◌, ◌*ℤ◌, nat_abs, int_lt, if◌then◌else◌}
 use Rattle.type_laws.specs.declared.definition.TypeDef.{TypeDef}
 use Rattle.type_laws.specs.declared.definition.TypeDef.TheVariants.{Ref, Iref}
 use Rattle.mu_values.specs.declared.scalars.Scalar.{Scalar}
@@ -14,9 +14,9 @@ use Rattle.typed_heap.specs.Fits.{fits, place_fits}
 
 -- None stands where an object or a part of a type is not there, or the scalar is none of that kind.
 
+-- `option_and_then` with the option first
 abbrev pub with_some : {A B : Type 0} → Option A → (A → Option B) → Option B
-with_some None f = None
-with_some (Some a) f = f a
+with_some o f = option_and_then f o
 
 -- ---- casts
 

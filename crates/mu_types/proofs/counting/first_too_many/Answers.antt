@@ -1,5 +1,5 @@
 use Rattle.std.proofs.Common.{◌∙◌, sym, arith}
-use Rattle.mu_types.specs.Tests.{too_many_leaves}
+use Rattle.mu_types.specs.TypeDemands.{too_many_leaves}
 use Rattle.mu_types.proofs.Firsts.{each_some, each_none}
 use Rattle.mu_types.proofs.Verdicts.{over_cap, many_some}
 use Rattle.mu_types.proofs.counting.first_too_many.Goals as goal

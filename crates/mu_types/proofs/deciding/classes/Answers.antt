@@ -6,7 +6,7 @@ use Rattle.type_laws.specs.Same.{IsGraph}
 use Rattle.mu_types.specs.declared.faults.TypeKind.{TypeKind}
 use Rattle.mu_types.specs.Implied.{complete}
 use Rattle.mu_types.specs.References.{IsHeaded}
-use Rattle.mu_types.specs.Tests.{passes, written_demands}
+use Rattle.mu_types.specs.TypeDemands.{passes, written_demands}
 use Rattle.mu_types.proofs.Firsts.{passes_written}
 use Rattle.mu_types.proofs.References.{headed, complete_is_graph}
 use Rattle.mu_types.proofs.deciding.classes.Goals as goal

@@ -1,6 +1,6 @@
 use Rattle.std.proofs.Common.{◌∙◌, sym}
 use Rattle.demands.specs.Demands.{◌⨾◌}
-use Rattle.mu_types.specs.Tests.{each, wrong_arguments, endless_type, too_many_leaves, passes}
+use Rattle.mu_types.specs.TypeDemands.{each, wrong_arguments, endless_type, too_many_leaves, passes}
 use Rattle.mu_types.proofs.Firsts.{unmet_first, second_of_three, third_of_three, meets_first}
 use Rattle.mu_types.proofs.deciding.judge.Goals as goal
 

@@ -1,5 +1,5 @@
 use Rattle.std.proofs.Common.{◌∙◌, sym, arith}
-use Rattle.mu_types.specs.Tests.{endless_type}
+use Rattle.mu_types.specs.TypeDemands.{endless_type}
 use Rattle.mu_types.proofs.Firsts.{each_some, each_none}
 use Rattle.mu_types.proofs.Verdicts.{endless_some}
 use Rattle.mu_types.proofs.endless.first_endless.Goals as goal

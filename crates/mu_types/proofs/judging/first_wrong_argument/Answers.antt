@@ -1,5 +1,5 @@
 use Rattle.std.proofs.Common.{◌∙◌, sym, arith}
-use Rattle.mu_types.specs.Tests.{wrong_arguments}
+use Rattle.mu_types.specs.TypeDemands.{wrong_arguments}
 use Rattle.mu_types.proofs.Firsts.{each_some, each_none, met_more}
 use Rattle.mu_types.proofs.judging.first_wrong_argument.Goals as goal
 

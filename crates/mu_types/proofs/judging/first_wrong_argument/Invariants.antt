@@ -1,6 +1,6 @@
 use Rattle.std.proofs.Common.{◌≡◌, ℕ, ◌<◌, None}
 use Rattle.demands.specs.Demands.{first_unmet}
-use Rattle.mu_types.specs.Tests.{wrong_arguments}
+use Rattle.mu_types.specs.TypeDemands.{wrong_arguments}
 use Rattle.mu_types.proofs.judging.first_wrong_argument.Given as goal
 
 abbrev pub invariant-loop-t : goal.invariant-loop-t

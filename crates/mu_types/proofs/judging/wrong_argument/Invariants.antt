@@ -1,5 +1,5 @@
 use Rattle.std.proofs.Common.{◌≡◌, ℕ, ◌<◌, true}
-use Rattle.mu_types.specs.Tests.{allows}
+use Rattle.mu_types.specs.TypeDemands.{allows}
 use Rattle.mu_types.proofs.judging.wrong_argument.Given as goal
 
 abbrev pub invariant-loop-k : goal.invariant-loop-k

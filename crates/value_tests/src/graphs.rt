@@ -1,6 +1,7 @@
 // Graphs whose answers are known, run as they are built.
-use super::samples::{Dice, Verdict, complete, drawn, flag_at, graph_of, pair, plain_verdict};
-use super::{Classes, Implied, TypeDef, TypeFault, TypeGraph, TypeKind, classes};
+use crate::samples::{Dice, Verdict, complete, drawn, flag_at, graph_of, pair, plain_verdict};
+use crate::sketch::{Known, Sketch};
+use mu_types::{Implied, TypeDef, TypeFault, TypeKind};
 use std::alloc::{AllocError, Global};
 use std::test::Fail;
 use std::time::Instant;
@@ -14,18 +15,11 @@ fn ids(alloc: Global, members: &[u32]) -> Result<Listing<u32>, AllocError> {
     Ok(ids)
 }
 
-fn judged(alloc: Global, graph: TypeGraph) -> Option<Result<Classes, TypeFault>> {
-    if !graph.is_closed() || graph.count() > 100_000 {
-        return None;
-    }
-    Some(classes(alloc, graph))
-}
-
 // the fault of a graph of one definition, whose name stands at 9 and whose arguments stand at 18 and 24
 fn fault_of(alloc: Global, definition: TypeDef) -> Result<Option<TypeFault>, AllocError> {
-    let mut graph = TypeGraph::new(alloc);
+    let mut graph = Sketch::new(alloc);
     graph.add(definition, ids(alloc, &[9, 18, 24])?)?;
-    match judged(alloc, graph) {
+    match graph.judged(alloc) {
         Some(Err(fault)) => Ok(Some(fault)),
         _ => Ok(None),
     }
@@ -71,7 +65,7 @@ fn names_first_faults(rt: HostRuntime) -> Result<(), Fail> {
 #[test]
 fn takes_two_lists_for_one(rt: HostRuntime) -> Result<(), Fail> {
     let alloc = rt.alloc();
-    let mut graph = TypeGraph::new(alloc);
+    let mut graph = Sketch::new(alloc);
     let none = ids(alloc, &[])?;
     graph.add(TypeDef::Int { width: 64 }, none)?;
     graph.add(
@@ -88,29 +82,27 @@ fn takes_two_lists_for_one(rt: HostRuntime) -> Result<(), Fail> {
         ids(alloc, &[])?,
     )?;
     graph.add(TypeDef::Ref(3), ids(alloc, &[])?)?;
-    let Some(Ok(known)) = judged(alloc, graph) else {
+    let Some(Ok(known)) = graph.judged(alloc) else {
         assert!(rt; false);
         return Ok(());
     };
     assert_eq!(rt; known.count(), 22);
-    assert!(rt; known.same(1, 3) && known.same(2, 4) && !known.same(1, 2));
-    assert_eq!(rt; known.class(4), 2);
-    assert_eq!(rt; known.leaves(3), [0, 2].as_slice());
-    assert!(rt; matches!(known.definition(4), TypeDef::Ref(3)));
-    assert_eq!(rt; known.implied(Implied::Int1), 6);
+    let types = known.classes();
+    assert!(rt; types.same(1, 3) && types.same(2, 4) && !types.same(1, 2));
+    assert_eq!(rt; types.class(4), 2);
+    assert_eq!(rt; types.leaves(3), [0, 2].as_slice());
+    assert!(rt; matches!(types.definition(4), TypeDef::Ref(3)));
+    assert_eq!(rt; types.implied(Implied::Int1), 6);
     Ok(())
 }
 
-fn push(graph: &mut TypeGraph, definition: TypeDef, alloc: Global) -> Result<(), AllocError> {
-    if graph.count() < 1_000_000 {
-        graph.add(definition, Listing::new(alloc))?;
-    }
-    Ok(())
+fn push(graph: &mut Sketch, definition: TypeDef, alloc: Global) -> Result<(), AllocError> {
+    graph.add(definition, Listing::new(alloc))
 }
 
 // a chain of references
-fn chain(alloc: Global, many: u32) -> Result<TypeGraph, AllocError> {
-    let mut graph = TypeGraph::new(alloc);
+fn chain(alloc: Global, many: u32) -> Result<Sketch, AllocError> {
+    let mut graph = Sketch::new(alloc);
     push(&mut graph, TypeDef::Int { width: 8 }, alloc)?;
     for x in 1..many {
         push(&mut graph, TypeDef::Ref(x - 1), alloc)?;
@@ -119,8 +111,8 @@ fn chain(alloc: Global, many: u32) -> Result<TypeGraph, AllocError> {
 }
 
 // two chains that differ at their ends
-fn two_chains(alloc: Global, many: u32) -> Result<TypeGraph, AllocError> {
-    let mut graph = TypeGraph::new(alloc);
+fn two_chains(alloc: Global, many: u32) -> Result<Sketch, AllocError> {
+    let mut graph = Sketch::new(alloc);
     push(&mut graph, TypeDef::Int { width: 8 }, alloc)?;
     push(&mut graph, TypeDef::Int { width: 16 }, alloc)?;
     for x in 2..many {
@@ -130,8 +122,8 @@ fn two_chains(alloc: Global, many: u32) -> Result<TypeGraph, AllocError> {
 }
 
 // lists of integers under many names
-fn lists(alloc: Global, many: u32) -> Result<TypeGraph, AllocError> {
-    let mut graph = TypeGraph::new(alloc);
+fn lists(alloc: Global, many: u32) -> Result<Sketch, AllocError> {
+    let mut graph = Sketch::new(alloc);
     push(&mut graph, TypeDef::Int { width: 64 }, alloc)?;
     for x in 0..many / 2 {
         let own = x % 1_000_000 * 2 + 1;
@@ -148,8 +140,8 @@ fn lists(alloc: Global, many: u32) -> Result<TypeGraph, AllocError> {
 }
 
 // structs of 256 references to such structs
-fn wide(alloc: Global, many: u32) -> Result<TypeGraph, AllocError> {
-    let mut graph = TypeGraph::new(alloc);
+fn wide(alloc: Global, many: u32) -> Result<Sketch, AllocError> {
+    let mut graph = Sketch::new(alloc);
     let structs = many % 1_000_000 / 2 + 1;
     for x in 0..structs {
         let mut fields = Listing::new(alloc);
@@ -164,8 +156,8 @@ fn wide(alloc: Global, many: u32) -> Result<TypeGraph, AllocError> {
 }
 
 // arrays within arrays, as deep as there are types
-fn deep(alloc: Global, many: u32) -> Result<TypeGraph, AllocError> {
-    let mut graph = TypeGraph::new(alloc);
+fn deep(alloc: Global, many: u32) -> Result<Sketch, AllocError> {
+    let mut graph = Sketch::new(alloc);
     push(&mut graph, TypeDef::Int { width: 8 }, alloc)?;
     for x in 1..many {
         push(
@@ -181,8 +173,8 @@ fn deep(alloc: Global, many: u32) -> Result<TypeGraph, AllocError> {
 }
 
 // structs of 256 references to such structs, one of which differs: in the end all differ
-fn wide_apart(alloc: Global, many: u32) -> Result<TypeGraph, AllocError> {
-    let mut graph = TypeGraph::new(alloc);
+fn wide_apart(alloc: Global, many: u32) -> Result<Sketch, AllocError> {
+    let mut graph = Sketch::new(alloc);
     let structs = many % 1_000_000 / 2;
     for x in 0..structs {
         let mut fields = Listing::new(alloc);
@@ -200,8 +192,8 @@ fn wide_apart(alloc: Global, many: u32) -> Result<TypeGraph, AllocError> {
 }
 
 // structs in a ring, each of which contains the next: one long cycle of parts
-fn ring(alloc: Global, many: u32) -> Result<TypeGraph, AllocError> {
-    let mut graph = TypeGraph::new(alloc);
+fn ring(alloc: Global, many: u32) -> Result<Sketch, AllocError> {
+    let mut graph = Sketch::new(alloc);
     for x in 0..many {
         let next = if x < many - 1 { x + 1 } else { 0 };
         push(
@@ -216,8 +208,8 @@ fn ring(alloc: Global, many: u32) -> Result<TypeGraph, AllocError> {
 }
 
 // arrays of 4,096 of that element, or each of the one before
-fn arrays(alloc: Global, many: u32, nested: bool) -> Result<TypeGraph, AllocError> {
-    let mut graph = TypeGraph::new(alloc);
+fn arrays(alloc: Global, many: u32, nested: bool) -> Result<Sketch, AllocError> {
+    let mut graph = Sketch::new(alloc);
     push(&mut graph, TypeDef::Int { width: 8 }, alloc)?;
     for x in 1..many {
         push(
@@ -233,8 +225,8 @@ fn arrays(alloc: Global, many: u32, nested: bool) -> Result<TypeGraph, AllocErro
 }
 
 // arrays of 4,096 elements that all differ
-fn arrays_apart(alloc: Global, many: u32) -> Result<TypeGraph, AllocError> {
-    let mut graph = TypeGraph::new(alloc);
+fn arrays_apart(alloc: Global, many: u32) -> Result<Sketch, AllocError> {
+    let mut graph = Sketch::new(alloc);
     let half = many / 2;
     push(&mut graph, TypeDef::Int { width: 8 }, alloc)?;
     for x in 1..half {
@@ -253,7 +245,7 @@ fn arrays_apart(alloc: Global, many: u32) -> Result<TypeGraph, AllocError> {
     Ok(graph)
 }
 
-fn great(alloc: Global, kind: u32, many: u32) -> Result<TypeGraph, AllocError> {
+fn great(alloc: Global, kind: u32, many: u32) -> Result<Sketch, AllocError> {
     match kind {
         0 => chain(alloc, many),
         1 => two_chains(alloc, many),
@@ -274,7 +266,7 @@ fn measures_great_graphs(rt: HostRuntime) -> Result<(), Fail> {
     for kind in 0..10u32 {
         let graph = great(alloc, kind, 16384)?;
         let start = Instant::now(&rt)?;
-        let known = judged(alloc, graph);
+        let known = graph.judged(alloc);
         let end = start.elapsed(&rt)?.as_millis();
         println!(rt; "graph {kind}: {end} ms")?;
         let is_met = match known {
@@ -290,11 +282,12 @@ fn measures_great_graphs(rt: HostRuntime) -> Result<(), Fail> {
 }
 
 // whether the leaves of a type are the classes of those
-fn has_leaves(known: &Classes, t: usize, leaves: &[u32]) -> bool {
+fn has_leaves(known: &Known, t: usize, leaves: &[u32]) -> bool {
     if t >= known.count() || t > 65535 {
         return false;
     }
-    let classes = known.leaves(t as u32);
+    let types = known.classes();
+    let classes = types.leaves(t as u32);
     if classes.len() != leaves.len() {
         return false;
     }
@@ -302,7 +295,7 @@ fn has_leaves(known: &Classes, t: usize, leaves: &[u32]) -> bool {
         if i >= classes.len() || leaves[i] as usize >= known.count() {
             return false;
         }
-        if classes[i] != known.class(leaves[i]) {
+        if classes[i] != types.class(leaves[i]) {
             return false;
         }
     }
@@ -310,19 +303,20 @@ fn has_leaves(known: &Classes, t: usize, leaves: &[u32]) -> bool {
 }
 
 // whether two are told to be the same, and the first to be the class of the second, exactly where they are alike and none before it is
-fn has_classes(known: &Classes, alike: &[bool]) -> bool {
+fn has_classes(known: &Known, alike: &[bool]) -> bool {
     let many = known.count();
     if many > 65535 {
         return false;
     }
+    let types = known.classes();
     for b in 0..many {
         let mut met = false;
         for a in 0..many {
             let same = flag_at(alike, pair(many, a, b));
-            if known.same(a as u32, b as u32) != same {
+            if types.same(a as u32, b as u32) != same {
                 return false;
             }
-            if (known.class(b as u32) as usize == a) != (same && !met) {
+            if (types.class(b as u32) as usize == a) != (same && !met) {
                 return false;
             }
             met = met || same;
@@ -331,7 +325,7 @@ fn has_classes(known: &Classes, alike: &[bool]) -> bool {
     true
 }
 
-fn is_as_said(known: &Classes, alike: &[bool], leaves: &[Vec<u32>]) -> bool {
+fn is_as_said(known: &Known, alike: &[bool], leaves: &[Vec<u32>]) -> bool {
     if known.count() != leaves.len() || !has_classes(known, alike) {
         return false;
     }
@@ -376,7 +370,7 @@ fn compare(alloc: Global, dice: &mut Dice, tally: &mut Tally) -> Result<(), Allo
     let written = shapes.len();
     let graph = graph_of(alloc, &shapes)?;
     complete(alloc, &mut shapes)?;
-    let known = judged(alloc, graph);
+    let known = graph.judged(alloc);
     match plain_verdict(alloc, &shapes, written)? {
         Verdict::Refused { kind, place } => {
             match kind {

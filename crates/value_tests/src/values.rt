@@ -3,12 +3,12 @@ ghost use Rattle.type_laws.specs.declared.definition.TypeDef.TheVariants as type
 ghost use Rattle.mu_values.specs.declared.literals.LiteralKind.TheVariants as literals;
 ghost use Rattle.mu_values.specs.Integers.{IsInteger};
 
-use crate::{
+use mu_base::Types;
+use mu_types::{Classes, TypeDef, TypeFault, TypeGraph, classes};
+use mu_values::{
     BinOp, CmpOp, ConstFault, ConstKind, ConvOp, Literal, LiteralKind, Made, Passed, Scalar, Slots,
     UpdateOp, Value, binary, compare, convert, judge_const, make_const, updated,
 };
-use mu_base::Types;
-use mu_types::{Classes, TypeDef, TypeFault, TypeGraph, classes};
 use std::alloc::{AllocError, Global};
 use std::process::Abort;
 use std::test::Fail;

@@ -45,13 +45,13 @@ allows graph _ k = true
 abbrev pub place : List (List ℕ) → ℕ → ℕ → ℕ
 place places t k = slice_index (slice_index_or places t []) k
 
-abbrev pub argument_demands : List TypeDef → List (List ℕ) → ℕ → Option TypeDef → Demands TypeKind
-argument_demands graph places t None = none
-argument_demands graph places t (Some d) = each (λ k. demand (place places t (k + 1)) WrongArgument (allows graph d k)) (judged d) 0
+abbrev pub wrong_arguments_of : List TypeDef → List (List ℕ) → ℕ → Option TypeDef → Demands TypeKind
+wrong_arguments_of graph places t None = none
+wrong_arguments_of graph places t (Some d) = each (λ k. demand (place places t (k + 1)) WrongArgument (allows graph d k)) (judged d) 0
 
 -- the arguments of definition t
 abbrev pub wrong_arguments : List TypeDef → List (List ℕ) → ℕ → Demands TypeKind
-wrong_arguments graph places t = argument_demands graph places t (slice_get graph t)
+wrong_arguments graph places t = wrong_arguments_of graph places t (slice_get graph t)
 
 -- definition t does not contain itself
 abbrev pub endless_type : List TypeDef → List (List ℕ) → ℕ → Demands TypeKind
