@@ -31,11 +31,11 @@ pub steps_answer : (bundle : List Item) (s t : Held) (end : StepEnd) → Program
     → outcome_of end (configuration t) ≡ client_answers (named bundle) (configuration s).client (step (named bundle) (configuration s))
 steps_answer bundle s t end same are met h = h ∙ ap (λ p. client_answers p (configuration s).client (step p (configuration s))) (sym (same bundle are met))
 
--- what comes again: a step that went on says nothing of an ending, and one that ended says it without its lines
-pub went_again : (o : Outcome) (d : Configuration) (ls : List Line) (end : StepEnd) → outcome_of (Went ls) d ≡ o → IsAgain o end
-went_again o d ls end e = subst (λ (o : Outcome). IsAgain o end) e tt
+-- what comes again: a step that went on went so, and one that ended says its ending without its lines
+pub went_again : (o : Outcome) (d : Configuration) (ls : List Line) (end : StepEnd) → outcome_of (Went ls) d ≡ o → end ≡ Went ls → IsAgain o end d
+went_again o d ls end e is = subst (λ (o : Outcome). IsAgain o end d) e (ap (λ (end : StepEnd). outcome_of end d) is)
 
-pub ended_again : (o : Outcome) (d : Configuration) (ls : List Line) (e : Ending) (end : StepEnd) → outcome_of (Ended ls e) d ≡ o → end ≡ Ended [] e → IsAgain o end
-ended_again o d ls e end same is = subst (λ (o : Outcome). IsAgain o end) same is
+pub ended_again : (o : Outcome) (d : Configuration) (ls : List Line) (e : Ending) (end : StepEnd) → outcome_of (Ended ls e) d ≡ o → end ≡ Ended [] e → IsAgain o end d
+ended_again o d ls e end same is = subst (λ (o : Outcome). IsAgain o end d) same is
 
 pub ruleset machines = (steps_there, steps_answer, went_again, ended_again)

@@ -128,7 +128,7 @@ impl<'a, M: Memory + Drop, C: Determined + Drop> Machine<'a, M, C> {
     pub fn step(&mut self) -> Result<StepEnd, AllocError>
         requires there { client_answers (named self.old.bundle) self.old.configuration.client (step (named self.old.bundle) self.old.configuration) ≢ Stuck }
         ensures ok { IfOk result (λ end. self.old.ended ≡ false → outcome_of end self.new.configuration ≡ client_answers (named self.old.bundle) self.old.configuration.client (step (named self.old.bundle) self.old.configuration)) }
-        ensures again { IfOk result (λ end. self.old.ended ≡ true → IsAgain (client_answers (named self.old.bundle) self.old.configuration.client (step (named self.old.bundle) self.old.configuration)) end) }
+        ensures again { IfOk result (λ end. self.old.ended ≡ true → IsAgain (client_answers (named self.old.bundle) self.old.configuration.client (step (named self.old.bundle) self.old.configuration)) end self.new.configuration) }
         ensures ended { IfOk result (λ end. self.new.ended ≡ (self.old.ended || gives_ending end)) }
         ensures bundle { self.new.bundle ≡ self.old.bundle }
         ensures err { OnErr result (self.new ≡ self.old) }

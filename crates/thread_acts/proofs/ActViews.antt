@@ -37,12 +37,11 @@ use Rattle.thread_acts.proofs.Passing.{handled}
 pub gives_there : (bundle : List Item) (s v : Held) (vs : List Value) (f : Activation) → v ≡ s → acting bundle s (Gives vs) ≢ Stuck → f ≡ v.frames.top → IsSome (goes_on bundle f vs)
 gives_there bundle s v vs f view h e = subst (λ f. IsSome (goes_on bundle f vs)) (sym (e ∙ ap (λ (x : Held). x.frames.top) view)) (given_there bundle s vs h)
 
-pub gave : (bundle : List Item) (s v : Held) (vs out : List Value) (f : Activation) (block at : ℕ) (fr : Chain) (o : Outcome) → v ≡ s → acting bundle s (Gives vs) ≢ Stuck → f ≡ v.frames.top
-    → goes_on bundle f vs ≡ Some (stands f block at out) → fr ≡ record v.frames { top = stands v.frames.top block at out } → o ≡ went_on (record v { frames = fr }) → o ≡ acting bundle s (Gives vs)
-gave bundle s v vs out f block at fr o view h e way same is =
-    let top : goes_on bundle v.frames.top vs ≡ Some (stands v.frames.top block at out) = subst (λ f. goes_on bundle f vs ≡ Some (stands f block at out)) e way in
+pub gave : (bundle : List Item) (s v : Held) (vs : List Value) (fr : Chain) (o : Outcome) → v ≡ s → acting bundle s (Gives vs) ≢ Stuck
+    → goes_on bundle v.frames.top vs ≡ Some fr.top → fr.below ≡ v.frames.below → o ≡ went_on (record v { frames = fr }) → o ≡ acting bundle s (Gives vs)
+gave bundle s v vs fr o view h way below is =
     let main : acting bundle v (Gives vs) ≢ Stuck → o ≡ acting bundle v (Gives vs) =
-    λ k. is ∙ ap (λ fr. went_on (record v { frames = fr })) same ∙ sym (given_is bundle v vs (stands v.frames.top block at out) k top) in
+    λ k. is ∙ ap (λ bs. went_on (record v { frames = record { top = fr.top; below = bs } })) below ∙ sym (given_is bundle v vs fr.top k way) in
     subst (λ s. acting bundle s (Gives vs) ≢ Stuck → o ≡ acting bundle s (Gives vs)) view main h
 
 -- ---- calls

@@ -29,18 +29,6 @@ pub append_next : (from start before after : List Value) (n : ℕ) (x : Value) �
 append_next from start before after n x was there is =
     is ∙ ap (λ vs. vs ++ x ∷ []) was ∙ append_assoc start (take n from) (x ∷ []) ∙ ap (λ vs. start ++ vs) (sym (take_next from n x there))
 
--- a list of at most one value, behind another
-pub some_behind : (start from after : List Value) (x : Value) → length from ≤ 1 → slice_get from 0 ≡ Some x → after ≡ start ++ x ∷ [] → after ≡ start ++ from
-some_behind start [] after x few there is = cc
-some_behind start (y ∷ []) after x few there is = let same : y ≡ x = cc in is ∙ ap (λ z. start ++ z ∷ []) (sym same)
-some_behind start (y ∷ z ∷ zs) after x few there is = absurd (omega arith)
-
-pub none_behind : (start from : List Value) → length from ≡ 0 → start ≡ start ++ from
-none_behind start [] none = sym (append-nil start)
-none_behind start (y ∷ ys) none = cc
-
-pub ruleset one_behind = (some_behind, none_behind)
-
 -- ---- objects that end one by one
 
 pub change_there : (os : List HeapObject) (n : ℕ) (o : HeapObject) → slice_get os n ≡ Some o → slice_set os n (killed o) ≡ changed killed n os

@@ -1,5 +1,5 @@
 // Accesses of memory, and fences.
-ghost use Rattle.std.specs.Prelude.{◌≡◌, ◌≢◌, suc, ℕ, ◌+◌, ◌-◌, ◌<◌, ◌≤◌, [], ◌∷◌, ◌++◌, IsSome, IsNone, Some, None, MatchOption, IfOk, OnOk, OnErr, length, slice_get, drop, true, false};
+ghost use Rattle.std.specs.Prelude.{◌≡◌, ◌≢◌, suc, ℕ, ◌+◌, ◌-◌, ◌<◌, [], ◌∷◌, ◌++◌, IsSome, IsNone, Some, None, MatchOption, IfOk, OnOk, OnErr, length, slice_get, drop, true, false};
 ghost use Rattle.mem_axioms.specs.declared.types.Mode.TheVariants.{Read};
 ghost use Rattle.mem_axioms.specs.declared.types.Kind.TheVariants as kinds;
 ghost use Rattle.mem_axioms.specs.Objects.{HasCell, initial_of};
@@ -23,7 +23,7 @@ ghost use Rattle.thread_acts.specs.Remembering.{initials};
 ghost use Rattle.thread_acts.specs.Accessing.{picking, race_at, logs};
 
 use crate::finding::case_of;
-use crate::flow::{Place, next_place, passing, reserve_one, stand, stand_behind};
+use crate::flow::{Place, next_place, passing, reserve_for, stand, stand_behind};
 use crate::state::{State, ended};
 use bundle_check::Checked;
 use client_hooks::Determined;
@@ -231,8 +231,8 @@ pub fn commit_other<M: Memory, L: Ledger>(memory: &mut M, event: Event, blank: B
     }
 }
 
-/// A memory gets an event, and the top frame goes on at a place with at most one result behind its own variables. Where the event races,
-/// that is the answer, and all is as before.
+/// A memory gets an event, and the top frame goes on at a place of its block with these results behind its own variables. Where the
+/// event races, that is the answer, and all is as before; so it is where no memory is found.
 fn commit_next<M: Memory, L: Ledger>(
     memory: &mut M,
     frames: &mut Frames,
@@ -247,7 +247,6 @@ fn commit_next<M: Memory, L: Ledger>(
     requires fits { EventFits (M.rule memory.old) (M.objects memory.old) (M.log memory.old) event }
     requires room { HasRoom (M.room memory.old) event }
     requires count { length (M.log memory.old) + 1 < 4294967295 }
-    requires few { length results.now.values ≤ 1 }
     ensures race { IfOk result (λ found. MatchOption found (race (M.rule memory.old) (M.log memory.old) event ≡ None) (λ found. race (M.rule memory.old) (M.log memory.old) event ≡ Some found.earlier)) }
     ensures added { IfOk result (λ found. IsNone found → M.log memory.new ≡ event ∷ M.log memory.old) }
     ensures raced { IfOk result (λ found. IsSome found → M.log memory.new ≡ M.log memory.old) }
@@ -259,7 +258,7 @@ fn commit_next<M: Memory, L: Ledger>(
     ensures same_rule { M.rule memory.new ≡ M.rule memory.old }
 {
     let frame = frames.top_mut();
-    reserve_one(&mut frame.slots, results)?;
+    reserve_for(&mut frame.slots, results)?;
     let found = commit::<M, L>(memory, event, blank);
     if found.is_none() {
         stand_behind(frame, at, results);
@@ -341,7 +340,7 @@ impl<M: Memory, C: Determined> State<M, C> {
             kind: kind_of(access, cell, chosen),
         };
         write_results(access, chosen, values)?;
-        match next_place(code, self.frames.top(), values) {
+        match next_place(code, self.frames.top()) {
             Some(at) => self.log_next(alloc, event, Some(cell), options, at, values),
             None => {
                 let place = passing(code, self.frames.top(), values, out)?;
@@ -403,7 +402,8 @@ impl<M: Memory, C: Determined> State<M, C> {
         }
     }
 
-    /// The same, where it goes on at a place of its block with at most one result behind its own variables.
+    /// The thread's event is logged, and it goes on at a place of its block with these results behind its own variables; a pick among so
+    /// many options is taken. Where the event races that is the ending. Where no memory is found nothing changes.
     fn log_next(
         &mut self,
         alloc: Global,
@@ -419,7 +419,6 @@ impl<M: Memory, C: Determined> State<M, C> {
         requires fits { EventFits self.old.rule (initials self.old.objects) self.old.log event }
         requires cell { HasRoom (record { thread = self.old.thread; cell = cell; events = 1 }) event }
         requires options { 0 < options }
-        requires few { length results.now.values ≤ 1 }
         ensures ok { IfOk result (λ end. answers end self.new ≡ logs self.old event (pick options (ahead self.old)).1 (record self.old.frames { top = stands self.old.frames.top self.old.frames.top.block at (self.old.frames.top.vars ++ results.now.values) })) }
         ensures err { OnErr result (self.new ≡ self.old) }
         ensures stays { IfOk result (λ end. Stays end self.old self.new) }
@@ -467,7 +466,7 @@ impl<M: Memory, C: Determined> State<M, C> {
             kind: Kind::Fence { order },
         };
         values.clear();
-        match next_place(code, self.frames.top(), values) {
+        match next_place(code, self.frames.top()) {
             Some(at) => self.log_next(alloc, event, None, 1, at, values),
             None => {
                 let place = passing(code, self.frames.top(), values, out)?;

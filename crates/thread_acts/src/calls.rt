@@ -81,7 +81,8 @@ impl<M: Memory, C: Determined> State<M, C> {
         Ok(self.went(alloc))
     }
 
-    /// The thread calls a function, with the values in the room, where that has a body and memory is found. Else nothing changes.
+    /// The thread calls a function, with the values in the room, where that has a body and memory is found. Else the thread is as
+    /// before; the room may have changed.
     #[tactic(auto, using(crate::specs::ActLaws::calling))]
     pub fn call_at_once(
         &mut self,
@@ -102,7 +103,8 @@ impl<M: Memory, C: Determined> State<M, C> {
         }
     }
 
-    /// The thread calls a function with that first block, where memory is found. Else nothing changes.
+    /// The thread calls a function with that first block, where memory is found. Else the thread is as before; the room may have
+    /// changed.
     fn enter_at_once(
         &mut self,
         alloc: Global,

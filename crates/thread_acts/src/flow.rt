@@ -1,9 +1,12 @@
 // Where a frame stands next.
-ghost use Rattle.std.specs.Prelude.{◌≡◌, ◌+◌, ◌≤◌, ◌++◌, ◌∷◌, [], IsSome, IfSome, Some, OnOk, OnErr, IfOk, length, slice_get};
+ghost use Rattle.std.specs.Prelude.{◌≡◌, ◌+◌, ◌++◌, ◌∷◌, List, [], IsSome, IfSome, Some, OnOk, OnErr, IfOk, false};
+ghost use Rattle.bundle_check.specs.Answers.{code_at};
+ghost use Rattle.frames.specs.Activations.{Value};
 ghost use Rattle.frames.specs.Chains.{stands};
 ghost use Rattle.frames.specs.FrameOf.{frame_of};
 ghost use Rattle.model_numbers.specs.Sources.{goal_at};
 ghost use Rattle.thread_acts.specs.Acting.{goes_on};
+ghost use Rattle.thread_acts.specs.Rooms.{scalars_in, HasRoomFor};
 
 use bundle_check::Checked;
 use code_check::Target;
@@ -132,15 +135,14 @@ pub(crate) fn push_on_top(frames: &mut Frames, scalar: Scalar) -> Result<(), All
     push_on(frames.top_mut(), scalar)
 }
 
-/// The next place of a frame that goes on there, behind its own variables and at most one result. None where it goes on elsewhere, or
-/// has more results.
+/// The next place of a frame that goes on there, with any results behind its own variables. None where it has not begun, goes on
+/// elsewhere, or stands at the last place that a number tells.
 #[tactic(auto, using(crate::specs::ActLaws::going))]
-pub(crate) fn next_place(code: &Checked, frame: &Frame, results: &Slots) -> Option<u32>
-    requires { IsSome (goes_on code.now (frame_of frame.now) results.now.values) }
-    ensures few { IfSome result (λ at. length results.now.values ≤ 1) }
-    ensures next { IfSome result (λ at. goes_on code.now (frame_of frame.now) results.now.values ≡ Some (stands (frame_of frame.now) frame.now.block at (frame.now.slots.values ++ results.now.values))) }
+pub(crate) fn next_place(code: &Checked, frame: &Frame) -> Option<u32>
+    requires { frame.now.fresh ≡ false → IsSome (code_at code.now frame.now.block frame.now.at) }
+    ensures { IfSome result (λ at. (results : List Value) → goes_on code.now (frame_of frame.now) results ≡ Some (stands (frame_of frame.now) frame.now.block at (frame.now.slots.values ++ results))) }
 {
-    if frame.fresh || results.len() > 1 {
+    if frame.fresh {
         return None;
     }
     match &code.code(frame.block, frame.at).normal {
@@ -152,44 +154,83 @@ pub(crate) fn next_place(code: &Checked, frame: &Frame, results: &Slots) -> Opti
     }
 }
 
-/// Makes room in a list for the one value that another may have.
-pub(crate) fn reserve_one(to: &mut Slots, from: &Slots) -> Result<(), AllocError>
-    ensures same { to.new.values ≡ to.old.values }
-    ensures room { OnOk result (length from.now.values ≤ to.new.spare) }
-    ensures scalars { OnOk result (IfSome (slice_get from.now.values 0) (λ v. length v ≤ to.new.spare_scalars)) }
+/// How many scalars the values of a list have. More than a number tells are refused for want of memory.
+#[tactic(auto, using(crate::specs::Rooms::count_all))]
+fn scalars_in(from: &Slots) -> Result<usize, AllocError>
+    ensures { IfOk result (λ many. many ≡ scalars_in from.now.values) }
 {
-    let scalars = if from.len() > 0 { from.at(0).len() } else { 0 };
+    let mut many: usize = 0;
+    for n in 0..from.len() {
+        let Some(more) = many.checked_add(from.at(n).len()) else {
+            return Err(AllocError);
+        };
+        many = more;
+    }
+    Ok(many)
+}
+
+/// Makes room in a list for the values of another.
+pub(crate) fn reserve_for(to: &mut Slots, from: &Slots) -> Result<(), AllocError>
+    ensures same { to.new.values ≡ to.old.values }
+    ensures room { OnOk result (HasRoomFor to.new from.now.values) }
+{
+    let scalars = scalars_in(from)?;
     to.reserve(from.len(), scalars)
 }
 
-/// Adds the one value that a list may have to another one, which has room for it.
-#[tactic(auto, using(crate::specs::Lists::one_behind))]
-fn push_one(from: &Slots, to: &mut Slots)
-    requires few { length from.now.values ≤ 1 }
-    requires room { length from.now.values ≤ to.old.spare }
-    requires scalars { IfSome (slice_get from.now.values 0) (λ v. length v ≤ to.old.spare_scalars) }
+/// Adds the values of a list behind those of another one, which has room for them.
+fn append_reserved(from: &Slots, to: &mut Slots)
+    requires { HasRoomFor to.old from.now.values }
     ensures { to.new.values ≡ to.old.values ++ from.now.values }
 {
-    if from.len() == 0 {
-        return;
-    }
-    match to.push_slice(from.at(0)) {
-        Ok(()) => {}
-        Err(_) => unreachable!(),
+    for n in 0..from.len() {
+        match to.push_slice(from.at(n)) {
+            Ok(()) => {}
+            Err(_) => unreachable!(),
+        }
     }
 }
 
-/// The frame stands at a place of its block, with the one value that a list may have behind its own, and waits for nothing.
+/// The frame stands at a place of its block, with these results behind its own variables, and waits for nothing.
 pub(crate) fn stand_behind(frame: &mut Frame, at: u32, results: &Slots)
-    requires few { length results.now.values ≤ 1 }
-    requires room { length results.now.values ≤ frame.old.slots.spare }
-    requires scalars { IfSome (slice_get results.now.values 0) (λ v. length v ≤ frame.old.slots.spare_scalars) }
+    requires { HasRoomFor frame.old.slots results.now.values }
     ensures { frame_of frame.new ≡ stands (frame_of frame.old) frame.old.block at (frame.old.slots.values ++ results.now.values) }
 {
-    push_one(results, &mut frame.slots);
+    append_reserved(results, &mut frame.slots);
     frame.at = at;
     frame.fresh = false;
     frame.waits.clear();
     frame.handler = None;
     frame.kept.clear();
+}
+
+/// The top frame stands at a place of its block, with these results behind its own variables. Where no memory is found nothing changes.
+fn stand_next(frames: &mut Frames, at: u32, results: &Slots) -> Result<(), AllocError>
+    ensures ok { OnOk result (frames.new ≡ record frames.old { top = stands frames.old.top frames.old.top.block at (frames.old.top.vars ++ results.now.values) }) }
+    ensures err { OnErr result (frames.new ≡ frames.old) }
+{
+    let frame = frames.top_mut();
+    reserve_for(&mut frame.slots, results)?;
+    stand_behind(frame, at, results);
+    Ok(())
+}
+
+/// The top frame goes on with these results of its instruction. Where no memory is found nothing changes.
+pub(crate) fn go_on(
+    code: &Checked,
+    frames: &mut Frames,
+    results: &Slots,
+    out: &mut Slots,
+) -> Result<(), AllocError>
+    requires { IsSome (goes_on code.now frames.old.top results.now.values) }
+    ensures top { OnOk result (goes_on code.now frames.old.top results.now.values ≡ Some frames.new.top) }
+    ensures below { frames.new.below ≡ frames.old.below }
+    ensures err { OnErr result (frames.new ≡ frames.old) }
+{
+    if let Some(at) = next_place(code, frames.top()) {
+        return stand_next(frames, at, results);
+    }
+    let place = passing(code, frames.top(), results, out)?;
+    stand(frames, place, out);
+    Ok(())
 }

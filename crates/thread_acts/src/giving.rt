@@ -8,7 +8,7 @@ ghost use Rattle.thread_acts.specs.Held.{Held};
 ghost use Rattle.thread_acts.specs.Outcome.{Stays};
 ghost use Rattle.thread_acts.specs.Acting.{answers, went_on, acting};
 
-use crate::flow::{passing, push_on_top, stand};
+use crate::flow::{go_on, push_on_top};
 use crate::state::State;
 use bundle_check::Checked;
 use client_hooks::Determined;
@@ -34,8 +34,7 @@ impl<M: Memory, C: Determined> State<M, C> {
         ensures err { OnErr result (self.new ≡ self.old) }
         ensures stays { IfOk result (λ end. (s t : Held) → Stays end s t) }
     {
-        let place = passing(code, self.frames.top(), results, out)?;
-        stand(&mut self.frames, place, out);
+        go_on(code, &mut self.frames, results, out)?;
         Ok(self.went(alloc))
     }
 
@@ -99,7 +98,8 @@ impl<M: Memory, C: Determined> State<M, C> {
         }
     }
 
-    /// The thread's instruction has one result, of one scalar, for which there is room, and goes on at the next place.
+    /// The thread's instruction has one result, of one scalar, and goes on at the next place, where memory is found. Else nothing
+    /// changes.
     fn push_at_once(&mut self, scalar: Scalar) -> bool
         requires left { self.old.left ≡ true }
         requires room { self.old.steps < self.old.budget }

@@ -2,6 +2,7 @@
 ghost use Rattle.std.specs.Prelude.{◌≡◌, ◌≢◌, ◌+◌, ◌-◌, ◌^◌, ◌<◌, ◌≤◌, ◌∷◌, ◌++◌, [], IsSome, Some, IsSomeAnd, IfOk, IfErr, OnOk, OnErr, length, take, slice_get, true};
 ghost use Rattle.typed_heap.specs.Objects.{object_of};
 ghost use Rattle.typed_heap.specs.Heap.{AreNarrow};
+ghost use Rattle.frames.specs.Chains.{stands};
 ghost use Rattle.frames.specs.FrameOf.{frame_of};
 ghost use Rattle.mu_model.specs.declared.endings.Ending.TheVariants as endings;
 ghost use Rattle.mu_model.specs.Outcomes.{Stuck};
@@ -10,7 +11,7 @@ ghost use Rattle.thread_acts.specs.Acting.{answers, acting, faulting, goes_on};
 ghost use Rattle.thread_acts.specs.Making.{graph_of, owns, IsFull, act_of, leaves_made, result_made, frame_made};
 ghost use Rattle.thread_acts.specs.Remembering.{initials};
 
-use crate::flow::{passing, stand};
+use crate::flow::{next_place, passing, reserve_for, stand, stand_behind};
 use crate::objects::MOST_OBJECTS;
 use crate::state::State;
 use bundle_check::Checked;
@@ -102,7 +103,7 @@ fn new_object(heap: &mut Heap, code: &Checked, class: u32, making: Making) -> Re
     }
 }
 
-/// The frame has the newest object for its own, of which a memory is told.
+/// The frame has the newest object for its own, of which a memory is told. Its place and its variables, with their room, stay.
 fn own<M: Memory>(
     alloc: Global,
     heap: &Heap,
@@ -115,6 +116,8 @@ fn own<M: Memory>(
     ensures frame { OnOk result (frame_of frame.new ≡ owns (frame_of frame.old) number) }
     ensures ok { OnOk result (M.objects memory.new ≡ initials heap.now.objects) }
     ensures same { OnErr result (frame_of frame.new ≡ frame_of frame.old) }
+    ensures block { frame.new.block ≡ frame.old.block }
+    ensures slots { frame.new.slots ≡ frame.old.slots }
     ensures err { OnErr result (M.objects memory.new ≡ M.objects memory.old) }
     ensures log { M.log memory.new ≡ M.log memory.old }
     ensures rule { M.rule memory.new ≡ M.rule memory.old }
@@ -124,26 +127,29 @@ fn own<M: Memory>(
     frame.cells.push(number)
 }
 
-/// A memory is told of the newest object, which the top frame has for its own where it is made so.
+/// A memory is told of the newest object, which the frame has for its own where it is made so. The frame's place and its variables,
+/// with their room, stay.
 fn tell<M: Memory>(
     alloc: Global,
     heap: &Heap,
     number: u32,
     making: Making,
     memory: &mut M,
-    frames: &mut Frames,
+    frame: &mut Frame,
 ) -> Result<(), AllocError>
     requires number { number + 1 ≡ length heap.now.objects }
     requires known { M.objects memory.old ≡ initials (take number heap.now.objects) }
-    ensures frames { OnOk result (frames.new ≡ record frames.old { top = frame_made making frames.old.top number }) }
+    ensures frame { OnOk result (frame_of frame.new ≡ frame_made making (frame_of frame.old) number) }
     ensures ok { OnOk result (M.objects memory.new ≡ initials heap.now.objects) }
-    ensures same { OnErr result (frames.new ≡ frames.old) }
+    ensures same { OnErr result (frame_of frame.new ≡ frame_of frame.old) }
+    ensures block { frame.new.block ≡ frame.old.block }
+    ensures slots { frame.new.slots ≡ frame.old.slots }
     ensures err { OnErr result (M.objects memory.new ≡ M.objects memory.old) }
     ensures log { M.log memory.new ≡ M.log memory.old }
     ensures rule { M.rule memory.new ≡ M.rule memory.old }
 {
     match making {
-        Making::Own => own(alloc, heap, number, memory, frames.top_mut()),
+        Making::Own => own(alloc, heap, number, memory, frame),
         Making::Object | Making::Hybrid { .. } => remember(alloc, heap, number, memory),
     }
 }
@@ -159,6 +165,33 @@ fn result_of(making: Making, number: u32) -> Scalar
         },
         Making::Object | Making::Hybrid { .. } => Scalar::Object(number),
     }
+}
+
+/// A memory is told of the newest object, and the top frame stands at a place of its block with these results behind its own variables.
+fn give_next<M: Memory>(
+    alloc: Global,
+    heap: &Heap,
+    number: u32,
+    making: Making,
+    memory: &mut M,
+    frames: &mut Frames,
+    at: u32,
+    results: &Slots,
+) -> Result<(), AllocError>
+    requires number { number + 1 ≡ length heap.now.objects }
+    requires known { M.objects memory.old ≡ initials (take number heap.now.objects) }
+    ensures frames { OnOk result (frames.new ≡ record frames.old { top = stands (frame_made making frames.old.top number) frames.old.top.block at (frames.old.top.vars ++ results.now.values) }) }
+    ensures ok { OnOk result (M.objects memory.new ≡ initials heap.now.objects) }
+    ensures same { OnErr result (frames.new ≡ frames.old) }
+    ensures err { OnErr result (M.objects memory.new ≡ M.objects memory.old) }
+    ensures log { M.log memory.new ≡ M.log memory.old }
+    ensures rule { M.rule memory.new ≡ M.rule memory.old }
+{
+    let frame = frames.top_mut();
+    reserve_for(&mut frame.slots, results)?;
+    tell(alloc, heap, number, making, memory, frame)?;
+    stand_behind(frame, at, results);
+    Ok(())
 }
 
 /// The top frame's instruction has its result of the newest object, and a memory is told of it.
@@ -187,8 +220,11 @@ fn give<M: Memory>(
 {
     values.clear();
     values.push_scalar(result_of(making, number))?;
+    if let Some(at) = next_place(code, frames.top()) {
+        return give_next(alloc, heap, number, making, memory, frames, at, values);
+    }
     let place = passing(code, frames.top(), values, out)?;
-    tell(alloc, heap, number, making, memory, frames)?;
+    tell(alloc, heap, number, making, memory, frames.top_mut())?;
     stand(frames, place, out);
     Ok(())
 }
