@@ -1,4 +1,5 @@
-// Instructions that are decided at once: the frequent ones, which come to one scalar or to a block.
+// Instructions that are decided at once: the frequent ones, which come to one scalar or to a block. They are inlined, so that a scalar
+// is not copied on its way.
 ghost use Rattle.std.specs.Prelude.{◌≡◌, [], ◌∷◌, Some, IsSome, IfSome};
 ghost use Rattle.mu_model.specs.Acts as acts;
 ghost use Rattle.model_numbers.specs.Forms.{computation_at, control_at, act_at};
@@ -24,6 +25,7 @@ pub enum AtOnce {
 
 /// What a computation gives, where it computes one scalar.
 #[tactic(auto, using(crate::specs::AtOnce::computing))]
+#[inline(always)]
 fn computed(code: &Checked, vars: &Variables, form: &ComputationForm) -> Option<Scalar>
     requires { IsSome (computation_at code.now vars.now form.now) }
     ensures { IfSome result (λ s. computation_at code.now vars.now form.now ≡ Some (acts.Gives ((s ∷ []) ∷ []))) }
@@ -52,6 +54,7 @@ fn computed(code: &Checked, vars: &Variables, form: &ComputationForm) -> Option<
 }
 
 /// The block that an instruction goes to, where that is all that it does, with the values for it in the list.
+#[inline(always)]
 fn gone(
     code: &Checked,
     types: &[u32],
@@ -74,6 +77,7 @@ fn gone(
 }
 
 /// What an instruction does, as `decide` tells it, where that is decided at once. The list is changed even where nothing is decided.
+#[inline(always)]
 pub fn decide_at_once(
     code: &Checked,
     types: &[u32],

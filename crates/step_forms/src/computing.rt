@@ -33,6 +33,7 @@ fn integer(width: u32, computed: Option<u128>) -> Option<Scalar>
 
 /// What ADD and its like give. None comes exactly where a divisor is 0. The width is that of the operands.
 #[tactic(auto, using(crate::specs::OperandLaws::operands))]
+#[inline(always)]
 pub(crate) fn binary_scalar(
     code: &Checked,
     vars: &Variables,
@@ -87,6 +88,7 @@ fn bit(holds: bool) -> u128
 
 /// What EQ and its like give.
 #[tactic(auto, using(crate::specs::OperandLaws::comparisons))]
+#[inline(always)]
 pub(crate) fn compare_scalar(
     code: &Checked,
     vars: &Variables,

@@ -1,5 +1,5 @@
 // Instructions that say where the function goes on, or that enter or leave one.
-ghost use Rattle.std.specs.Prelude.{◌≡◌, map, Some, IsSome, IfSome, IfOk};
+ghost use Rattle.std.specs.Prelude.{◌≡◌, bit_and, map, Some, IsSome, IfSome, IfOk};
 ghost use Rattle.mu_values.specs.SameScalar.{same_scalar};
 ghost use Rattle.bundle_check.specs.Checking.{bundle_tables};
 ghost use Rattle.typed_heap.specs.Places.{with_some};
@@ -10,7 +10,7 @@ ghost use Rattle.model_numbers.specs.Forms.{arm_at};
 ghost use Rattle.step_forms.specs.Asked.{asked, lists_of, Lists};
 
 use crate::act::Act;
-use crate::operands::{constant, is_one, only, read_classes, read_goal, read_values, scalar};
+use crate::operands::{constant, is_one, lent, read_classes, read_goal, read_values, scalar};
 use crate::room::Room;
 use crate::variables::Variables;
 use bundle_check::Checked;
@@ -93,11 +93,35 @@ pub fn branch2(
     }
 }
 
+/// The whole comparison stays out of the way of a loop that seldom comes to it.
 #[tactic(auto, using(crate::specs::OperandLaws::same_told))]
-fn is_same(a: Scalar, b: Scalar) -> bool
-    ensures { result ≡ same_scalar a b }
+#[cold]
+#[inline(never)]
+fn is_equal(a: &Scalar, b: &Scalar) -> bool
+    ensures { result ≡ same_scalar a.now b.now }
 {
-    a == b
+    *a == *b
+}
+
+/// The lower half of the bits of an integer.
+#[inline]
+fn lower_half(bits: u128) -> u128
+    ensures { result ≡ bit_and bits 18446744073709551615 }
+{
+    bits & 0xFFFF_FFFF_FFFF_FFFF
+}
+
+/// Whether two scalars are one. Of integers the lower halves come first: most that differ do so there.
+#[inline]
+fn is_same(a: &Scalar, b: &Scalar) -> bool
+    ensures { result ≡ same_scalar a.now b.now }
+{
+    match (a, b) {
+        (Scalar::Int { bits, .. }, Scalar::Int { bits: other, .. }) => {
+            lower_half(*bits) == lower_half(*other) && is_equal(a, b)
+        }
+        _ => is_equal(a, b),
+    }
 }
 
 /// SWITCH. It looks at the cases in order, up to the first that is equal.
@@ -116,7 +140,7 @@ pub fn switch(
     let wanted = scalar(code, vars, operand);
     let mut left = cases;
     'cases: while let [case, more @ ..] = left {
-        if is_same(wanted, only(constant(code, case.constant))) {
+        if is_same(&wanted, lent(constant(code, case.constant))) {
             return branch(code, vars, &case.target, room);
         }
         left = more;

@@ -29,19 +29,28 @@ pub(crate) fn constant(code: &Checked, n: u32) -> &[Scalar]
 /// The one scalar of a value that has one.
 #[tactic(auto, using(crate::specs::OperandLaws::operands))]
 #[inline]
-pub(crate) fn only(value: &[Scalar]) -> Scalar
+pub(crate) fn lent(value: &[Scalar]) -> &Scalar
     requires { IsSome (scalar_in (Some value.now)) }
-    ensures { scalar_in (Some value.now) ≡ Some result }
+    ensures { scalar_in (Some value.now) ≡ Some result.now }
 {
     match value {
-        [scalar] => *scalar,
+        [scalar] => scalar,
         _ => unreachable!(),
     }
 }
 
+/// A copy of it.
+#[inline(always)]
+fn only(value: &[Scalar]) -> Scalar
+    requires { IsSome (scalar_in (Some value.now)) }
+    ensures { scalar_in (Some value.now) ≡ Some result }
+{
+    *lent(value)
+}
+
 /// The value of an operand that has one scalar. It takes constant time and no memory.
 #[tactic(auto, using(crate::specs::OperandLaws::operands))]
-#[inline]
+#[inline(always)]
 pub fn scalar(code: &Checked, vars: &Variables, source: Source) -> Scalar
     requires { IsSome (scalar_in (value_at code.now vars.now source)) }
     ensures { scalar_in (value_at code.now vars.now source) ≡ Some result }
@@ -99,7 +108,7 @@ pub(crate) fn scalars<'a>(read: &'a Reading<'a>) -> &'a [Scalar]
 
 /// Adds the value of an operand to a list. Where no memory is found the list is as it was.
 #[tactic(auto, using(crate::specs::OperandLaws::operands))]
-#[inline]
+#[inline(always)]
 pub fn push_value(
     code: &Checked,
     vars: &Variables,

@@ -42,7 +42,7 @@ impl<'a> Variables<'a> {
 
     /// The value of a variable that is there. It is looked up in constant time.
     #[tactic(auto, using(crate::specs::OperandLaws::variables))]
-    #[inline]
+    #[inline(always)]
     pub fn at(&self, n: u32) -> &'a [Scalar]
         requires { IsSome (slice_get self.now n) }
         ensures { slice_get self.now n ≡ Some result.now }
