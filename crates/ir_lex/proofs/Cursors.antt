@@ -1,13 +1,14 @@
 -- What a cursor holds is the tokens of its text from its place on.
-use Rattle.std.proofs.Common.{◌≡◌, ℕ, zero, suc, ◌+◌, ◌≤◌, Bool, true, false, List, [], ◌∷◌, length, take, drop, Option, Some, None, Result, Ok, Err, refl, sym, ap, ◌∙◌, arith, inl, inr}
+use Rattle.std.proofs.Common.{◌≡◌, ℕ, zero, suc, ◌+◌, ◌≤◌, Bool, true, false, List, [], ◌∷◌, length, take, drop, Option, Some, None, Result, Ok, Err, refl, sym, ap, subst, ◌∙◌, arith, inl, inr}
 use Rattle.std.specs.Prelude.{◌||◌, ◌==◌, ◌-◌, not}
 use Rattle.std.specs.List.{list_all, list_any}
 use Rattle.std.specs.Str.{bytes_eq}
-use Rattle.std.proofs.lemmas.Bool.{and_parts, not-true, cases_Bool, or_cases, eqb-true}
+use Rattle.std.proofs.lemmas.Bool.{and_parts, not-true, cases_Bool, or_cases}
 use Rattle.text_forms.specs.declared.symbol.Symbol.{Symbol}
 use Rattle.text_forms.specs.declared.symbol.Symbol.TheVariants as symbols
-use Rattle.text_forms.specs.Numbers.{number_of, same}
-use Rattle.text_forms.specs.Tokens.{Tok, has, is_last, goes_on_behind, rest_of, first, IsText, at}
+use denote.Enum.Bare.{same_true}
+use Rattle.text_forms.specs.contracts.symbol.Symbol.{the_type}
+use Rattle.text_forms.specs.Tokens.{Tok, same, has, is_last, goes_on_behind, rest_of, first, IsText, at}
 use Rattle.text_forms.specs.Texts.{none_last}
 use Rattle.ir_lex.specs.declared.token.TokenKind.{TokenKind}
 use Rattle.ir_lex.specs.declared.token.TokenKind.TheVariants as kinds
@@ -106,7 +107,7 @@ from_token text at t e =
 
 -- ---- what is held
 
-abbrev holds : List ℕ → Held → List Tok
+abbrev pub holds : List ℕ → Held → List Tok
 holds text h = held_tokens text h.symbol h.from h.to
 
 nothing_taken : (p : ℕ) (l : List ℕ) → take (p - p) l ≡ []
@@ -130,9 +131,6 @@ pub any_has : (xs : List Symbol) (s : Symbol) → list_any (λ (x : Symbol). sam
 any_has [] s = refl
 any_has (x ∷ xs) s = ap (λ (b : Bool). same x s || b) (any_has xs s)
 
-last_same : (a b : Symbol) → number_of a ≡ number_of b → is_last a ≡ is_last b
-last_same a b e = ap (λ (n : ℕ). 0 == n || (1 == n || (2 == n || (3 == n || (4 == n || false))))) e
-
 -- what is among symbols of which none is a last one is none
 pub among_goes_on : (xs : List Symbol) (ts : List Tok) → none_last xs ≡ true → at xs ts ≡ true → goes_on_behind ts ≡ true
 among_goes_on xs [] none e = absurd (cc)
@@ -143,7 +141,7 @@ among_goes_on xs (t ∷ ts) none e = go xs none e
     go (x ∷ xs) none e =
         let parts = and_parts (not (is_last x)) (none_last xs) none in
         elim (or_cases (same x t.symbol) (has xs t.symbol) e) [
-          | inl h ↦ rw (← last_same x t.symbol (eqb-true (number_of x) (number_of t.symbol) h)) parts.0
+          | inl h ↦ subst (λ (z : Symbol). not (is_last z) ≡ true) (same_true the_type tt x t.symbol h) parts.0
           | inr h ↦ go xs parts.1 h
         ]
 

@@ -3,8 +3,7 @@ use Rattle.std.specs.Prelude.{◌≡◌, ◌<◌, ◌^◌, ℕ, Bool, true, List
 use Rattle.std.specs.List.{list_all}
 use Rattle.text_forms.specs.declared.symbol.Symbol.{Symbol}
 use Rattle.text_forms.specs.declared.symbol.Symbol.TheVariants as symbols
-use Rattle.text_forms.specs.Numbers.{same}
-use Rattle.text_forms.specs.Tokens.{IsText}
+use Rattle.text_forms.specs.Tokens.{IsText, same}
 use Rattle.ir_lex.specs.declared.token.Token.{Token}
 use Rattle.ir_lex.specs.declared.token.LexFault.{LexFault}
 use Rattle.ir_lex.specs.declared.token.Number.{Number}

@@ -1,8 +1,7 @@
 // A place in a text, with the token there.
 ghost use Rattle.std.specs.Prelude.{◌≡◌, ◌≤◌, ◌<◌, ℕ, List, [], ◌∷◌, length, true, false, Some, OnErr};
 ghost use Rattle.std.specs.List.{list_any};
-ghost use Rattle.text_forms.specs.Numbers.{same};
-ghost use Rattle.text_forms.specs.Tokens.{Tok, at, symbol_ahead, first, rest_of, fault_at, refusal, is_last, goes_on_behind};
+ghost use Rattle.text_forms.specs.Tokens.{Tok, same, at, symbol_ahead, first, rest_of, fault_at, refusal, is_last, goes_on_behind};
 ghost use Rattle.ir_lex.specs.Seen.{symbol_of, fault_symbol, mark_symbol};
 ghost use Rattle.ir_lex.specs.Texts.{spelling_of};
 ghost use Rattle.text_forms.specs.Texts.{none_last};

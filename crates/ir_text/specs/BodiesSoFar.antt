@@ -1,5 +1,5 @@
 -- A body as far as it is read.
-use Rattle.std.specs.Prelude.{ℕ, suc, false, List, [], ◌∷◌, ◌++◌, length}
+use Rattle.std.specs.Prelude.{suc, false, List, [], ◌∷◌, ◌++◌, length}
 use Rattle.ir_tree.specs.declared.code.Block.{Block}
 use Rattle.ir_tree.specs.declared.code.BlockHead.{BlockHead}
 use Rattle.ir_tree.specs.declared.code.Line.{Line}

@@ -1,15 +1,14 @@
 -- A whole text ends with its one last token, and its places rise.
 use Rattle.std.proofs.Common.{◌≡◌, ◌<◌, true, false, List, [], ◌∷◌, ◌++◌, length, sym, ap, subst, ◌∙◌, arith, inl, inr, append_assoc}
 use Rattle.text_forms.specs.declared.symbol.Symbol.{Symbol}
-use Rattle.text_forms.specs.Numbers.{same}
-use Rattle.text_forms.specs.Tokens.{Tok, has, last_symbols, is_last, IsText}
+use Rattle.text_forms.specs.Tokens.{Tok, same, has, last_symbols, is_last, IsText}
 use Rattle.text_forms.specs.Forms.{Form, token, nothing, never, both, on, made, left_out, past, many, lines}
 use Rattle.text_forms.specs.Derives.{Each, Elements, Derives}
 use Rattle.text_forms.specs.Begins.{steady}
 use Rattle.text_forms.specs.Limits.{unlimited}
 use Rattle.text_forms.specs.Passing.{Leads}
 use Rattle.text_forms.specs.Texts.{none_last, all_last, ordinary, ends}
-use Rattle.text_forms.proofs.Tests.{and_true, both_true, not_true, or_true, has_same, same_number, every_at, all_hold}
+use Rattle.text_forms.proofs.Tests.{and_true, both_true, not_true, or_true, is_same, every_at, all_hold}
 
 -- ---- texts
 
@@ -69,7 +68,7 @@ none_last_has [] s n h = absurd cc
 none_last_has (x ∷ xs) s n h =
     let k = and_true _ _ n in
     elim (or_true (same x s) (has xs s) h) [
-      | inl e ↦ sym (has_same last_symbols x s (same_number x s e)) ∙ not_true _ k.0
+      | inl e ↦ ap (has last_symbols) (sym (is_same x s e)) ∙ not_true _ k.0
       | inr e ↦ none_last_has xs s k.1 e
     ]
 
@@ -78,7 +77,7 @@ all_last_has [] s n h = absurd cc
 all_last_has (x ∷ xs) s n h =
     let k = and_true _ _ n in
     elim (or_true (same x s) (has xs s) h) [
-      | inl e ↦ sym (has_same last_symbols x s (same_number x s e)) ∙ k.0
+      | inl e ↦ ap (has last_symbols) (sym (is_same x s e)) ∙ k.0
       | inr e ↦ all_last_has xs s k.1 e
     ]
 

@@ -1,8 +1,8 @@
 -- What tokens can still become.
 use Rattle.std.proofs.Common.{◌≡◌, Bool, true, false, cond, List, [], ◌∷◌, ◌++◌, refl, sym, ◌∙◌, inl, inr, append_assoc}
-use Rattle.std.proofs.Common.{eq-eqb}
 use Rattle.text_forms.specs.declared.symbol.Symbol.{Symbol}
-use Rattle.text_forms.specs.Numbers.{number_of}
+use denote.Enum.Bare.{true_same}
+use Rattle.text_forms.specs.contracts.symbol.Symbol.{the_type}
 use Rattle.text_forms.specs.Tokens.{Tok, has}
 use Rattle.text_forms.specs.Forms.{Flags, Form, token, nothing, never, both, on, made, left_out, past, many, lines}
 use Rattle.text_forms.specs.Derives.{Derives}
@@ -20,7 +20,7 @@ Derived {A} f = (ts : List Tok) × (a : A) × Derives f ts a
 pub some_derived : {A : Type 0} (f : Form A) → derives_some f ≡ true → Derived (unlimited f)
 unfolding Derived
 some_derived (token []) e = absurd cc
-some_derived (token (x ∷ xs)) e = let t : Tok = record { symbol = x; place = 0; spelling = [] } in (t ∷ [], t, (refl, or_left _ _ (eq-eqb (number_of x) (number_of x) refl)))
+some_derived (token (x ∷ xs)) e = let t : Tok = record { symbol = x; place = 0; spelling = [] } in (t ∷ [], t, (refl, or_left _ _ (true_same the_type x x refl)))
 some_derived (nothing a) e = ([], a, (refl, refl))
 some_derived never e = absurd cc
 some_derived (both f g) e =

@@ -1,11 +1,11 @@
 -- Small facts on tests, symbols and what comes next.
 use Rattle.std.proofs.Common.{◌≡◌, ℕ, Bool, true, false, cond, List, [], ◌∷◌, ◌++◌, Option, Some, None, Result, Ok, Err, refl, sym, ap, ◌∙◌, inl, inr}
 use Rattle.std.specs.Prelude.{◌&&◌, ◌||◌, not, ◌⊎◌, ◌==◌}
-use Rattle.std.proofs.lemmas.Bool.{eqb-true}
 use Rattle.text_forms.specs.declared.symbol.Symbol.{Symbol}
 use Rattle.text_forms.specs.declared.fault.Fault.{Fault}
-use Rattle.text_forms.specs.Numbers.{number_of, same}
-use Rattle.text_forms.specs.Tokens.{Tok, has, at, first, fault_at}
+use denote.Enum.Bare.{same_true}
+use Rattle.text_forms.specs.contracts.symbol.Symbol.{the_type}
+use Rattle.text_forms.specs.Tokens.{Tok, same, has, at, first, fault_at}
 use Rattle.text_forms.specs.Forms.{Flags, no_flag, one_flag, two_flags, three_flags, every}
 use Rattle.text_forms.specs.Begins.{apart, only, union, gather}
 use Rattle.text_forms.specs.Reading.{◌>>=◌}
@@ -52,15 +52,8 @@ is_false false h = refl
 
 -- ---- symbols among others
 
-pub has_same : (xs : List Symbol) (a b : Symbol) → number_of a ≡ number_of b → has xs a ≡ has xs b
-has_same [] a b e = refl
-has_same (x ∷ xs) a b e =
-    let h = has_same xs a b e in
-    let k : same x a ≡ same x b = ap (λ (n : ℕ). number_of x == n) e in
-    rw (k, h) refl
-
-pub same_number : (a b : Symbol) → same a b ≡ true → number_of a ≡ number_of b
-same_number a b e = eqb-true _ _ e
+pub is_same : (a b : Symbol) → same a b ≡ true → a ≡ b
+is_same a b e = same_true the_type tt a b e
 
 pub has_append : (xs ys : List Symbol) (s : Symbol) → has (xs ++ ys) s ≡ (has xs s || has ys s)
 has_append [] ys s = refl
@@ -80,7 +73,7 @@ apart_has [] ys s a h = absurd cc
 apart_has (x ∷ xs) ys s a h =
     let p = and_true (not (has ys x)) (apart xs ys) a in
     elim (or_true (same x s) (has xs s) h) [
-      | inl e ↦ sym (has_same ys x s (same_number x s e)) ∙ not_true _ p.0
+      | inl e ↦ ap (has ys) (sym (is_same x s e)) ∙ not_true _ p.0
       | inr e ↦ apart_has xs ys s p.1 e
     ]
 
@@ -92,7 +85,7 @@ only_has xs [] s a h = absurd cc
 only_has xs (y ∷ ys) s a h =
     let p = and_true (has xs y) (only xs ys) a in
     elim (or_true (same y s) (has ys s) h) [
-      | inl e ↦ sym (has_same xs y s (same_number y s e)) ∙ p.0
+      | inl e ↦ ap (has xs) (sym (is_same y s e)) ∙ p.0
       | inr e ↦ only_has xs ys s p.1 e
     ]
 
@@ -102,7 +95,7 @@ union_right (x ∷ xs) ys s h =
     elim (has ys x) as (λ b. has (cond b (union xs ys) (x ∷ union xs ys)) s ≡ true) [ true ↦ union_right xs ys s h | false ↦ or_right _ _ (union_right xs ys s h) ]
 
 union_step : (x : Symbol) (xs ys : List Symbol) (s : Symbol) (b : Bool) → has ys x ≡ b → (has xs s ≡ true → has (union xs ys) s ≡ true) → has (x ∷ xs) s ≡ true → has (cond b (union xs ys) (x ∷ union xs ys)) s ≡ true
-union_step x xs ys s true e ih h = elim (or_true (same x s) (has xs s) h) [ inl k ↦ union_right xs ys s (sym (has_same ys x s (same_number x s k)) ∙ e) | inr k ↦ ih k ]
+union_step x xs ys s true e ih h = elim (or_true (same x s) (has xs s) h) [ inl k ↦ union_right xs ys s (ap (has ys) (sym (is_same x s k)) ∙ e) | inr k ↦ ih k ]
 union_step x xs ys s false e ih h = elim (or_true (same x s) (has xs s) h) [ inl k ↦ or_left _ _ k | inr k ↦ or_right _ _ (ih k) ]
 
 pub union_left : (xs ys : List Symbol) (s : Symbol) → has xs s ≡ true → has (union xs ys) s ≡ true

@@ -1,4 +1,3 @@
-pub mod Numbers
 pub mod Tokens
 pub mod Forms
 pub mod Derives

@@ -1,18 +1,23 @@
 -- Tokens as the grammars see them. The tokens of a text end with its one last token: the end, or a lexical fault, which no
 -- token is seen behind. So "at the end", "at a lexical fault" and "at a token" are one case.
 use Rattle.std.specs.Prelude.{◌≡◌, ℕ, Bool, true, false, List, [], ◌∷◌, Option, Some, None, ◌||◌, ◌<◌, not, if◌then◌else◌, ◌⊎◌}
+use denote.Enum.Bare.{sameb}
 use Rattle.text_forms.specs.declared.symbol.Symbol.{Symbol}
+use Rattle.text_forms.specs.contracts.symbol.Symbol.{the_type}
 use Rattle.text_forms.specs.declared.symbol.Symbol.TheVariants as symbols
 use Rattle.text_forms.specs.declared.fault.FaultKind.{FaultKind}
 use Rattle.text_forms.specs.declared.fault.FaultKind.TheVariants as kinds
 use Rattle.text_forms.specs.declared.fault.Fault.{Fault}
-use Rattle.text_forms.specs.Numbers.{same}
 
 -- a token: what it is to the grammar, the offset of its first byte, and its bytes
 pub record Tok : Type 0 where
   pub symbol : Symbol
   pub place : ℕ
   pub spelling : List ℕ
+
+-- the two are one symbol
+abbrev pub same : Symbol → Symbol → Bool
+same = sameb the_type
 
 -- the symbol is one of these
 abbrev pub has : List Symbol → Symbol → Bool

@@ -1,8 +1,7 @@
 //! What a token is to the grammars.
 
 ghost use Rattle.std.specs.Prelude.{◌≡◌};
-ghost use Rattle.text_forms.specs.Numbers.{number_of, same};
-ghost use Rattle.text_forms.specs.Tokens.{is_last, kind_of};
+ghost use Rattle.text_forms.specs.Tokens.{is_last, kind_of, same};
 
 use crate::fault::FaultKind;
 
@@ -410,18 +409,11 @@ pub enum Symbol {
 }
 
 impl Symbol {
-    /// Its number, in the order of the enum.
-    pub fn number(self) -> u8
-        ensures { result ≡ number_of self }
-    {
-        self as u8
-    }
-
     /// Whether the two are one symbol.
     pub fn is(self, other: Symbol) -> bool
         ensures { result ≡ same self other }
     {
-        self.number() == other.number()
+        self == other
     }
 
     /// Whether nothing stands behind this one: it is the end, or a lexical fault.
