@@ -82,7 +82,7 @@ order_unplaced place None = refl
 order_unplaced place (Some o) = refl
 
 order_worded : (space : List ℕ) (place : ℕ) (o : Option Order) → order_words space (order_at place o) ≡ order_or_not_atomic space o
-unfolding order_words
+unfolding order_words words spelling
 order_worded space place None = refl
 order_worded space place (Some o) = refl
 

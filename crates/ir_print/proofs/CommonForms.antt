@@ -7,7 +7,7 @@ use Rattle.text_forms.specs.declared.symbol.Symbol.TheVariants as symbols
 use Rattle.ir_lex.specs.declared.token.Mark.TheVariants as marks
 use Rattle.ir_lex.specs.declared.token.TokenKind.TheVariants as kinds
 use Rattle.ir_lex.specs.Printed.{Piece}
-use Rattle.ir_lex.specs.WordTable.{common_names}
+use Rattle.ir_lex.specs.WordTable.{words, directives, common_names}
 use Rattle.ir_lex.specs.TokenForms.{mark}
 use Rattle.ir_tree.specs.declared.common.CommonInst.{CommonInst}
 use Rattle.ir_tree.specs.declared.common.CommonInst.TheVariants as commons
@@ -45,7 +45,7 @@ tail_of true = no_values
 tail_of false = []
 
 pub common_parts : (x : CommonInst) → common_inst_words x ≡ core_words spaced x ++ tail_of (common_leaves_out x)
-unfolding common_inst_words core_words spelling
+unfolding common_inst_words core_words words directives common_names spelling
 common_parts (commons.NewStack signature function) = sym (append-nil (common_inst_words (commons.NewStack signature function)))
 common_parts (commons.KillStack stack) = sym (append-nil (common_inst_words (commons.KillStack stack)))
 common_parts commons.ThreadExit = refl
@@ -84,7 +84,7 @@ three_values_prints = made_prints
     (λ s x. ap (λ (l : List Piece). mark_piece s marks.Open ∷ l) (three_in_brackets (value_words tight x.0) (value_words spaced x.1.0) (value_words spaced x.1.1)))
 
 new_stack_prints : Prints false true new_stack bare_common_inst bare_common_inst core_words
-unfolding new_stack core_words common_names spelling
+unfolding new_stack core_words words directives common_names spelling
 new_stack_prints = made_prints
     (after_prints spaced refl refl (common_at symbols.UvmNewStack (codes "uvm.new_stack") refl)
     (both_prints spaced refl refl
@@ -93,35 +93,35 @@ new_stack_prints = made_prints
     (λ _. refl) (λ _ _. refl)
 
 kill_stack_prints : Prints false true kill_stack bare_common_inst bare_common_inst core_words
-unfolding kill_stack core_words common_names spelling
+unfolding kill_stack core_words words directives common_names spelling
 kill_stack_prints = made_prints (after_prints spaced refl refl (common_at symbols.UvmKillStack (codes "uvm.kill_stack") refl) one_value_prints) (λ _. refl) (λ _ _. refl)
 
 thread_exit_prints : Prints false false thread_exit bare_common_inst bare_common_inst core_words
-unfolding thread_exit core_words common_names spelling
+unfolding thread_exit core_words words directives common_names spelling
 thread_exit_prints = made_prints (common_at symbols.UvmThreadExit (codes "uvm.thread_exit") refl) (λ _. refl) (λ _ _. refl)
 
 current_stack_prints : Prints false false current_stack bare_common_inst bare_common_inst core_words
-unfolding current_stack core_words common_names spelling
+unfolding current_stack core_words words directives common_names spelling
 current_stack_prints = made_prints (common_at symbols.UvmCurrentStack (codes "uvm.current_stack") refl) (λ _. refl) (λ _ _. refl)
 
 set_threadlocal_prints : Prints false true set_threadlocal bare_common_inst bare_common_inst core_words
-unfolding set_threadlocal core_words common_names spelling
+unfolding set_threadlocal core_words words directives common_names spelling
 set_threadlocal_prints = made_prints (after_prints spaced refl refl (common_at symbols.UvmSetThreadlocal (codes "uvm.set_threadlocal") refl) one_value_prints) (λ _. refl) (λ _ _. refl)
 
 get_threadlocal_prints : Prints false false get_threadlocal bare_common_inst bare_common_inst core_words
-unfolding get_threadlocal core_words common_names spelling
+unfolding get_threadlocal core_words words directives common_names spelling
 get_threadlocal_prints = made_prints (common_at symbols.UvmGetThreadlocal (codes "uvm.get_threadlocal") refl) (λ _. refl) (λ _ _. refl)
 
 futex_wait_prints : Prints false true futex_wait bare_common_inst bare_common_inst core_words
-unfolding futex_wait core_words common_names spelling
+unfolding futex_wait core_words words directives common_names spelling
 futex_wait_prints = made_prints (after_prints spaced refl refl (common_at symbols.UvmFutexWait (codes "uvm.futex.wait") refl) (both_prints spaced refl refl bracketed_prints two_values_prints)) (λ _. refl) (λ _ _. refl)
 
 futex_wake_prints : Prints false true futex_wake bare_common_inst bare_common_inst core_words
-unfolding futex_wake core_words common_names spelling
+unfolding futex_wake core_words words directives common_names spelling
 futex_wake_prints = made_prints (after_prints spaced refl refl (common_at symbols.UvmFutexWake (codes "uvm.futex.wake") refl) (both_prints spaced refl refl bracketed_prints two_values_prints)) (λ _. refl) (λ _ _. refl)
 
 futex_wait_timeout_prints : Prints false true futex_wait_timeout bare_common_inst bare_common_inst core_words
-unfolding futex_wait_timeout core_words common_names spelling
+unfolding futex_wait_timeout core_words words directives common_names spelling
 futex_wait_timeout_prints = made_prints (after_prints spaced refl refl (common_at symbols.UvmFutexWaitTimeout (codes "uvm.futex.wait_timeout") refl) (both_prints spaced refl refl bracketed_prints three_values_prints)) (λ _. refl) (λ _ _. refl)
 
 pub common_inst_prints : Prints false false common_inst bare_common_inst bare_common_inst core_words

@@ -58,7 +58,7 @@ results_core space (n ∷ []) l o = local_piece space n ∷ mark_piece spaced ma
 results_core space (m ∷ n ∷ ns) l o = local_list_words space (m ∷ n ∷ ns) ++ mark_piece spaced marks.Equals ∷ labelled_core spaced l o
 
 op_parts : (space : List ℕ) (o : Op) → op_words space o ≡ op_core space o ++ tail_of (leaves_out o)
-unfolding op_words spelling
+unfolding op_words words spelling
 op_parts space (ops.Computation x) = sym (append-nil (computation_words space x))
 op_parts space (ops.ControlFlow x) = sym (append-nil (control_words space x))
 op_parts space (ops.Allocation x) = sym (append-nil (allocation_words space x))

@@ -20,13 +20,13 @@ use Rattle.ir_print.proofs.InstructionForms.{equals_prints}
 use Rattle.ir_print.proofs.LineForms.{body_prints}
 
 typedef_prints : Prints false false typedef bare_typedef bare_typedef typedef_words
-unfolding typedef typedef_words directives spelling
+unfolding typedef typedef_words words directives spelling
 typedef_prints = made_prints
     (both_prints spaced refl refl (directive_at symbols.DotTypedef (codes "typedef") refl) (both_prints spaced refl refl (before_prints spaced refl refl global_prints equals_prints) type_form_prints))
     (λ _. refl) (λ _ _. refl)
 
 funcsig_prints : Prints false true funcsig bare_funcsig bare_funcsig funcsig_words
-unfolding funcsig funcsig_words directives spelling
+unfolding funcsig funcsig_words words directives spelling
 funcsig_prints = made_prints
     (both_prints spaced refl refl (directive_at symbols.DotFuncsig (codes "funcsig") refl)
     (both_prints spaced refl refl (before_prints spaced refl refl global_prints equals_prints)
@@ -36,7 +36,7 @@ funcsig_prints = made_prints
     (sym (append_assoc (global_list_words spaced x.1.1.0) (mark_piece spaced marks.Arrow ∷ []) (global_list_words spaced x.1.1.1))))
 
 constant_prints : Prints false false constant bare_constant bare_constant constant_words
-unfolding constant constant_words directives spelling
+unfolding constant constant_words words directives spelling
 constant_prints = made_prints
     (both_prints spaced refl refl (directive_at symbols.DotConst (codes "const") refl)
     (both_prints spaced refl refl global_prints (both_prints spaced refl refl (before_prints spaced refl refl bracketed_prints equals_prints) literal_prints)))
@@ -45,13 +45,13 @@ constant_prints = made_prints
     (sym (append_assoc (bracketed_words spaced x.1.1.0) (mark_piece spaced marks.Equals ∷ []) (literal_words spaced x.1.1.1))))
 
 global_cell_prints : Prints false true global_cell bare_global_cell bare_global_cell global_cell_words
-unfolding global_cell global_cell_words directives spelling
+unfolding global_cell global_cell_words words directives spelling
 global_cell_prints = made_prints
     (both_prints spaced refl refl (directive_at symbols.DotGlobal (codes "global") refl) (both_prints spaced refl refl global_prints bracketed_prints))
     (λ _. refl) (λ _ _. refl)
 
 funcdecl_prints : Prints false true funcdecl bare_funcdecl bare_funcdecl funcdecl_words
-unfolding funcdecl funcdecl_words directives spelling
+unfolding funcdecl funcdecl_words words directives spelling
 funcdecl_prints = made_prints
     (both_prints spaced refl refl (directive_at symbols.DotFuncdecl (codes "funcdecl") refl) (both_prints spaced refl refl global_prints bracketed_prints))
     (λ _. refl) (λ _ _. refl)

@@ -93,7 +93,7 @@ swap_meant s (inl r) = refl
 swap_meant s (inr n) = refl
 
 swap_worded : (space : List ℕ) (s : Operand) (r : Returning ⊎ NewStackClause) → stack_switch_words space (swap_of s r) ≡ word_piece space (codes "SWAPSTACK") ∷ (value_words spaced s ++ swap_words spaced r)
-unfolding stack_switch_words ret_with_words exc_keep_words spelling
+unfolding stack_switch_words ret_with_words exc_keep_words words spelling
 swap_worded space s (inl r) = refl
 swap_worded space s (inr n) = refl
 

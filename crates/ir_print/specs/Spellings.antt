@@ -1,74 +1,13 @@
--- How the words of the grammar are spelled that stand for themselves.
-use Rattle.std.specs.Prelude.{ℕ, List, [], codes}
+-- How the grammar's words, directives and names are spelled: its table, read from the symbol to the spelling.
+use Rattle.std.specs.Prelude.{ℕ, List, [], ◌∷◌, ◌++◌, if◌then◌else◌}
 use Rattle.text_forms.specs.declared.symbol.Symbol.{Symbol}
-use Rattle.text_forms.specs.declared.symbol.Symbol.TheVariants as symbols
+use Rattle.text_forms.specs.Tokens.{same}
+use Rattle.ir_lex.specs.WordTable.{Row, words, directives, common_names}
 
--- no other symbol is printed by its spelling
+-- the spelling of the first row with that symbol, and none where there is no such row
+abbrev pub spelling_in : List Row → Symbol → List ℕ
+spelling_in [] s = []
+spelling_in (r ∷ rs) s = if same r.1 s then r.0 else spelling_in rs s
+
 unfoldable pub spelling : Symbol → List ℕ
-spelling symbols.DotTypedef = codes ".typedef"
-spelling symbols.DotFuncsig = codes ".funcsig"
-spelling symbols.DotConst = codes ".const"
-spelling symbols.DotGlobal = codes ".global"
-spelling symbols.DotFuncdecl = codes ".funcdecl"
-spelling symbols.DotFuncdef = codes ".funcdef"
-spelling symbols.UvmNewStack = codes "@uvm.new_stack"
-spelling symbols.UvmKillStack = codes "@uvm.kill_stack"
-spelling symbols.UvmThreadExit = codes "@uvm.thread_exit"
-spelling symbols.UvmCurrentStack = codes "@uvm.current_stack"
-spelling symbols.UvmSetThreadlocal = codes "@uvm.set_threadlocal"
-spelling symbols.UvmGetThreadlocal = codes "@uvm.get_threadlocal"
-spelling symbols.UvmFutexWait = codes "@uvm.futex.wait"
-spelling symbols.UvmFutexWake = codes "@uvm.futex.wake"
-spelling symbols.UvmFutexWaitTimeout = codes "@uvm.futex.wait_timeout"
-spelling symbols.Int = codes "int"
-spelling symbols.Struct = codes "struct"
-spelling symbols.Array = codes "array"
-spelling symbols.Hybrid = codes "hybrid"
-spelling symbols.Void = codes "void"
-spelling symbols.Ref = codes "ref"
-spelling symbols.Iref = codes "iref"
-spelling symbols.Funcref = codes "funcref"
-spelling symbols.Stackref = codes "stackref"
-spelling symbols.Threadref = codes "threadref"
-spelling symbols.Version = codes "VERSION"
-spelling symbols.Null = codes "NULL"
-spelling symbols.Exc = codes "EXC"
-spelling symbols.Keepalive = codes "KEEPALIVE"
-spelling symbols.PassValues = codes "PASS_VALUES"
-spelling symbols.ThrowExc = codes "THROW_EXC"
-spelling symbols.RetWith = codes "RET_WITH"
-spelling symbols.KillOld = codes "KILL_OLD"
-spelling symbols.Threadlocal = codes "THREADLOCAL"
-spelling symbols.Wpexc = codes "WPEXC"
-spelling symbols.Weak = codes "WEAK"
-spelling symbols.Refcast = codes "REFCAST"
-spelling symbols.Select = codes "SELECT"
-spelling symbols.Extractvalue = codes "EXTRACTVALUE"
-spelling symbols.Insertvalue = codes "INSERTVALUE"
-spelling symbols.Branch = codes "BRANCH"
-spelling symbols.Branch2 = codes "BRANCH2"
-spelling symbols.Switch = codes "SWITCH"
-spelling symbols.Call = codes "CALL"
-spelling symbols.Tailcall = codes "TAILCALL"
-spelling symbols.Ret = codes "RET"
-spelling symbols.Throw = codes "THROW"
-spelling symbols.New = codes "NEW"
-spelling symbols.Newhybrid = codes "NEWHYBRID"
-spelling symbols.Alloca = codes "ALLOCA"
-spelling symbols.Getiref = codes "GETIREF"
-spelling symbols.Getfieldiref = codes "GETFIELDIREF"
-spelling symbols.Getelemiref = codes "GETELEMIREF"
-spelling symbols.Shiftiref = codes "SHIFTIREF"
-spelling symbols.Getvarpartiref = codes "GETVARPARTIREF"
-spelling symbols.Load = codes "LOAD"
-spelling symbols.Store = codes "STORE"
-spelling symbols.Cmpxchg = codes "CMPXCHG"
-spelling symbols.Atomicrmw = codes "ATOMICRMW"
-spelling symbols.Fence = codes "FENCE"
-spelling symbols.Trap = codes "TRAP"
-spelling symbols.Watchpoint = codes "WATCHPOINT"
-spelling symbols.Wpbranch = codes "WPBRANCH"
-spelling symbols.Swapstack = codes "SWAPSTACK"
-spelling symbols.Newthread = codes "NEWTHREAD"
-spelling symbols.Comminst = codes "COMMINST"
-spelling _ = []
+spelling s = spelling_in (words ++ directives ++ common_names) s

@@ -2,25 +2,27 @@
 ghost use Rattle.std.specs.Prelude.{◌≡◌};
 ghost use Rattle.ir_print.specs.Operators.{binary_text, compare_text, convert_text, update_text, order_text};
 
+use crate::spellings::spelling;
 use ir_tree::{BinaryOp, CompareOp, ConvertOp, MemoryOrder, UpdateOp};
+use text_forms::Symbol;
 
 pub fn binary(op: BinaryOp) -> &'static [u8]
     ensures { result.now ≡ binary_text op }
 {
     match op {
-        BinaryOp::Add => b"ADD",
-        BinaryOp::Sub => b"SUB",
-        BinaryOp::Mul => b"MUL",
-        BinaryOp::Sdiv => b"SDIV",
-        BinaryOp::Srem => b"SREM",
-        BinaryOp::Udiv => b"UDIV",
-        BinaryOp::Urem => b"UREM",
-        BinaryOp::Shl => b"SHL",
-        BinaryOp::Lshr => b"LSHR",
-        BinaryOp::Ashr => b"ASHR",
-        BinaryOp::And => b"AND",
-        BinaryOp::Or => b"OR",
-        BinaryOp::Xor => b"XOR",
+        BinaryOp::Add => spelling(Symbol::Add),
+        BinaryOp::Sub => spelling(Symbol::Sub),
+        BinaryOp::Mul => spelling(Symbol::Mul),
+        BinaryOp::Sdiv => spelling(Symbol::Sdiv),
+        BinaryOp::Srem => spelling(Symbol::Srem),
+        BinaryOp::Udiv => spelling(Symbol::Udiv),
+        BinaryOp::Urem => spelling(Symbol::Urem),
+        BinaryOp::Shl => spelling(Symbol::Shl),
+        BinaryOp::Lshr => spelling(Symbol::Lshr),
+        BinaryOp::Ashr => spelling(Symbol::Ashr),
+        BinaryOp::And => spelling(Symbol::And),
+        BinaryOp::Or => spelling(Symbol::Or),
+        BinaryOp::Xor => spelling(Symbol::Xor),
     }
 }
 
@@ -28,16 +30,16 @@ pub fn compare(op: CompareOp) -> &'static [u8]
     ensures { result.now ≡ compare_text op }
 {
     match op {
-        CompareOp::Eq => b"EQ",
-        CompareOp::Ne => b"NE",
-        CompareOp::Slt => b"SLT",
-        CompareOp::Sle => b"SLE",
-        CompareOp::Sgt => b"SGT",
-        CompareOp::Sge => b"SGE",
-        CompareOp::Ult => b"ULT",
-        CompareOp::Ule => b"ULE",
-        CompareOp::Ugt => b"UGT",
-        CompareOp::Uge => b"UGE",
+        CompareOp::Eq => spelling(Symbol::Eq),
+        CompareOp::Ne => spelling(Symbol::Ne),
+        CompareOp::Slt => spelling(Symbol::Slt),
+        CompareOp::Sle => spelling(Symbol::Sle),
+        CompareOp::Sgt => spelling(Symbol::Sgt),
+        CompareOp::Sge => spelling(Symbol::Sge),
+        CompareOp::Ult => spelling(Symbol::Ult),
+        CompareOp::Ule => spelling(Symbol::Ule),
+        CompareOp::Ugt => spelling(Symbol::Ugt),
+        CompareOp::Uge => spelling(Symbol::Uge),
     }
 }
 
@@ -45,9 +47,9 @@ pub fn convert(op: ConvertOp) -> &'static [u8]
     ensures { result.now ≡ convert_text op }
 {
     match op {
-        ConvertOp::Trunc => b"TRUNC",
-        ConvertOp::Zext => b"ZEXT",
-        ConvertOp::Sext => b"SEXT",
+        ConvertOp::Trunc => spelling(Symbol::Trunc),
+        ConvertOp::Zext => spelling(Symbol::Zext),
+        ConvertOp::Sext => spelling(Symbol::Sext),
     }
 }
 
@@ -55,17 +57,17 @@ pub fn update(op: UpdateOp) -> &'static [u8]
     ensures { result.now ≡ update_text op }
 {
     match op {
-        UpdateOp::Xchg => b"XCHG",
-        UpdateOp::Add => b"ADD",
-        UpdateOp::Sub => b"SUB",
-        UpdateOp::And => b"AND",
-        UpdateOp::Nand => b"NAND",
-        UpdateOp::Or => b"OR",
-        UpdateOp::Xor => b"XOR",
-        UpdateOp::Max => b"MAX",
-        UpdateOp::Min => b"MIN",
-        UpdateOp::Umax => b"UMAX",
-        UpdateOp::Umin => b"UMIN",
+        UpdateOp::Xchg => spelling(Symbol::Xchg),
+        UpdateOp::Add => spelling(Symbol::Add),
+        UpdateOp::Sub => spelling(Symbol::Sub),
+        UpdateOp::And => spelling(Symbol::And),
+        UpdateOp::Nand => spelling(Symbol::Nand),
+        UpdateOp::Or => spelling(Symbol::Or),
+        UpdateOp::Xor => spelling(Symbol::Xor),
+        UpdateOp::Max => spelling(Symbol::Max),
+        UpdateOp::Min => spelling(Symbol::Min),
+        UpdateOp::Umax => spelling(Symbol::Umax),
+        UpdateOp::Umin => spelling(Symbol::Umin),
     }
 }
 
@@ -73,12 +75,12 @@ pub fn order(order: MemoryOrder) -> &'static [u8]
     ensures { result.now ≡ order_text order }
 {
     match order {
-        MemoryOrder::NotAtomic => b"NOT_ATOMIC",
-        MemoryOrder::Relaxed => b"RELAXED",
-        MemoryOrder::Consume => b"CONSUME",
-        MemoryOrder::Acquire => b"ACQUIRE",
-        MemoryOrder::Release => b"RELEASE",
-        MemoryOrder::AcqRel => b"ACQ_REL",
-        MemoryOrder::SeqCst => b"SEQ_CST",
+        MemoryOrder::NotAtomic => spelling(Symbol::NotAtomic),
+        MemoryOrder::Relaxed => spelling(Symbol::Relaxed),
+        MemoryOrder::Consume => spelling(Symbol::Consume),
+        MemoryOrder::Acquire => spelling(Symbol::Acquire),
+        MemoryOrder::Release => spelling(Symbol::Release),
+        MemoryOrder::AcqRel => spelling(Symbol::AcqRel),
+        MemoryOrder::SeqCst => spelling(Symbol::SeqCst),
     }
 }
