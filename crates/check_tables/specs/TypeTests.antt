@@ -88,24 +88,15 @@ abbrev pub repeated_of : Option TypeDef → Option ℕ
 repeated_of (Some (Hybrid fixed element)) = Some element
 repeated_of _ = None
 
--- widths of ints, as a change of width asks them: the second is not wider, or not narrower, than the first
-abbrev pub width_of : Option TypeDef → ℕ
-width_of (Some (Int width)) = width
-width_of _ = 0
-
 -- an int of 64 bits
 abbrev pub is_int64 : Option TypeDef → Bool
-is_int64 d = is_int d && nat_eq (width_of d) 64
-
-abbrev pub is_not_wider : Option TypeDef → Option TypeDef → Bool
-is_not_wider from to = is_int to && nat_le (width_of to) (width_of from)
-
-abbrev pub is_not_narrower : Option TypeDef → Option TypeDef → Bool
-is_not_narrower from to = is_int to && nat_le (width_of from) (width_of to)
+is_int64 (Some (Int width)) = nat_eq width 64
+is_int64 _ = false
 
 -- an index or a count of elements is an int of at most 64 bits
 abbrev pub most_bits_of_an_index : ℕ
 most_bits_of_an_index = 64
 
 abbrev pub is_index_type : Option TypeDef → Bool
-is_index_type d = is_int d && nat_le (width_of d) most_bits_of_an_index
+is_index_type (Some (Int width)) = nat_le width most_bits_of_an_index
+is_index_type _ = false

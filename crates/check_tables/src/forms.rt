@@ -1,8 +1,9 @@
 // What the forms of instructions ask of the types that they name.
 ghost use Rattle.std.specs.Prelude.{◌≡◌, Some, is_some, option_map, IfSome};
+ghost use Rattle.mu_values.specs.Constants.{width_of};
 ghost use Rattle.check_tables.specs.Types.{definition_in};
 ghost use Rattle.check_tables.specs.Lookups.{definition_named, leaves_named};
-ghost use Rattle.check_tables.specs.TypeTests.{is_int, is_scalar, is_sized, is_no_hybrid, is_value_type, is_castable, are_cast, is_hybrid, is_struct, fields_of, fixed_fields_of, field_at, element_of, repeated_of, width_of, is_int64, is_not_wider, is_not_narrower, is_index_type};
+ghost use Rattle.check_tables.specs.TypeTests.{is_int, is_scalar, is_sized, is_no_hybrid, is_value_type, is_castable, are_cast, is_hybrid, is_struct, fields_of, fixed_fields_of, field_at, element_of, repeated_of, is_int64, is_index_type};
 
 use crate::tables::Tables;
 use ir_lex::{Name, Number};
@@ -182,12 +183,13 @@ impl Tables {
         }
     }
 
-    fn width(&self, name: &Name) -> u128
+    /// The width of the int that a name stands for.
+    pub fn width(&self, name: &Name) -> Option<u128>
         ensures { result ≡ width_of (definition_named self.now name.now) }
     {
         match self.definition_named(name) {
-            Some(TypeDef::Int { width }) => *width,
-            _ => 0,
+            Some(TypeDef::Int { width }) => Some(*width),
+            _ => None,
         }
     }
 
@@ -204,24 +206,13 @@ impl Tables {
         }
     }
 
-    /// Whether the second name is that of an int that is not wider than the first.
-    pub fn is_not_wider(&self, from: &Name, to: &Name) -> bool
-        ensures { result ≡ is_not_wider (definition_named self.now from.now) (definition_named self.now to.now) }
-    {
-        self.is_int(to) && self.width(to) <= self.width(from)
-    }
-
-    /// Whether the second name is that of an int that is not narrower than the first.
-    pub fn is_not_narrower(&self, from: &Name, to: &Name) -> bool
-        ensures { result ≡ is_not_narrower (definition_named self.now from.now) (definition_named self.now to.now) }
-    {
-        self.is_int(to) && self.width(from) <= self.width(to)
-    }
-
     /// Whether the name is that of an int that indexes and counts of elements may have.
     pub fn is_index_type(&self, name: &Name) -> bool
         ensures { result ≡ is_index_type (definition_named self.now name.now) }
     {
-        self.is_int(name) && self.width(name) <= MOST_BITS_OF_AN_INDEX
+        match self.definition_named(name) {
+            Some(TypeDef::Int { width }) => *width <= MOST_BITS_OF_AN_INDEX,
+            _ => false,
+        }
     }
 }

@@ -1,5 +1,5 @@
 -- To believe: instructions that compute a value from values: for each form its demands from left to right, what it gives, and its code.
-use Rattle.std.specs.Prelude.{ℕ, Bool, List, [], ◌∷◌, Option, Some, is_some, ◌&&◌}
+use Rattle.std.specs.Prelude.{ℕ, Bool, false, List, [], ◌∷◌, Option, Some, is_some, ◌&&◌}
 use Rattle.demands.specs.Demands.{Demands, demand, ◌⨾◌}
 use Rattle.ir_lex.specs.declared.name.Name.{Name}
 use Rattle.ir_lex.specs.declared.name.Numeral.{Numeral}
@@ -12,6 +12,7 @@ use Rattle.ir_tree.specs.declared.operators.ConvertOp.TheVariants as convert_ops
 use Rattle.ir_tree.specs.declared.computing.Computation.{Computation}
 use Rattle.ir_tree.specs.declared.computing.Computation.TheVariants as computations
 use Rattle.type_laws.specs.declared.definition.TypeDef.{TypeDef}
+use Rattle.type_laws.specs.declared.definition.TypeDef.TheVariants.{Int}
 use Rattle.mu_values.specs.declared.operators.BinOp.{BinOp}
 use Rattle.mu_values.specs.declared.operators.BinOp.TheVariants as bin_ops
 use Rattle.mu_values.specs.declared.operators.CmpOp.{CmpOp}
@@ -24,7 +25,7 @@ use Rattle.check_tables.specs.declared.fault.CheckKind.TheVariants.{OperandType,
 use Rattle.check_tables.specs.declared.tables.Tables.{Tables}
 use Rattle.check_tables.specs.Types.{class_in, int1}
 use Rattle.check_tables.specs.Lookups.{or_zero, class_named, noted_class, definition_named, leaves_named}
-use Rattle.check_tables.specs.TypeTests.{is_int, is_scalar, is_value_type, is_castable, are_cast, is_struct, fields_of, field_at, width_of}
+use Rattle.check_tables.specs.TypeTests.{is_int, is_scalar, is_value_type, is_castable, are_cast, is_struct, fields_of, field_at}
 use Rattle.code_check.specs.declared.code.ComputationForm.{ComputationForm}
 use Rattle.code_check.specs.declared.code.ComputationForm.TheVariants as forms
 use Rattle.code_check.specs.declared.scopes.Locals.{Locals}
@@ -65,14 +66,15 @@ convert_op convert_ops.Zext = conv_ops.Zext
 convert_op convert_ops.Sext = conv_ops.Sext
 
 -- EQ and NE compare all scalars, the orders ints alone
-abbrev pub compares : CompareOp → Option TypeDef → Bool
-compares compare_ops.Eq d = is_scalar d
-compares compare_ops.Ne d = is_scalar d
+abbrev pub compares : CmpOp → Option TypeDef → Bool
+compares cmp_ops.Eq d = is_scalar d
+compares cmp_ops.Ne d = is_scalar d
 compares _ d = is_int d
 
--- a conversion leads to an int, of a width that it goes to
-abbrev pub converts : ConvertOp → Option TypeDef → Option TypeDef → Bool
-converts op from to = is_int to && is_conversion (convert_op op) (width_of from) (width_of to)
+-- TRUNC, ZEXT and SEXT lead from an int to an int, of a width that `is_conversion` allows
+abbrev pub converts : ConvOp → Option TypeDef → Option TypeDef → Bool
+converts op (Some (Int from)) (Some (Int to)) = is_conversion op from to
+converts op _ _ = false
 
 -- ---- fields
 
@@ -92,10 +94,10 @@ abbrev pub computation_demands : Tables → Locals → Computation → Demands C
 -- BIN < T > a b exc?: T int; a, b: T
 computation_demands p ls (computations.Binary op t a b e) = type_demand t (is_int (definition_named p t)) ⨾ of_type p ls a t ⨾ of_type p ls b t
 -- CMP < T > a b: T scalar for EQ and NE, else int; a, b: T
-computation_demands p ls (computations.Compare op t a b) = type_demand t (compares op (definition_named p t)) ⨾ of_type p ls a t ⨾ of_type p ls b t
+computation_demands p ls (computations.Compare op t a b) = type_demand t (compares (compare_op op) (definition_named p t)) ⨾ of_type p ls a t ⨾ of_type p ls b t
 -- TRUNC < A B > a, ZEXT, SEXT: A, B int; B not wider, or not narrower; a: A
 computation_demands p ls (computations.Convert op s t a) =
-    type_demand s (is_int (definition_named p s)) ⨾ type_demand t (converts op (definition_named p s) (definition_named p t)) ⨾ of_type p ls a s
+    type_demand s (is_int (definition_named p s)) ⨾ type_demand t (converts (convert_op op) (definition_named p s) (definition_named p t)) ⨾ of_type p ls a s
 -- REFCAST < A B > a: both ref, both iref or both funcref; a: A
 computation_demands p ls (computations.Refcast s t a) =
     type_demand s (is_castable (definition_named p s)) ⨾ type_demand t (are_cast (definition_named p s) (definition_named p t)) ⨾ of_type p ls a s

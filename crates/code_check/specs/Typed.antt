@@ -8,17 +8,9 @@ use Rattle.mu_base.specs.declared.order.Order.{Order as MuOrder}
 use Rattle.mu_base.specs.declared.order.Order.TheVariants as mu_orders
 use Rattle.ir_tree.specs.declared.operators.MemoryOrder.{MemoryOrder}
 use Rattle.ir_tree.specs.declared.operators.MemoryOrder.TheVariants as orders
-use Rattle.ir_tree.specs.declared.operators.CompareOp.{CompareOp}
-use Rattle.ir_tree.specs.declared.operators.CompareOp.TheVariants as compare_ops
-use Rattle.ir_tree.specs.declared.operators.ConvertOp.{ConvertOp}
-use Rattle.ir_tree.specs.declared.operators.ConvertOp.TheVariants as convert_ops
 use Rattle.type_laws.specs.declared.definition.TypeDef.{TypeDef}
 use Rattle.type_laws.specs.Same.{IsGraph}
 use Rattle.type_laws.specs.Parts.{parts_at}
-use Rattle.mu_values.specs.declared.operators.CmpOp.{CmpOp}
-use Rattle.mu_values.specs.declared.operators.CmpOp.TheVariants as cmp_ops
-use Rattle.mu_values.specs.declared.operators.ConvOp.{ConvOp}
-use Rattle.mu_values.specs.declared.operators.ConvOp.TheVariants as conv_ops
 use Rattle.check_tables.specs.declared.tables.Signature.{Signature}
 use Rattle.check_tables.specs.declared.tables.Tables.{Tables}
 use Rattle.check_tables.specs.Types.{definition_at, class_at, leaves_at, is_type_there, ref_at, iref_at, funcref_at, int1, int32, stackref, threadref, ref_void}
@@ -181,24 +173,7 @@ abbrev pub OptionalNormalFits : Tables → Blocks → List ℕ → Option Target
 OptionalNormalFits p blocks ks None = Unit {0}
 OptionalNormalFits p blocks ks (Some t) = NormalFits p blocks ks t
 
--- ---- words of the machine, and those of the text that stand for them
-
-abbrev pub written_comparison : CmpOp → CompareOp
-written_comparison cmp_ops.Eq = compare_ops.Eq
-written_comparison cmp_ops.Ne = compare_ops.Ne
-written_comparison cmp_ops.Slt = compare_ops.Slt
-written_comparison cmp_ops.Sle = compare_ops.Sle
-written_comparison cmp_ops.Sgt = compare_ops.Sgt
-written_comparison cmp_ops.Sge = compare_ops.Sge
-written_comparison cmp_ops.Ult = compare_ops.Ult
-written_comparison cmp_ops.Ule = compare_ops.Ule
-written_comparison cmp_ops.Ugt = compare_ops.Ugt
-written_comparison cmp_ops.Uge = compare_ops.Uge
-
-abbrev pub written_conversion : ConvOp → ConvertOp
-written_conversion conv_ops.Trunc = convert_ops.Trunc
-written_conversion conv_ops.Zext = convert_ops.Zext
-written_conversion conv_ops.Sext = convert_ops.Sext
+-- ---- orders of accesses, and the words of the text that stand for them
 
 abbrev pub written_order : MuOrder → MemoryOrder
 written_order mu_orders.NotAtomic = orders.NotAtomic
@@ -220,10 +195,10 @@ abbrev pub ComputationFits : Tables → List ℕ → ComputationForm → List �
 ComputationFits p ks (computing.Binary op c a b) gs = HasType p is_int c × SourceFits p ks a c × SourceFits p ks b c × (gs ≡ c ∷ [])
 -- a type that the operator compares; both operands have it; the result is of type int<1>
 ComputationFits p ks (computing.Compare op c a b) gs =
-    HasType p (compares (written_comparison op)) c × SourceFits p ks a c × SourceFits p ks b c × (gs ≡ int1 p.types ∷ [])
+    HasType p (compares op) c × SourceFits p ks a c × SourceFits p ks b c × (gs ≡ int1 p.types ∷ [])
 -- an int type, and one to which the operator leads from there; the operand has the first, the result the second
 ComputationFits p ks (computing.Convert op c d a) gs =
-    (s : HasType p is_int c) × HasType p (converts (written_conversion op) (definition_at p.types s.number)) d × SourceFits p ks a c × (gs ≡ d ∷ [])
+    (s : HasType p is_int c) × HasType p (converts op (definition_at p.types s.number)) d × SourceFits p ks a c × (gs ≡ d ∷ [])
 -- both are references to objects, both to places, or both to functions; the operand has the first, the result the second
 ComputationFits p ks (computing.Refcast c d a) gs =
     (s : HasType p is_castable c) × HasType p (are_cast (definition_at p.types s.number)) d × SourceFits p ks a c × (gs ≡ d ∷ [])

@@ -14,7 +14,7 @@ use crate::scopes::Locals;
 use check_tables::{CheckFault, CheckKind, Field, Tables, fault_at};
 use ir_lex::{Name, Numeral};
 use ir_tree::{BinaryOp, CompareOp, Computation, ConvertOp, Operand};
-use mu_values::{BinOp, CmpOp, ConvOp};
+use mu_values::{BinOp, CmpOp, ConvOp, is_conversion};
 
 fn binary_op(op: BinaryOp) -> BinOp
     ensures { result ≡ binary_op op }
@@ -64,22 +64,22 @@ fn convert_op(op: ConvertOp) -> ConvOp
 }
 
 /// Whether values of the type that a name stands for are compared so: an order is for ints alone.
-fn compares(tables: &Tables, op: CompareOp, name: &Name) -> bool
+fn compares(tables: &Tables, op: CmpOp, name: &Name) -> bool
     ensures { result ≡ compares op (definition_named tables.now name.now) }
 {
     match op {
-        CompareOp::Eq | CompareOp::Ne => tables.is_scalar(name),
+        CmpOp::Eq | CmpOp::Ne => tables.is_scalar(name),
         _ => tables.is_int(name),
     }
 }
 
 /// Whether the change of width leads from the one type to the other.
-fn converts(tables: &Tables, op: ConvertOp, from: &Name, to: &Name) -> bool
+fn converts(tables: &Tables, op: ConvOp, from: &Name, to: &Name) -> bool
     ensures { result ≡ converts op (definition_named tables.now from.now) (definition_named tables.now to.now) }
 {
-    match op {
-        ConvertOp::Trunc => tables.is_not_wider(from, to),
-        ConvertOp::Zext | ConvertOp::Sext => tables.is_not_narrower(from, to),
+    match (tables.width(from), tables.width(to)) {
+        (Some(from), Some(to)) => is_conversion(op, from, to),
+        _ => false,
     }
 }
 
@@ -129,11 +129,12 @@ fn compare(
 ) -> Result<ComputationForm, CheckFault>
     ensures { Judges (computation_demands tables.now locals.now (forms.Compare op name.now left.now right.now)) (computation_code tables.now locals.now (forms.Compare op name.now left.now right.now)) result }
 {
+    let op = compare_op(op);
     type_demand(name, compares(tables, op, name))?;
     let left = of_type(tables, locals, left, name)?;
     let right = of_type(tables, locals, right, name)?;
     Ok(ComputationForm::Compare {
-        op: compare_op(op),
+        op,
         class: tables.noted_class(name),
         left,
         right,
@@ -151,11 +152,12 @@ fn convert(
 ) -> Result<ComputationForm, CheckFault>
     ensures { Judges (computation_demands tables.now locals.now (forms.Convert op from.now to.now operand.now)) (computation_code tables.now locals.now (forms.Convert op from.now to.now operand.now)) result }
 {
+    let op = convert_op(op);
     let class = int_type(tables, from)?;
     type_demand(to, converts(tables, op, from, to))?;
     let operand = of_type(tables, locals, operand, from)?;
     Ok(ComputationForm::Convert {
-        op: convert_op(op),
+        op,
         from: class,
         to: tables.noted_class(to),
         operand,

@@ -1,6 +1,6 @@
 -- To believe: what a script for the heap makes of a bundle that is accepted, and the entries of a client's script, are what a run may
 -- begin with.
-use Rattle.std.specs.Prelude.{◌≡◌, ℕ, ◌-◌, List, [], None}
+use Rattle.std.specs.Prelude.{◌≡◌, ℕ, List, [], None}
 use Rattle.demands.specs.Demands.{first_unmet}
 use Rattle.ir_tree.specs.declared.items.Item.{Item}
 use Rattle.bundle_check.specs.Checking.{bundle_tables}
@@ -10,7 +10,7 @@ use Rattle.hail_load.specs.Code.{code_of}
 use Rattle.hail_load.specs.LoadAnswers.{AreGlobals}
 use Rattle.hail_load.specs.Loading.{Loaded, load}
 use Rattle.mu_model.specs.Clients.{Client}
-use Rattle.mu_model.specs.Run.{Setting, global_objects, cells_taken}
+use Rattle.mu_model.specs.Run.{Setting, global_objects, cells_left}
 use Rattle.model_numbers.specs.Laws.{OfAccepted}
 use Rattle.client_script.specs.Texts.{script_demands, script_entries}
 use Rattle.typed_programs.specs.Laws.{SettingFits}
@@ -32,7 +32,7 @@ loaded_objects bundle cells commands = (carried_out bundle cells commands).store
 
 -- as many cells are left then as those objects did not take
 abbrev pub CellsAreCounted : Type 0
-CellsAreCounted = (bundle : List Item) (commands : List Command) (cells : ℕ) → (carried_out bundle cells commands).store.left ≡ cells - cells_taken (bundle_tables bundle) (loaded_objects bundle cells commands)
+CellsAreCounted = (bundle : List Item) (commands : List Command) (cells : ℕ) → (carried_out bundle cells commands).store.left ≡ cells_left (bundle_tables bundle) cells (loaded_objects bundle cells commands)
 
 -- a client whose entries are those of a text that is accepted as its script; those of an empty text are none
 pub record IsScripted (bundle : List Item) (k : Client) : Type 0 where

@@ -1,5 +1,6 @@
 -- The blocks of a bundle, each as it stands in its function.
 use Rattle.std.proofs.Common.{◌≡◌, ℕ, zero, suc, ◌+◌, false, List, [], ◌∷◌, ◌++◌, Some, map, length, slice_get, refl, sym, ◌∙◌, ap, subst, append_assoc, length-append}
+use Rattle.std.proofs.lemmas.List.{length-map}
 use Rattle.std.specs.List.{AllByRecursion}
 use Rattle.demands.specs.Demands.{AllMet}
 use Rattle.ir_tree.specs.declared.code.Block.{Block}
@@ -61,10 +62,6 @@ get_map f [] n a e = cc
 get_map f (x ∷ xs) zero a e = ap (λ y. Some (f y)) (some_is x a e)
 get_map f (x ∷ xs) (suc n) a e = get_map f xs n a e
 
-many_mapped : {A B : Type 0} (f : A → B) (xs : List A) → length (map f xs) ≡ length xs
-many_mapped f [] = refl
-many_mapped f (x ∷ xs) = ap (λ (n : ℕ). suc n) (many_mapped f xs)
-
 blocks_placed : (all : List Scope) (bundle : List Item) (d : Funcdef) (first : ℕ) (bs : List Block) →
     ((n : ℕ) (b : Block) → slice_get d.blocks n ≡ Some b → slice_get all (first + n) ≡ Some (scope bundle d first b)) → AllByRecursion (IsPlaced all) (map (scope bundle d first) bs)
 blocks_placed all bundle d first [] placed = tt
@@ -89,7 +86,7 @@ items_placed all bundle before (items.Funcdef d ∷ is) e =
     rest = scopes_from bundle (length before + length d.blocks) is
 
     many : length (before ++ own) ≡ length before + length d.blocks
-    many = length-append before own ∙ ap (λ (k : ℕ). length before + k) (many_mapped (scope bundle d (length before)) d.blocks)
+    many = length-append before own ∙ ap (λ (k : ℕ). length before + k) (length-map d.blocks (scope bundle d (length before)))
 
     further : all ≡ (before ++ own) ++ scopes_from bundle (length (before ++ own)) is
     further = e ∙ sym (append_assoc before own rest) ∙ ap (λ (k : ℕ). (before ++ own) ++ scopes_from bundle k is) (sym many)

@@ -1,5 +1,5 @@
 -- A run is that from its first configuration.
-use Rattle.std.proofs.Common.{◌≡◌, ℕ, suc, ◌+◌, ◌-◌, List, ap, subst, sym, ◌∙◌, add-one, Option, Some, None}
+use Rattle.std.proofs.Common.{◌≡◌, ℕ, suc, ◌+◌, List, ap, subst, sym, ◌∙◌, add-one, Option, Some, None}
 use Rattle.std.specs.Prelude.{Result, Ok, Err, IfOk}
 use Rattle.ir_tree.specs.declared.items.Item.{Item}
 use Rattle.typed_heap.specs.Places.{with_some}
@@ -8,7 +8,7 @@ use Rattle.mu_model.specs.Configuration.{Configuration}
 use Rattle.mu_model.specs.Programs.{named}
 use Rattle.bundle_check.specs.Checking.{bundle_tables}
 use Rattle.mem_axioms.specs.declared.types.Rule.{Rule}
-use Rattle.mu_model.specs.Run.{Setting, begins_in, cells_taken, first_configuration, run, run_from}
+use Rattle.mu_model.specs.Run.{Setting, begins_in, cells_left, first_configuration, run, run_from}
 use Rattle.mu_texts.specs.Start.{Started}
 use Rattle.mu_texts.specs.Answer.{run_of}
 
@@ -31,10 +31,10 @@ if_ok P Q f (Ok a) h = f a h
 if_ok P Q f (Err e) h = tt
 
 -- a machine that was made of what a run begins with stands at its beginning
-pub begins_so : (code : List Item) (v s : Started) (rule : Rule) (c : Configuration) → v ≡ s → rule ≡ v.setting.rule → s.left ≡ s.setting.cells - cells_taken (bundle_tables code) s.setting.objects
-    → ((cells : ℕ) → v.left ≡ cells - cells_taken (bundle_tables code) v.setting.objects → first_configuration (named code) (record v.setting { cells = cells; rule = rule }) v.entry ≡ Some c)
+pub begins_so : (code : List Item) (v s : Started) (rule : Rule) (c : Configuration) → v ≡ s → rule ≡ v.setting.rule → s.left ≡ cells_left (bundle_tables code) s.setting.cells s.setting.objects
+    → ((cells : ℕ) → v.left ≡ cells_left (bundle_tables code) cells v.setting.objects → first_configuration (named code) (record v.setting { cells = cells; rule = rule }) v.entry ≡ Some c)
     → first_configuration (named code) s.setting s.entry ≡ Some c
 begins_so code v s rule c same ruled left first =
-    let there : v.left ≡ v.setting.cells - cells_taken (bundle_tables code) v.setting.objects = subst (λ (s : Started). s.left ≡ s.setting.cells - cells_taken (bundle_tables code) s.setting.objects) (sym same) left in
+    let there : v.left ≡ cells_left (bundle_tables code) v.setting.cells v.setting.objects = subst (λ (s : Started). s.left ≡ cells_left (bundle_tables code) s.setting.cells s.setting.objects) (sym same) left in
     subst (λ (s : Started). first_configuration (named code) s.setting s.entry ≡ Some c) same
     (ap (λ (r : Rule). first_configuration (named code) (record v.setting { rule = r }) v.entry) (sym ruled) ∙ first v.setting.cells there)

@@ -48,6 +48,7 @@ compare_act op a b =
 
 -- ---- TRUNC, ZEXT, SEXT
 
+-- to an int of 1 to 128 bits, of a width that `is_conversion` allows
 abbrev pub leads_to : ConvOp → ℕ → ℕ → Bool
 leads_to op from to = is_width to && is_conversion op from to
 

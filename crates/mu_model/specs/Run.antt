@@ -76,9 +76,9 @@ pub record Setting : Type 0 where
 abbrev pub cells_taken : Tables → List HeapObject → ℕ
 cells_taken p os = sum_by (λ (o : HeapObject). length o.leaves) (drop (length p.global_cells) os)
 
--- some of a run's cells are taken by objects that are there besides the globals
-abbrev pub cells_left : Tables → Setting → ℕ
-cells_left p s = s.cells - cells_taken p s.objects
+-- of so many cells, those that the objects besides the globals do not take
+abbrev pub cells_left : Tables → ℕ → List HeapObject → ℕ
+cells_left p cells os = cells - cells_taken p os
 
 -- thread 0 on stack 0, in a function that begins with that block
 abbrev pub begins_in : Program → Setting → ℕ → ℕ → Configuration
@@ -92,7 +92,7 @@ begins_in p s f block =
       waiters = [];
       client = s.client;
       picks = s.picks;
-      cells = cells_left p.tables s;
+      cells = cells_left p.tables s.cells s.objects;
       steps = 0;
       budget = s.budget;
       rule = s.rule;

@@ -1,11 +1,11 @@
 // The machine.
-ghost use Rattle.std.specs.Prelude.{◌≡◌, ◌≢◌, ℕ, ◌-◌, ◌≤◌, [], IsSome, IsSomeAnd, Some, IfOk, OnErr, true, false, ◌||◌};
+ghost use Rattle.std.specs.Prelude.{◌≡◌, ◌≢◌, ℕ, ◌≤◌, [], IsSome, IsSomeAnd, Some, IfOk, OnErr, true, false, ◌||◌};
 ghost use Rattle.bundle_check.specs.Checking.{bundle_tables};
 ghost use Rattle.mu_model.specs.declared.endings.StepEnd.TheVariants.{Went, Ended};
 ghost use Rattle.mu_model.specs.Programs.{named};
 ghost use Rattle.mu_model.specs.Outcomes.{Stuck};
 ghost use Rattle.mu_model.specs.Step.{step};
-ghost use Rattle.mu_model.specs.Run.{cells_taken, first_configuration, client_answers};
+ghost use Rattle.mu_model.specs.Run.{cells_left, first_configuration, client_answers};
 ghost use Rattle.mu_step.specs.Running.{gives_ending, IsAgain};
 ghost use Rattle.thread_acts.specs.Outcome.{outcome_of, Stays};
 
@@ -70,7 +70,7 @@ impl<'a, M: Memory + Drop, C: Determined + Drop> Machine<'a, M, C> {
         requires body { IsSomeAnd ((named code.now).body entry) IsSome }
         ensures bundle { IfOk result (λ m. m.bundle ≡ code.now) }
         ensures fresh { IfOk result (λ m. m.ended ≡ false) }
-        ensures first { IfOk result (λ m. (cells : ℕ) → heap.left ≡ cells - cells_taken (bundle_tables code.now) heap.objects → first_configuration (named code.now) (record { objects = heap.objects; client = C.stands_for client; picks = picks; cells = cells; budget = budget; rule = M.rule memory }) entry ≡ Some m.configuration) }
+        ensures first { IfOk result (λ m. (cells : ℕ) → heap.left ≡ cells_left (bundle_tables code.now) cells heap.objects → first_configuration (named code.now) (record { objects = heap.objects; client = C.stands_for client; picks = picks; cells = cells; budget = budget; rule = M.rule memory }) entry ≡ Some m.configuration) }
     {
         let _items = code.items();
         programs_are_same();

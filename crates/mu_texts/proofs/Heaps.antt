@@ -1,5 +1,5 @@
 -- The objects that a script makes.
-use Rattle.std.proofs.Common.{◌≡◌, ℕ, ◌-◌, List, [], refl, sym, ◌∙◌, ap, Option, Some, None}
+use Rattle.std.proofs.Common.{◌≡◌, ℕ, List, [], refl, sym, ◌∙◌, ap, Option, Some, None}
 use Rattle.std.specs.Prelude.{Result, Ok, Err}
 use Rattle.demands.specs.declared.fault.Fault.{Fault}
 use Rattle.demands.specs.declared.fault.Fault.TheVariants.{At, Memory as NoMemory}
@@ -11,7 +11,7 @@ use Rattle.hail_load.specs.declared.fault.LoadKind.{LoadKind}
 use Rattle.hail_load.specs.Code.{code_of}
 use Rattle.hail_load.specs.Loading.{Loaded, load}
 use Rattle.hail_load.specs.LoadAnswers.{loaded_from, Loads}
-use Rattle.mu_model.specs.Run.{global_objects, cells_taken}
+use Rattle.mu_model.specs.Run.{global_objects, cells_left}
 use Rattle.loaded_programs.specs.Laws.{carried_out, loaded_objects, CellsAreCounted}
 use Rattle.mu_texts.specs.declared.stop.Stop.{Stop}
 use Rattle.mu_texts.specs.declared.stop.Stop.TheVariants.{Line, Memory}
@@ -49,7 +49,7 @@ module _ (code : List Item) (cells : ℕ) (commands : List Command) (old : HeapC
       let os : new.objects ≡ loaded_objects code cells commands = h.1.0 ∙ ap (λ (l : Loaded). l.store.objects) same in
       record {
         objects = record { commands = commands; cells = cells; is = os };
-        left = h.1.1 ∙ ap (λ (l : Loaded). l.store.left) same ∙ law code commands cells ∙ ap (λ os. cells - cells_taken (bundle_tables code) os) (sym os);
+        left = h.1.1 ∙ ap (λ (l : Loaded). l.store.left) same ∙ law code commands cells ∙ ap (cells_left (bundle_tables code) cells) (sym os);
       }
 
   pub one_refused : (new : HeapContents) (kind : LoadKind) (place : ℕ) (stop : Stop) → Loads (code_of code) commands old new (Err (At kind place)) → IsRefusal stop Hail place (load_fault_name kind) → Fills (filled_part code cells commands) (Err stop)

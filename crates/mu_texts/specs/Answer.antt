@@ -132,7 +132,7 @@ scheduled bytes = met_part Schedule schedule_fault_name (schedule_numbers bytes)
 
 -- a run with that setting, from the function with that number
 abbrev pub started : List Item → ℕ → Setting → Started
-started code n s = record { entry = n; setting = s; left = cells_left (bundle_tables code) s }
+started code n s = record { entry = n; setting = s; left = cells_left (bundle_tables code) s.cells s.objects }
 
 -- the run of a function of a bundle
 unfoldable pub run_of : List Item → ℕ → Setting → Run

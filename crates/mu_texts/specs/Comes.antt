@@ -1,5 +1,5 @@
 -- Inner: what the functions that read and judge a text tell their callers.
-use Rattle.std.specs.Prelude.{◌≡◌, ℕ, ◌-◌, ◌≤◌, List, IsSome, IsSomeAnd, Result, Ok, Err, ⊤}
+use Rattle.std.specs.Prelude.{◌≡◌, ℕ, ◌≤◌, List, IsSome, IsSomeAnd, Result, Ok, Err, ⊤}
 use Rattle.mu_texts.specs.declared.what.What.{What}
 use Rattle.mu_texts.specs.declared.stop.Stop.{Stop}
 use Rattle.mu_texts.specs.declared.stop.Stop.TheVariants.{Line, Memory}
@@ -11,7 +11,7 @@ use Rattle.hail_load.specs.declared.tree.Command.{Command}
 use Rattle.bundle_check.specs.Checking.{bundle_tables}
 use Rattle.bundle_check.specs.Answers.{entry}
 use Rattle.mu_model.specs.Programs.{named as program}
-use Rattle.mu_model.specs.Run.{Setting, cells_taken, cells_left, first_configuration}
+use Rattle.mu_model.specs.Run.{Setting, cells_left, first_configuration}
 use Rattle.model_laws.specs.Bounds.{HasEnding}
 use Rattle.loaded_programs.specs.Laws.{loaded_objects, IsScripted}
 use Rattle.ir_tree.specs.declared.items.Item.{Item}
@@ -46,7 +46,7 @@ pub record AreFilled (code : List Item) (objects : List HeapObject) : Type 0 whe
 -- such a heap, of which as many cells are left as they did not take
 pub record IsFilled (code : List Item) (cells : ℕ) (heap : HeapContents) : Type 0 where
   pub objects : AreFilled code heap.objects
-  pub left : heap.left ≡ cells - cells_taken (bundle_tables code) heap.objects
+  pub left : heap.left ≡ cells_left (bundle_tables code) cells heap.objects
 
 -- what a run may be given: such objects, and the client of a script
 pub record IsLoaded (code : List Item) (s : Setting) : Type 0 where
@@ -67,7 +67,7 @@ pub record IsRunnable (code : List Item) (start : Started) : Type 0 where
   pub begins : IsSomeAnd ((program code).body start.entry) IsSome
   pub ends : HasEnding (run_of code start.entry start.setting)
   pub short : start.setting.budget ≤ 1000000
-  pub left : start.left ≡ cells_left (bundle_tables code) start.setting
+  pub left : start.left ≡ cells_left (bundle_tables code) start.setting.cells start.setting.objects
 
 -- what is to be run can be run
 abbrev pub CanRun : Ready → Type 0

@@ -49,15 +49,15 @@ converted conversions.Trunc from to n = n % 2 ^ to
 converted conversions.Zext from to n = n
 converted conversions.Sext from to n = bits_of to (signed from n)
 
--- The widths that a conversion goes between, first the one that may not be greater: TRUNC makes no integer wider, ZEXT and SEXT none
+-- The widths that a conversion goes between, first the one that must not be greater: TRUNC makes no integer wider, ZEXT and SEXT none
 -- narrower.
-abbrev pub in_order : ConvOp → ℕ → ℕ → ℕ × ℕ
-in_order conversions.Trunc from to = (to, from)
-in_order conversions.Zext from to = (from, to)
-in_order conversions.Sext from to = (from, to)
+abbrev pub lesser_first : ConvOp → ℕ → ℕ → ℕ × ℕ
+lesser_first conversions.Trunc from to = (to, from)
+lesser_first conversions.Zext from to = (from, to)
+lesser_first conversions.Sext from to = (from, to)
 
 abbrev pub IsConversion : ConvOp → ℕ → ℕ → Type 0
-IsConversion op from to = (in_order op from to).0 ≤ (in_order op from to).1
+IsConversion op from to = (lesser_first op from to).0 ≤ (lesser_first op from to).1
 
 abbrev pub is_conversion : ConvOp → ℕ → ℕ → Bool
-is_conversion op from to = nat_le (in_order op from to).0 (in_order op from to).1
+is_conversion op from to = nat_le (lesser_first op from to).0 (lesser_first op from to).1

@@ -1,7 +1,7 @@
 // Integers of a number of bits.
 ghost use Rattle.std.specs.Prelude.{◌≡◌, ◌+◌, ◌-◌, ◌*◌, ◌/◌, ◌%◌, ◌^◌, ◌<◌, ◌≤◌, pos, negsuc, neg_ℤ, ◌-ℤ◌, nat_lt, not, int_lt, int_div, int_rem, unsigned_abs, bit_and, bit_or, bit_xor, if◌then◌else◌};
 ghost use Rattle.std.specs.Int.Signed.{shr_z};
-ghost use Rattle.mu_values.specs.Integers.{IsInteger, signed, bits_of, shift, binary_value, converted, IsConversion};
+ghost use Rattle.mu_values.specs.Integers.{IsInteger, signed, bits_of, shift, binary_value, converted, IsConversion, is_conversion};
 
 use crate::operators::{BinOp, ConvOp};
 
@@ -189,6 +189,16 @@ pub fn binary(op: BinOp, width: u32, a: u128, b: u128) -> Option<u128>
         BinOp::And => Some(a & b),
         BinOp::Or => Some(a | b),
         BinOp::Xor => Some(a ^ b),
+    }
+}
+
+/// Whether the conversion leads from one width to another: `Trunc` makes no integer wider, `Zext` and `Sext` none narrower.
+pub fn is_conversion(op: ConvOp, from: u128, to: u128) -> bool
+    ensures { result ≡ is_conversion op from to }
+{
+    match op {
+        ConvOp::Trunc => to <= from,
+        ConvOp::Zext | ConvOp::Sext => from <= to,
     }
 }
 

@@ -14,7 +14,7 @@ mod updates;
 
 pub use comparing::compare;
 pub use constants::judge_const;
-pub use integers::{binary, convert};
+pub use integers::{binary, convert, is_conversion};
 pub use laws::{
     conversions_keep_the_width, results_keep_the_width, same_scalar_is_equality,
     updates_keep_the_width,

@@ -1,5 +1,5 @@
 // Instructions that say where the function goes on, or that enter or leave one.
-ghost use Rattle.std.specs.Prelude.{◌≡◌, bit_and, map, Some, IsSome, IfSome, IfOk};
+ghost use Rattle.std.specs.Prelude.{◌≡◌, ◌%◌, ◌^◌, map, Some, IsSome, IfSome, IfOk};
 ghost use Rattle.mu_values.specs.SameScalar.{same_scalar};
 ghost use Rattle.bundle_check.specs.Checking.{bundle_tables};
 ghost use Rattle.typed_heap.specs.Places.{with_some};
@@ -106,7 +106,7 @@ fn is_equal(a: &Scalar, b: &Scalar) -> bool
 /// The lower half of the bits of an integer.
 #[inline]
 fn lower_half(bits: u128) -> u128
-    ensures { result ≡ bit_and bits 18446744073709551615 }
+    ensures { result ≡ bits % 2 ^ 64 }
 {
     bits & 0xFFFF_FFFF_FFFF_FFFF
 }

@@ -30,7 +30,7 @@ use Rattle.thread_acts.specs.Hand.{IsSound}
 use Rattle.mu_model.specs.Types.{type_graph, class_definition}
 use Rattle.mu_model.specs.Programs.{named}
 use Rattle.mu_model.specs.Acts.{Program}
-use Rattle.mu_model.specs.Run.{Setting, target_leaves, global_objects, cells_taken, begins_in, first_configuration}
+use Rattle.mu_model.specs.Run.{Setting, target_leaves, global_objects, cells_left, begins_in, first_configuration}
 use Rattle.model_numbers.specs.Laws.{ProgramsAreSame}
 use Rattle.model_numbers.specs.Numbered.{numbered}
 use Rattle.thread_acts.specs.Held.{Held, configuration}
@@ -125,7 +125,7 @@ none_behind f [] = refl
 none_behind f (x ∷ xs) = none_behind f xs
 
 -- the cells of the globals do not count
-pub globals_not_counted : (p : Tables) (left cells : ℕ) → left ≡ cells → left ≡ cells - cells_taken p (global_objects p)
+pub globals_not_counted : (p : Tables) (left cells : ℕ) → left ≡ cells → left ≡ cells_left p cells (global_objects p)
 globals_not_counted p left cells h =
     h ∙ sym (sub-zero cells) ∙ ap (λ os. cells - sum_by (λ (o : HeapObject). length o.leaves) os) (sym (none_behind (λ c. object_of (type_graph p) (target_leaves p (class_definition p c))) p.global_cells))
 
@@ -187,7 +187,7 @@ state_first os k picks rule r cells budget block fr c seats lg ws top below seat
     ∙ ap (λ ws. state_of fr (seats_by (record { top = entered block []; below = [] })) os [] ws k picks r cells budget) idle ∙ ap (λ r. first_state fr os k picks r cells budget block) same
 
 pub start_is : (bundle : List Item) (fr : Chain) (os : List HeapObject) (k : Client) (picks : List ℕ) (rule : Rule) (left budget f block cells : ℕ) (function : Function) (s : Held) → slice_get (bundle_functions bundle) f ≡ Some function → function.first ≡ Some block
-    → s ≡ first_state fr os k picks rule left budget block → left ≡ cells - cells_taken (bundle_tables bundle) os → starting bundle (record { objects = os; client = k; picks = picks; cells = cells; budget = budget; rule = rule }) f ≡ Some (configuration s)
+    → s ≡ first_state fr os k picks rule left budget block → left ≡ cells_left (bundle_tables bundle) cells os → starting bundle (record { objects = os; client = k; picks = picks; cells = cells; budget = budget; rule = rule }) f ≡ Some (configuration s)
 unfolding starting
 start_is bundle fr os k picks rule left budget f block cells function s there first same enough =
     let set : Setting = record { objects = os; client = k; picks = picks; cells = cells; budget = budget; rule = rule } in

@@ -1,10 +1,10 @@
 // The first state of a run.
-ghost use Rattle.std.specs.Prelude.{◌≡◌, ℕ, ◌-◌, ◌<◌, ◌≤◌, ◌++◌, ◌∷◌, [], IsSome, IsSomeAnd, Some, IfOk, OnOk, length};
+ghost use Rattle.std.specs.Prelude.{◌≡◌, ℕ, ◌<◌, ◌≤◌, ◌++◌, ◌∷◌, [], IsSome, IsSomeAnd, Some, IfOk, OnOk, length};
 ghost use Rattle.type_laws.specs.Same.{IsGraph};
 ghost use Rattle.bundle_check.specs.Checking.{bundle_tables};
 ghost use Rattle.typed_heap.specs.Objects.{leaf_classes, object_of};
 ghost use Rattle.typed_heap.specs.Heap.{AreNarrow};
-ghost use Rattle.mu_model.specs.Run.{global_objects, cells_taken};
+ghost use Rattle.mu_model.specs.Run.{global_objects, cells_left};
 ghost use Rattle.model_numbers.specs.Numbered.{numbered};
 ghost use Rattle.thread_acts.specs.Acting.{entered};
 ghost use Rattle.thread_acts.specs.Held.{configuration};
@@ -103,7 +103,7 @@ impl<M: Memory + Drop, C: Determined + Drop> State<M, C> {
         requires budget { budget ≤ 1000000 }
         requires there { IsSomeAnd ((numbered code.now).body entry) IsSome }
         ensures whole { IfOk result (λ state. state.skip ≡ 0) }
-        ensures first { IfOk result (λ state. (cells : ℕ) → heap.left ≡ cells - cells_taken (bundle_tables code.now) heap.objects → starting code.now (record { objects = heap.objects; client = C.stands_for client; picks = picks; cells = cells; budget = budget; rule = M.rule memory }) entry ≡ Some (configuration state)) }
+        ensures first { IfOk result (λ state. (cells : ℕ) → heap.left ≡ cells_left (bundle_tables code.now) cells heap.objects → starting code.now (record { objects = heap.objects; client = C.stands_for client; picks = picks; cells = cells; budget = budget; rule = M.rule memory }) entry ≡ Some (configuration state)) }
     {
         match code.function(entry).first {
             None => unreachable!(),

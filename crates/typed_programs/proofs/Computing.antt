@@ -12,7 +12,7 @@ use Rattle.mu_values.specs.declared.operators.CmpOp.TheVariants as comparisons
 use Rattle.mu_values.specs.declared.operators.ConvOp.{ConvOp}
 use Rattle.mu_values.specs.declared.operators.ConvOp.TheVariants as conversions
 use Rattle.mu_values.specs.Constants.{width_of}
-use Rattle.mu_values.specs.Integers.{binary_value, converted, IsConversion}
+use Rattle.mu_values.specs.Integers.{binary_value, converted, lesser_first, IsConversion}
 use Rattle.mu_values.specs.Comparisons.{compared}
 use Rattle.mu_values.proofs.Widths.{binary_below, converted_below}
 use Rattle.check_tables.specs.Types.{int1, definition_at}
@@ -21,7 +21,7 @@ use Rattle.bundle_check.specs.Checking.{bundle_tables}
 use Rattle.code_check.specs.declared.code.Source.{Source}
 use Rattle.code_check.specs.declared.code.ComputationForm.TheVariants as computing
 use Rattle.code_check.specs.Computations.{compares, converts}
-use Rattle.code_check.specs.Typed.{ComputationFits, written_comparison, written_conversion}
+use Rattle.code_check.specs.Typed.{ComputationFits}
 use Rattle.typed_heap.specs.Fits.{World, DefinitionFits, ValueFits}
 use Rattle.typed_heap.specs.Places.{with_some}
 use Rattle.frames.specs.Activations.{Value}
@@ -71,7 +71,7 @@ comparable graph w (types.Int v) (Int x m) (Int y n) h k allowed =
 comparable graph w d (Int x m) (Int y n) h k allowed = absurd h
 comparable graph w d x y h k allowed = refl
 
-compares_scalars : (op : CmpOp) (d : Option TypeDef) → compares (written_comparison op) d ≡ true → is_scalar d ≡ true
+compares_scalars : (op : CmpOp) (d : Option TypeDef) → compares op d ≡ true → is_scalar d ≡ true
 compares_scalars comparisons.Eq d h = h
 compares_scalars comparisons.Ne d h = h
 compares_scalars op (Some (types.Int v)) h = refl
@@ -83,16 +83,12 @@ bit_below false = omega arith
 
 -- ---- conversions
 
-not_wider : (w v : ℕ) → nat_le v w ≡ true → v ≤ w
-not_wider w v h = grind (arith, nat_tests)
+at_most : (m n : ℕ) → nat_le m n ≡ true → m ≤ n
+at_most m n h = grind (arith, nat_tests)
 
-converted_int : (op : ConvOp) (o : Option TypeDef) (w : ℕ) → converts (written_conversion op) (Some (types.Int w)) o ≡ true → (v : ℕ) × (o ≡ Some (types.Int v)) × IsConversion op w v
-converted_int conversions.Trunc (Some (types.Int v)) w h = (v, refl, not_wider w v h)
-converted_int conversions.Zext (Some (types.Int v)) w h = (v, refl, not_wider v w h)
-converted_int conversions.Sext (Some (types.Int v)) w h = (v, refl, not_wider v w h)
-converted_int conversions.Trunc _ w h = cc
-converted_int conversions.Zext _ w h = cc
-converted_int conversions.Sext _ w h = cc
+converted_int : (op : ConvOp) (o : Option TypeDef) (w : ℕ) → converts op (Some (types.Int w)) o ≡ true → (v : ℕ) × (o ≡ Some (types.Int v)) × IsConversion op w v
+converted_int op (Some (types.Int v)) w h = (v, refl, at_most (lesser_first op w v).0 (lesser_first op w v).1 h)
+converted_int op _ w h = cc
 
 leads : (op : ConvOp) (w v : ℕ) → IsConversion op w v → 1 ≤ v → v ≤ 128 → leads_to op w v ≡ true
 leads conversions.Trunc w v h least most = grind (arith, nat_tests)
@@ -129,7 +125,7 @@ module _ (bundle : List Item) (r : Moment bundle) (block at : ℕ) where
   convert_fits op c d a gs h gives =
       let k = int_class bundle r.names r.checked c h.0 in
       let to = converted_int op (definition_at (bundle_tables bundle).types h.1.number) k.width
-      (subst (λ o. converts (written_conversion op) o (definition_at (bundle_tables bundle).types h.1.number) ≡ true) k.written h.1.passes) in
+      (subst (λ o. converts op o (definition_at (bundle_tables bundle).types h.1.number) ≡ true) k.written h.1.passes) in
       let j = int_is bundle r.names r.checked h.1.number d to.0 h.1.class to.1 in
       known_then (class_width (bundle_tables bundle) c) k.width _ _ (ap width_of k.wide.class.definition)
       (known_then (class_width (bundle_tables bundle) d) to.0 _ _ (ap width_of j.class.definition)

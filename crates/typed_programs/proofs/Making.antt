@@ -1,7 +1,6 @@
 -- Instructions that make objects, find places and cast references do what fits.
 use Rattle.std.proofs.Common.{◌≡◌, ◌<◌, ◌^◌, ◌==◌, ℕ, Bool, true, false, List, [], ◌∷◌, ◌++◌, Option, Some, None, IsSomeAnd, Result, Ok, Err, length, take, slice_get, if◌then◌else◌, refl, sym, ◌∙◌, ap, subst, inl, inr}
 use Rattle.std.specs.Prelude.{ℤ, pos, IfOk}
-use Rattle.std.proofs.lemmas.Bool.{and_parts}
 use Rattle.std.proofs.lemmas.Bool.Decides.{eqb_tells}
 use Rattle.ir_tree.specs.declared.items.Item.{Item}
 use Rattle.type_laws.specs.declared.definition.TypeDef.{TypeDef}
@@ -49,7 +48,8 @@ use Rattle.typed_programs.proofs.Computing.{FitsAt, DoesFit, GivesAt, known_then
 use Rattle.typed_programs.proofs.Shapes.{fits_itself, fits_alone, place_first, AreSame, same_fits, same_place, iref_same, class_is, fixed_part, element_part, repeated_part}
 
 index_is_int : (d : Option TypeDef) → is_index_type d ≡ true → is_int d ≡ true
-index_is_int d h = (and_parts (is_int d) _ h).0
+index_is_int (Some (types.Int width)) h = refl
+index_is_int _ h = cc
 
 move_field : (graph : List TypeDef) (c n : ℕ) (ks : List ℕ) (j : ℕ) → fixed_fields_of (slice_get graph c) ≡ Some ks → slice_get ks n ≡ Some j →
     move graph (Field c n) ≡ Some (record { by = Some (pos (leaves_together graph (take n ks))); wanted = j })
