@@ -1,5 +1,5 @@
-// Instructions that are decided at once: the frequent ones, which come to one scalar or to a block. They are inlined, so that a scalar
-// is not copied on its way.
+// Instructions that are decided at once: the frequent ones, which come to one scalar or to a block. The functions that decide them are
+// inlined, so that a scalar is not copied on its way from one to the next.
 ghost use Rattle.std.specs.Prelude.{◌≡◌, [], ◌∷◌, Some, IsSome, IfSome};
 ghost use Rattle.mu_model.specs.Acts as acts;
 ghost use Rattle.model_numbers.specs.Forms.{computation_at, control_at, act_at};

@@ -93,7 +93,7 @@ pub fn branch2(
     }
 }
 
-/// The whole comparison stays out of the way of a loop that seldom comes to it.
+/// Whether two scalars are one, by all that they hold. It stays out of the way of a loop that seldom comes to it.
 #[tactic(auto, using(crate::specs::OperandLaws::same_told))]
 #[cold]
 #[inline(never)]

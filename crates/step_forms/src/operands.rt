@@ -39,7 +39,7 @@ pub(crate) fn lent(value: &[Scalar]) -> &Scalar
     }
 }
 
-/// A copy of it.
+/// The same, copied. Every frequent instruction reads its operands so, and is not to make a call for each.
 #[inline(always)]
 fn only(value: &[Scalar]) -> Scalar
     requires { IsSome (scalar_in (Some value.now)) }

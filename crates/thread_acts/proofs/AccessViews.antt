@@ -158,22 +158,23 @@ answers_lines t ls e =
     ap (λ c. Next (record c { lines = reverse ls })) (configuration_left (record t { steps = t.steps + 1 }) e) ∙ ap (λ n. Next (record (left_configuration (record t { steps = n })) { lines = reverse ls })) (add-one t.steps)
 
 -- the state with what was changed
-abbrev logged_state : Held → Chain → List Event → List ℕ → Rule → Held
-logged_state v fr lg picks rl = record v { frames = fr; log = lg; picks = picks; skip = 0; rule = rl; steps = v.steps + 1 }
+abbrev logged_state : Held → Chain → List Event → List ℕ → ℕ → Rule → Held
+logged_state v fr lg picks skip rl = record v { frames = fr; log = lg; picks = picks; skip = skip; rule = rl; steps = v.steps + 1 }
 
-pub logs_on : (s v : Held) (e : Event) (options block at number : ℕ) (out : List Value) (fr : Chain) (lg after : List Event) (rl kept : Rule) (ps : List ℕ) (ls : List Line) → v ≡ s → s.left ≡ true → lg ≡ v.log → rl ≡ v.rule → race rl lg e ≡ None
-    → after ≡ e ∷ lg → kept ≡ rl → fr ≡ record v.frames { top = stands v.frames.top block at out } → ps ≡ (pick options (ahead v)).1 → number ≡ length v.log → ls ≡ lines.Event number e ∷ []
-    → answers (Went ls) (logged_state v fr after ps kept) ≡ logs s e (pick options (ahead s)).1 (record s.frames { top = stands s.frames.top block at out })
+pub logs_on : (s v : Held) (e : Event) (options block at number : ℕ) (out : List Value) (fr : Chain) (lg after : List Event) (rl kept : Rule) (ps : List ℕ) (skip : ℕ) (ls : List Line) → v ≡ s → s.left ≡ true → lg ≡ v.log → rl ≡ v.rule → race rl lg e ≡ None
+    → after ≡ e ∷ lg → kept ≡ rl → fr ≡ record v.frames { top = stands v.frames.top block at out } → ps ≡ (pick options (ahead v)).1 → skip ≡ 0 → number ≡ length v.log → ls ≡ lines.Event number e ∷ []
+    → answers (Went ls) (logged_state v fr after ps skip kept) ≡ logs s e (pick options (ahead s)).1 (record s.frames { top = stands s.frames.top block at out })
 unfolding logs
-logs_on s v e options block at number out fr lg after rl kept ps ls view left log rule alone added same frames picks count written =
+logs_on s v e options block at number out fr lg after rl kept ps skip ls view left log rule alone added same frames picks ahead_none count written =
     let standing = record v.frames { top = stands v.frames.top block at out } in
     let taken = (pick options (ahead v)).1 in
     let none : race v.rule v.log e ≡ None = ap (λ rl. race rl v.log e) (sym rule) ∙ ap (λ lg. race rl lg e) (sym log) ∙ alone in
-    ap (λ ls. answers (Went ls) (logged_state v fr after ps kept)) written
-    ∙ ap (λ fr. answers (Went (lines.Event number e ∷ [])) (logged_state v fr after ps kept)) frames
-    ∙ ap (λ lg. answers (Went (lines.Event number e ∷ [])) (logged_state v standing lg ps kept)) (added ∙ ap (λ lg. e ∷ lg) log)
-    ∙ ap (λ ps. answers (Went (lines.Event number e ∷ [])) (logged_state v standing (e ∷ v.log) ps kept)) picks
-    ∙ ap (λ rl. answers (Went (lines.Event number e ∷ [])) (logged_state v standing (e ∷ v.log) taken rl)) (same ∙ rule)
+    ap (λ n. answers (Went ls) (logged_state v fr after ps n kept)) ahead_none
+    ∙ ap (λ ls. answers (Went ls) (logged_state v fr after ps 0 kept)) written
+    ∙ ap (λ fr. answers (Went (lines.Event number e ∷ [])) (logged_state v fr after ps 0 kept)) frames
+    ∙ ap (λ lg. answers (Went (lines.Event number e ∷ [])) (logged_state v standing lg ps 0 kept)) (added ∙ ap (λ lg. e ∷ lg) log)
+    ∙ ap (λ ps. answers (Went (lines.Event number e ∷ [])) (logged_state v standing (e ∷ v.log) ps 0 kept)) picks
+    ∙ ap (λ rl. answers (Went (lines.Event number e ∷ [])) (logged_state v standing (e ∷ v.log) taken 0 rl)) (same ∙ rule)
     ∙ answers_lines (record v { frames = standing; log = e ∷ v.log; picks = taken; skip = 0 }) (lines.Event number e ∷ []) (ap (λ (s : Held). s.left) view ∙ left)
     ∙ ap (λ n. went_with (record v { frames = standing; log = e ∷ v.log; picks = taken; skip = 0 }) (lines.Event n e ∷ [])) count
     ∙ ap (logs_unless v e taken standing) (sym none)
@@ -186,11 +187,11 @@ logs_race_kept s v e picks fr lent lg seen rl used n k o view log rule races end
     logs_race s v e picks fr lg rl n k o view log rule races (ending ∙ ap (λ (fr : Chain). race_at (record v { frames = fr }) e n) kept) is
 
 -- the same where the thread goes on at a place of its block, with values behind its own
-pub logs_next : (s v : Held) (e : Event) (options at number : ℕ) (vs : List Value) (fr : Chain) (lg after : List Event) (rl kept : Rule) (ps : List ℕ) (ls : List Line) → v ≡ s → s.left ≡ true → lg ≡ v.log → rl ≡ v.rule → race rl lg e ≡ None
-    → after ≡ e ∷ lg → kept ≡ rl → fr ≡ record v.frames { top = stands v.frames.top v.frames.top.block at (v.frames.top.vars ++ vs) } → ps ≡ (pick options (ahead v)).1 → number ≡ length v.log → ls ≡ lines.Event number e ∷ []
-    → answers (Went ls) (logged_state v fr after ps kept) ≡ logs s e (pick options (ahead s)).1 (record s.frames { top = stands s.frames.top s.frames.top.block at (s.frames.top.vars ++ vs) })
-logs_next s v e options at number vs fr lg after rl kept ps ls view left log rule alone added same frames picks count written =
-    logs_on s v e options v.frames.top.block at number (v.frames.top.vars ++ vs) fr lg after rl kept ps ls view left log rule alone added same frames picks count written
+pub logs_next : (s v : Held) (e : Event) (options at number : ℕ) (vs : List Value) (fr : Chain) (lg after : List Event) (rl kept : Rule) (ps : List ℕ) (skip : ℕ) (ls : List Line) → v ≡ s → s.left ≡ true → lg ≡ v.log → rl ≡ v.rule → race rl lg e ≡ None
+    → after ≡ e ∷ lg → kept ≡ rl → fr ≡ record v.frames { top = stands v.frames.top v.frames.top.block at (v.frames.top.vars ++ vs) } → ps ≡ (pick options (ahead v)).1 → skip ≡ 0 → number ≡ length v.log → ls ≡ lines.Event number e ∷ []
+    → answers (Went ls) (logged_state v fr after ps skip kept) ≡ logs s e (pick options (ahead s)).1 (record s.frames { top = stands s.frames.top s.frames.top.block at (s.frames.top.vars ++ vs) })
+logs_next s v e options at number vs fr lg after rl kept ps skip ls view left log rule alone added same frames picks ahead_none count written =
+    logs_on s v e options v.frames.top.block at number (v.frames.top.vars ++ vs) fr lg after rl kept ps skip ls view left log rule alone added same frames picks ahead_none count written
     ∙ ap (λ (x : Held). logs s e (pick options (ahead s)).1 (record s.frames { top = stands s.frames.top x.frames.top.block at (x.frames.top.vars ++ vs) })) view
 
 -- ---- a fence

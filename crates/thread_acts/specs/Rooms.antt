@@ -1,4 +1,4 @@
--- Inner: nothing that a reader believes of a run rests on this. It is for which values a list has room.
+-- Inner: nothing that a reader believes of a run rests on this. It says for which values a list has room.
 use Rattle.std.specs.Prelude.{◌≡◌, ℕ, zero, suc, ◌+◌, ◌<◌, ◌≤◌, ◌⊎◌, List, [], ◌∷◌, Some, length, slice_get, drop, refl}
 use Rattle.std.proofs.Common.{◌∙◌, ap, arith, add-one, inl, inr}
 use Rattle.mu_values.specs.Slots.{RoomyValues}

@@ -186,13 +186,16 @@ state_first os k picks rule r cells budget block fr c seats lg ws top below seat
     ∙ ap (λ lg. state_of fr (seats_by (record { top = entered block []; below = [] })) os lg ws k picks r cells budget) none
     ∙ ap (λ ws. state_of fr (seats_by (record { top = entered block []; below = [] })) os [] ws k picks r cells budget) idle ∙ ap (λ r. first_state fr os k picks r cells budget block) same
 
-pub start_is : (bundle : List Item) (fr : Chain) (os : List HeapObject) (k : Client) (picks : List ℕ) (rule : Rule) (left budget f block cells : ℕ) (function : Function) (s : Held) → slice_get (bundle_functions bundle) f ≡ Some function → function.first ≡ Some block
+pub first_is : (bundle : List Item) (f block : ℕ) (function : Function) → slice_get (bundle_functions bundle) f ≡ Some function → function.first ≡ Some block → (numbered bundle).body f ≡ Some (Some block)
+first_is bundle f block function there first = with_is (slice_get (bundle_functions bundle) f) function (λ (f : Function). Some f.first) there ∙ ap (λ (o : Option ℕ). Some o) first
+
+pub start_is : (bundle : List Item) (fr : Chain) (os : List HeapObject) (k : Client) (picks : List ℕ) (rule : Rule) (left budget f block cells : ℕ) (s : Held) → (numbered bundle).body f ≡ Some (Some block)
     → s ≡ first_state fr os k picks rule left budget block → left ≡ cells_left (bundle_tables bundle) cells os → starting bundle (record { objects = os; client = k; picks = picks; cells = cells; budget = budget; rule = rule }) f ≡ Some (configuration s)
 unfolding starting
-start_is bundle fr os k picks rule left budget f block cells function s there first same enough =
+start_is bundle fr os k picks rule left budget f block cells s first same enough =
     let set : Setting = record { objects = os; client = k; picks = picks; cells = cells; budget = budget; rule = rule } in
     let go : Option ℕ → Option Configuration = λ b. with_some b (λ block. Some (begins_in (numbered bundle) set f block)) in
-    ap (λ o. with_some o go) (with_is (slice_get (bundle_functions bundle) f) function (λ (f : Function). Some f.first) there) ∙ ap go first
+    ap (λ o. with_some o go) first
     ∙ ap (λ n. Some (configuration (first_state fr os k picks rule n budget block))) (sym enough) ∙ ap (λ s. Some (configuration s)) (sym same)
 
 -- the one thread is there from the start
@@ -204,7 +207,9 @@ first_sound seats log none one =
       made = λ i. ap (λ log. is_thread log i) none ∙ first_made i ∙ ap (nat_lt i) (sym one);
     }
 
-pub ruleset starts = (start_there, start_is)
+pub ruleset first_blocks = (start_there, first_is)
+
+pub ruleset starts = (start_is)
 
 -- ---- by names
 

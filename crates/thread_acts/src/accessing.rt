@@ -232,7 +232,7 @@ pub fn commit_other<M: Memory, L: Ledger>(memory: &mut M, event: Event, blank: B
 }
 
 /// A memory gets an event, and the top frame goes on at a place of its block with these results behind its own variables. Where the
-/// event races, that is the answer, and all is as before; so it is where no memory is found.
+/// event races, that is the answer. Then, and where no memory is found, all is as before.
 fn commit_next<M: Memory, L: Ledger>(
     memory: &mut M,
     frames: &mut Frames,
@@ -266,13 +266,15 @@ fn commit_next<M: Memory, L: Ledger>(
     Ok(found)
 }
 
-/// So many picks are taken, and then one among so many options.
-fn take_picks(picks: &mut Schedule, skip: u32, options: u32)
+/// The picks that were looked at are taken, and then one among so many options.
+fn take_picks(picks: &mut Schedule, skip: &mut u32, options: u32)
     requires { 0 < options }
-    ensures { picks.new ≡ (pick options (drop skip picks.old)).1 }
+    ensures picks { picks.new ≡ (pick options (drop skip.old picks.old)).1 }
+    ensures skip { skip.new ≡ 0 }
 {
-    picks.skip(skip);
+    picks.skip(*skip);
     picks.pick(options);
+    *skip = 0;
 }
 
 impl<M: Memory, C: Determined> State<M, C> {
@@ -393,8 +395,7 @@ impl<M: Memory, C: Determined> State<M, C> {
             Some(race) => Ok(ended(alloc, self.race_ending(event, race))),
             None => {
                 stand(&mut self.frames, place, out);
-                take_picks(&mut self.picks, self.skip, options);
-                self.skip = 0;
+                take_picks(&mut self.picks, &mut self.skip, options);
                 self.events += 1;
                 self.steps += 1;
                 Ok(StepEnd::Went(lines))
@@ -436,8 +437,7 @@ impl<M: Memory, C: Determined> State<M, C> {
             Err(refused) => Err(refused),
             Ok(Some(race)) => Ok(ended(alloc, self.race_ending(event, race))),
             Ok(None) => {
-                take_picks(&mut self.picks, self.skip, options);
-                self.skip = 0;
+                take_picks(&mut self.picks, &mut self.skip, options);
                 self.events += 1;
                 self.steps += 1;
                 Ok(StepEnd::Went(lines))

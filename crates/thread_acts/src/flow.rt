@@ -110,6 +110,17 @@ pub fn stand(frames: &mut Frames, place: Place, values: &mut Slots)
     frames.top_mut().at = place.at;
 }
 
+/// The frame stands at a place of its block, with its variables, and waits for nothing.
+fn stand_at(frame: &mut Frame, at: u32)
+    ensures { frame_of frame.new ≡ stands (frame_of frame.old) frame.old.block at frame.old.slots.values }
+{
+    frame.at = at;
+    frame.fresh = false;
+    frame.waits.clear();
+    frame.handler = None;
+    frame.kept.clear();
+}
+
 /// The frame stands at the next place, with one more value of one scalar, and waits for nothing.
 fn push_on(frame: &mut Frame, scalar: Scalar) -> Result<(), AllocError>
     ensures ok { OnOk result (frame_of frame.new ≡ stands (frame_of frame.old) frame.old.block (frame.old.at + 1) (frame.old.slots.values ++ (scalar ∷ []) ∷ [])) }
@@ -119,11 +130,7 @@ fn push_on(frame: &mut Frame, scalar: Scalar) -> Result<(), AllocError>
         return Err(AllocError);
     };
     frame.slots.push_scalar(scalar)?;
-    frame.at = at;
-    frame.fresh = false;
-    frame.waits.clear();
-    frame.handler = None;
-    frame.kept.clear();
+    stand_at(frame, at);
     Ok(())
 }
 
@@ -197,11 +204,7 @@ pub(crate) fn stand_behind(frame: &mut Frame, at: u32, results: &Slots)
     ensures { frame_of frame.new ≡ stands (frame_of frame.old) frame.old.block at (frame.old.slots.values ++ results.now.values) }
 {
     append_reserved(results, &mut frame.slots);
-    frame.at = at;
-    frame.fresh = false;
-    frame.waits.clear();
-    frame.handler = None;
-    frame.kept.clear();
+    stand_at(frame, at);
 }
 
 /// The top frame stands at a place of its block, with these results behind its own variables. Where no memory is found nothing changes.
@@ -215,7 +218,8 @@ fn stand_next(frames: &mut Frames, at: u32, results: &Slots) -> Result<(), Alloc
     Ok(())
 }
 
-/// The top frame goes on with these results of its instruction. Where no memory is found nothing changes.
+/// The top frame goes on with these results of its instruction. Where no memory is found the frames are as before; the list may have
+/// changed.
 pub(crate) fn go_on(
     code: &Checked,
     frames: &mut Frames,

@@ -13,12 +13,12 @@ use crate::state::State;
 use bundle_check::Checked;
 use client_hooks::Determined;
 use mem_axioms::Memory;
-use mu_model::StepEnd;
+use mu_model::{Lines, StepEnd};
 use mu_values::{Scalar, Slots};
 use std::alloc::{AllocError, Global};
 
 impl<M: Memory, C: Determined> State<M, C> {
-    /// The thread's instruction has these results.
+    /// The thread's instruction has these results. Where no memory is found the state is as before; the list may have changed.
     #[tactic(auto, using(crate::specs::ActLaws::giving))]
     pub fn give(
         &mut self,
@@ -38,19 +38,7 @@ impl<M: Memory, C: Determined> State<M, C> {
         Ok(self.went(alloc))
     }
 
-    /// The thread's instruction has one result, of one scalar, and goes on at the next place.
-    fn push(&mut self, alloc: Global, scalar: Scalar) -> Result<StepEnd, AllocError>
-        requires left { self.old.left ≡ true }
-        requires room { self.old.steps < self.old.budget }
-        ensures ok { IfOk result (λ end. answers end self.new ≡ went_on (record self.old { frames = record self.old.frames { top = stands self.old.frames.top self.old.frames.top.block (self.old.frames.top.at + 1) (self.old.frames.top.vars ++ (scalar ∷ []) ∷ []) } })) }
-        ensures err { OnErr result (self.new ≡ self.old) }
-        ensures stays { IfOk result (λ end. (s t : Held) → Stays end s t) }
-    {
-        push_on_top(&mut self.frames, scalar)?;
-        Ok(self.went(alloc))
-    }
-
-    /// The same by way of the lists, where it goes on elsewhere.
+    /// The thread's instruction has one result, of one scalar, which is given by way of the lists.
     fn give_one(
         &mut self,
         alloc: Global,
@@ -72,7 +60,6 @@ impl<M: Memory, C: Determined> State<M, C> {
     }
 
     /// The thread's instruction has one result, of one scalar.
-    #[tactic(auto, using(crate::specs::ActLaws::giving_next))]
     pub fn give_scalar(
         &mut self,
         alloc: Global,
@@ -88,14 +75,10 @@ impl<M: Memory, C: Determined> State<M, C> {
         ensures err { OnErr result (self.new ≡ self.old) }
         ensures stays { IfOk result (λ end. (s t : Held) → Stays end s t) }
     {
-        let top = self.frames.top();
-        if top.fresh {
-            return self.give_one(alloc, code, scalar, values, out);
+        if self.give_at_once(code, scalar) {
+            return Ok(StepEnd::Went(Lines::new(alloc)));
         }
-        match &code.code(top.block, top.at).normal {
-            None => self.push(alloc, scalar),
-            Some(_) => self.give_one(alloc, code, scalar, values, out),
-        }
+        self.give_one(alloc, code, scalar, values, out)
     }
 
     /// The thread's instruction has one result, of one scalar, and goes on at the next place, where memory is found. Else nothing

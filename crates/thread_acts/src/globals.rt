@@ -85,6 +85,18 @@ fn first_frames(alloc: Global, block: u32) -> Result<Frames, AllocError>
     }
 }
 
+/// The first block of a function that has a body.
+#[tactic(auto, using(crate::specs::Starting::first_blocks))]
+fn first_block(code: &Checked, function: u32) -> u32
+    requires { IsSomeAnd ((numbered code.now).body function) IsSome }
+    ensures { (numbered code.now).body function ≡ Some (Some result) }
+{
+    match code.function(function).first {
+        None => unreachable!(),
+        Some(block) => block,
+    }
+}
+
 impl<M: Memory + Drop, C: Determined + Drop> State<M, C> {
     /// Thread 0 on stack 0, in that function, with the objects of a heap, of which the memory is told.
     #[tactic(auto, using(crate::specs::Starting::starts, crate::specs::Starting::first_sound))]
@@ -105,31 +117,26 @@ impl<M: Memory + Drop, C: Determined + Drop> State<M, C> {
         ensures whole { IfOk result (λ state. state.skip ≡ 0) }
         ensures first { IfOk result (λ state. (cells : ℕ) → heap.left ≡ cells_left (bundle_tables code.now) cells heap.objects → starting code.now (record { objects = heap.objects; client = C.stands_for client; picks = picks; cells = cells; budget = budget; rule = M.rule memory }) entry ≡ Some (configuration state)) }
     {
-        match code.function(entry).first {
-            None => unreachable!(),
-            Some(block) => {
-                remember_all(alloc, &heap, &mut memory)?;
-                let hand = first_frames(alloc, block)?;
-                let first = first_frames(alloc, block)?;
-                let seats = Seats::new(alloc, first)?;
-                let watched = Watched::new(alloc);
-                Ok(State {
-                    thread: 0,
-                    stack: 0,
-                    frames: hand,
-                    left: false,
-                    seats,
-                    heap,
-                    memory,
-                    watched,
-                    client,
-                    picks,
-                    skip: 0,
-                    events: 0,
-                    steps: 0,
-                    budget,
-                })
-            }
-        }
+        let block = first_block(code, entry);
+        remember_all(alloc, &heap, &mut memory)?;
+        let hand = first_frames(alloc, block)?;
+        let first = first_frames(alloc, block)?;
+        let seats = Seats::new(alloc, first)?;
+        Ok(State {
+            thread: 0,
+            stack: 0,
+            frames: hand,
+            left: false,
+            seats,
+            heap,
+            memory,
+            watched: Watched::new(alloc),
+            client,
+            picks,
+            skip: 0,
+            events: 0,
+            steps: 0,
+            budget,
+        })
     }
 }

@@ -103,7 +103,8 @@ fn new_object(heap: &mut Heap, code: &Checked, class: u32, making: Making) -> Re
     }
 }
 
-/// The frame has the newest object for its own, of which a memory is told. Its place and its variables, with their room, stay.
+/// The frame has the newest object for its own, of which a memory is told. Its block and its variables, with their room, stay. Where no
+/// memory is found all is as before.
 fn own<M: Memory>(
     alloc: Global,
     heap: &Heap,
@@ -127,8 +128,8 @@ fn own<M: Memory>(
     frame.cells.push(number)
 }
 
-/// A memory is told of the newest object, which the frame has for its own where it is made so. The frame's place and its variables,
-/// with their room, stay.
+/// A memory is told of the newest object, which the frame has for its own where it is made so. The frame's block and its variables,
+/// with their room, stay. Where no memory is found all is as before.
 fn tell<M: Memory>(
     alloc: Global,
     heap: &Heap,
@@ -168,6 +169,7 @@ fn result_of(making: Making, number: u32) -> Scalar
 }
 
 /// A memory is told of the newest object, and the top frame stands at a place of its block with these results behind its own variables.
+/// Where no memory is found the frames and the memory are as before.
 fn give_next<M: Memory>(
     alloc: Global,
     heap: &Heap,
@@ -194,7 +196,8 @@ fn give_next<M: Memory>(
     Ok(())
 }
 
-/// The top frame's instruction has its result of the newest object, and a memory is told of it.
+/// The top frame's instruction has its result of the newest object, and a memory is told of it. Where no memory is found the frames and
+/// the memory are as before; the lists may have changed.
 #[tactic(auto, using(crate::specs::ObjectLaws::frames_made))]
 fn give<M: Memory>(
     alloc: Global,

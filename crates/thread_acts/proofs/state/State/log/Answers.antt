@@ -8,5 +8,5 @@ returns-in-Some-clause-ok g c =
 
 pub returns-in-None-clause-ok : goal.returns-in-None-clause-ok
 returns-in-None-clause-ok g c =
-    logs_on c.args.self.now _ c.args.event c.args.options c.args.place.block c.args.place.at _ c.args.out.now.values _ _ _ _ _ _ _ c.self.view_is c.requires.left c.reserve.ensures.same_log c.reserve.ensures.same_rule c.in-None.ensures.race (c.in-None.ensures.added refl)
-    c.in-None.ensures.same_rule c.stand.ensures c.take_picks.ensures c.self.invariant.1 c.in_ok-lines.ensures
+    logs_on c.args.self.now _ c.args.event c.args.options c.args.place.block c.args.place.at _ c.args.out.now.values _ _ _ _ _ _ _ _ c.self.view_is c.requires.left c.reserve.ensures.same_log c.reserve.ensures.same_rule c.in-None.ensures.race (c.in-None.ensures.added refl)
+    c.in-None.ensures.same_rule c.stand.ensures c.take_picks.ensures.picks c.take_picks.ensures.skip c.self.invariant.1 c.in_ok-lines.ensures

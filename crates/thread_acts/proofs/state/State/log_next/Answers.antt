@@ -16,5 +16,5 @@ returns-in-Ok-None-clause-ok g c =
     let none = subst (λ (o : Option Race). IsNone o) (sym c.in-Ok-None.field-0-is) refl in
     let alone = subst (λ (o : Option Race). MatchOption o (race (g.M.Memory.rule c.reserve.new.self) (g.M.Memory.log c.reserve.new.self) c.args.event ≡ None)
     (λ (found : Race). race (g.M.Memory.rule c.reserve.new.self) (g.M.Memory.log c.reserve.new.self) c.args.event ≡ Some found.earlier)) c.in-Ok-None.field-0-is c.in-Ok-None.ensures.race in
-    logs_next c.args.self.now _ c.args.event c.args.options c.args.at _ c.args.results.now.values _ _ _ _ _ _ _ c.self.view_is c.requires.left c.reserve.ensures.same_log c.reserve.ensures.same_rule alone (c.in-Ok-None.ensures.added none)
-    c.in-Ok-None.ensures.same_rule (c.in-Ok-None.ensures.goes none) c.take_picks.ensures c.self.invariant.1 c.in_ok-lines.ensures
+    logs_next c.args.self.now _ c.args.event c.args.options c.args.at _ c.args.results.now.values _ _ _ _ _ _ _ _ c.self.view_is c.requires.left c.reserve.ensures.same_log c.reserve.ensures.same_rule alone (c.in-Ok-None.ensures.added none)
+    c.in-Ok-None.ensures.same_rule (c.in-Ok-None.ensures.goes none) c.take_picks.ensures.picks c.take_picks.ensures.skip c.self.invariant.1 c.in_ok-lines.ensures
