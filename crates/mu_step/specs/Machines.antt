@@ -1,6 +1,6 @@
 -- Laws of a machine's step.
 use Rattle.std.specs.Prelude.{◌≡◌, ◌≢◌, List, [], None}
-use Rattle.std.proofs.Common.{sym, ◌∙◌, ap, subst}
+use Rattle.std.proofs.Common.{sym, ◌∙◌, ap}
 use Rattle.demands.specs.Demands.{first_unmet}
 use Rattle.ir_tree.specs.declared.items.Item.{Item}
 use Rattle.bundle_names.specs.Naming.{name_demands}
@@ -19,7 +19,7 @@ use Rattle.mu_model.specs.Run.{client_answers}
 use Rattle.thread_acts.specs.Outcome.{outcome_of}
 use Rattle.thread_acts.specs.Held.{Held, configuration}
 use Rattle.thread_acts.specs.Acting.{told}
-use Rattle.mu_step.specs.Running.{IsAgain}
+use Rattle.mu_step.specs.Running.{without_lines}
 
 -- a step by numbers is one by names
 pub steps_there : (bundle : List Item) (c : Configuration) → ProgramsAreSame → first_unmet (name_demands bundle) ≡ None → first_unmet (check_demands bundle) ≡ None
@@ -32,10 +32,10 @@ pub steps_answer : (bundle : List Item) (s t : Held) (end : StepEnd) → Program
 steps_answer bundle s t end same are met h = h ∙ ap (λ p. client_answers p (configuration s).client (step p (configuration s))) (sym (same bundle are met))
 
 -- what comes again: a step that went on went so, and one that ended says its ending without its lines
-pub went_again : (o : Outcome) (d : Configuration) (ls : List Line) (end : StepEnd) → outcome_of (Went ls) d ≡ o → end ≡ Went ls → IsAgain o end d
-went_again o d ls end e is = subst (λ (o : Outcome). IsAgain o end d) e (ap (λ (end : StepEnd). outcome_of end d) is)
+pub went_again : (o : Outcome) (d : Configuration) (ls : List Line) (end : StepEnd) → outcome_of (Went ls) d ≡ o → end ≡ Went ls → outcome_of end d ≡ without_lines o
+went_again o d ls end e is = ap (λ (end : StepEnd). outcome_of end d) is ∙ ap without_lines e
 
-pub ended_again : (o : Outcome) (d : Configuration) (ls : List Line) (e : Ending) (end : StepEnd) → outcome_of (Ended ls e) d ≡ o → end ≡ Ended [] e → IsAgain o end d
-ended_again o d ls e end same is = subst (λ (o : Outcome). IsAgain o end d) same is
+pub ended_again : (o : Outcome) (d : Configuration) (ls : List Line) (e : Ending) (end : StepEnd) → outcome_of (Ended ls e) d ≡ o → end ≡ Ended [] e → outcome_of end d ≡ without_lines o
+ended_again o d ls e end same is = ap (λ (end : StepEnd). outcome_of end d) is ∙ ap without_lines same
 
 pub ruleset machines = (steps_there, steps_answer, went_again, ended_again)

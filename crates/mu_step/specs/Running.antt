@@ -1,11 +1,10 @@
 -- To believe: what contracts see of a machine.
-use Rattle.std.specs.Prelude.{◌≡◌, Bool, true, false, List, []}
+use Rattle.std.specs.Prelude.{Bool, true, false, List, []}
 use Rattle.ir_tree.specs.declared.items.Item.{Item}
 use Rattle.mu_model.specs.declared.endings.StepEnd.{StepEnd}
 use Rattle.mu_model.specs.declared.endings.StepEnd.TheVariants.{Went, Ended}
 use Rattle.mu_model.specs.Configuration.{Configuration}
 use Rattle.mu_model.specs.Outcomes.{Outcome, End}
-use Rattle.thread_acts.specs.Outcome.{outcome_of}
 
 -- the bundle that it runs, where its run has come, and whether it has told the ending
 pub record Running : Type 0 where
@@ -17,7 +16,7 @@ abbrev pub gives_ending : StepEnd → Bool
 gives_ending (Went ls) = false
 gives_ending (Ended ls e) = true
 
--- what a step answers, with this configuration, once an ending was told: an ending comes without lines, and any other outcome as it is
-abbrev pub IsAgain : Outcome → StepEnd → Configuration → Type 0
-IsAgain (End ls e) end c = end ≡ Ended [] e
-IsAgain o end c = outcome_of end c ≡ o
+-- once an ending was told it comes without lines, and any other outcome as it is
+abbrev pub without_lines : Outcome → Outcome
+without_lines (End ls e) = End [] e
+without_lines o = o

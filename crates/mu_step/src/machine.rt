@@ -6,7 +6,7 @@ ghost use Rattle.mu_model.specs.Programs.{named};
 ghost use Rattle.mu_model.specs.Outcomes.{Stuck};
 ghost use Rattle.mu_model.specs.Step.{step};
 ghost use Rattle.mu_model.specs.Run.{cells_left, first_configuration, client_answers};
-ghost use Rattle.mu_step.specs.Running.{gives_ending, IsAgain};
+ghost use Rattle.mu_step.specs.Running.{gives_ending, without_lines};
 ghost use Rattle.thread_acts.specs.Outcome.{outcome_of, Stays};
 
 use crate::at_once::step_at_once;
@@ -128,7 +128,7 @@ impl<'a, M: Memory + Drop, C: Determined + Drop> Machine<'a, M, C> {
     pub fn step(&mut self) -> Result<StepEnd, AllocError>
         requires there { client_answers (named self.old.bundle) self.old.configuration.client (step (named self.old.bundle) self.old.configuration) ≢ Stuck }
         ensures ok { IfOk result (λ end. self.old.ended ≡ false → outcome_of end self.new.configuration ≡ client_answers (named self.old.bundle) self.old.configuration.client (step (named self.old.bundle) self.old.configuration)) }
-        ensures again { IfOk result (λ end. self.old.ended ≡ true → IsAgain (client_answers (named self.old.bundle) self.old.configuration.client (step (named self.old.bundle) self.old.configuration)) end self.new.configuration) }
+        ensures again { IfOk result (λ end. self.old.ended ≡ true → outcome_of end self.new.configuration ≡ without_lines (client_answers (named self.old.bundle) self.old.configuration.client (step (named self.old.bundle) self.old.configuration))) }
         ensures ended { IfOk result (λ end. self.new.ended ≡ (self.old.ended || gives_ending end)) }
         ensures bundle { self.new.bundle ≡ self.old.bundle }
         ensures err { OnErr result (self.new ≡ self.old) }

@@ -5,7 +5,7 @@ use Rattle.type_laws.specs.declared.definition.TypeDef.{TypeDef}
 use Rattle.type_laws.specs.Definition.{arguments}
 use Rattle.mu_types.specs.Implied.{complete}
 
--- so many definitions, so many with the implied ones, and each argument below a number
+-- so many definitions; so many with the implied ones: at most three for each, and seven; and each argument below a number
 pub record IsDrawn (g : List TypeDef) (count whole top : ℕ) : Type 0 where
   pub counted : length g ≡ count
   pub completed : length (complete g) ≡ whole

@@ -92,6 +92,7 @@ fn takes_two_lists_for_one(rt: HostRuntime) -> Result<(), Fail> {
     assert_eq!(rt; types.class(4), 2);
     assert_eq!(rt; types.leaves(3), [0, 2].as_slice());
     assert!(rt; matches!(types.definition(4), TypeDef::Ref(3)));
+    assert!(rt; matches!(types.definition(21), TypeDef::Iref(5)));
     assert_eq!(rt; types.implied(Implied::Int1), 6);
     Ok(())
 }
@@ -325,8 +326,18 @@ fn has_classes(known: &Known, alike: &[bool]) -> bool {
     true
 }
 
-fn is_as_said(known: &Known, alike: &[bool], leaves: &[Vec<u32>]) -> bool {
-    if known.count() != leaves.len() || !has_classes(known, alike) {
+// whether the last of so many definitions is the iref of void, which stands behind the written ones
+fn ends_at_void(known: &Known, many: usize, written: usize) -> bool {
+    if many == 0 || many > known.count() || many > 65536 {
+        return false;
+    }
+    let last = known.classes().definition((many - 1) as u32);
+    matches!(last, TypeDef::Iref(t) if *t as usize == written)
+}
+
+fn is_as_said(known: &Known, written: usize, alike: &[bool], leaves: &[Vec<u32>]) -> bool {
+    let many = leaves.len();
+    if known.count() != many || !ends_at_void(known, many, written) || !has_classes(known, alike) {
         return false;
     }
     for t in 0..leaves.len() {
@@ -392,7 +403,7 @@ fn compare(alloc: Global, dice: &mut Dice, tally: &mut Tally) -> Result<(), Allo
                 count_one(&mut tally.twins);
             }
             let is_met = match known {
-                Some(Ok(known)) => is_as_said(&known, &alike, &leaves),
+                Some(Ok(known)) => is_as_said(&known, written, &alike, &leaves),
                 _ => false,
             };
             if !is_met {

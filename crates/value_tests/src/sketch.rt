@@ -57,7 +57,7 @@ impl Sketch {
         Ok(())
     }
 
-    /// What is known of the graph, where each argument is an id of it and it is not too large to be judged.
+    /// The classes of the graph, or its first fault. None where an argument is no id of it, or where it is too large to be judged.
     #[tactic(auto, using(crate::proofs::Sketches::drawn_graph))]
     pub fn judged(self, alloc: Global) -> Option<Result<Known, TypeFault>> {
         let Sketch {
