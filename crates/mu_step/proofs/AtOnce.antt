@@ -1,8 +1,9 @@
 -- Lemmas of steps that are made at once.
-use Rattle.std.proofs.Common.{◌≡◌, ◌≢◌, ℕ, List, [], Option, Some, None, IfSome, sym, ◌∙◌, ap}
+use Rattle.std.proofs.Common.{◌≡◌, ◌≢◌, ℕ, List, [], Option, Some, None, IfSome, slice_get, sym, ◌∙◌, ap}
 use Rattle.ir_tree.specs.declared.items.Item.{Item}
 use Rattle.code_check.specs.declared.code.Code.{Code}
 use Rattle.bundle_check.specs.declared.code.BlockCode.{BlockCode}
+use Rattle.bundle_check.specs.Checking.{bundle_blocks}
 use Rattle.frames.specs.Activations.{Value, Activation}
 use Rattle.mu_model.specs.declared.endings.StepEnd.TheVariants.{Went}
 use Rattle.mu_model.specs.Acts.{Act}
@@ -11,9 +12,11 @@ use Rattle.mu_model.specs.Outcomes.{Outcome, Stuck}
 use Rattle.mu_model.specs.Step.{step}
 use Rattle.model_numbers.specs.Forms.{act_at}
 use Rattle.model_numbers.specs.Numbered.{numbered}
+use Rattle.step_forms.specs.CaseRows.{cases_of, cases_in, cases_at}
 use Rattle.thread_acts.specs.Held.{Held, configuration}
 use Rattle.thread_acts.specs.Outcome.{outcome_of}
 use Rattle.thread_acts.specs.Acting.{answers, acting, stepping, told}
+use Rattle.thread_acts.specs.StepLaws.{code_is}
 use Rattle.mu_step.proofs.AskViews.{AsksAt}
 
 -- what is decided at once is what the instruction asks
@@ -29,6 +32,10 @@ pub asked_crossing : {A : Type 0} (bundle : List Item) (s : Held) (f : Activatio
 asked_crossing bundle s f b i j cs vs (Some a) act at same classes vars h =
     at.acts (act a) (ap (λ cs. act_at bundle cs f.vars i.form) (sym classes) ∙ ap (λ vs. act_at bundle cs vs i.form) (sym vars) ∙ ap (λ (i : Code). act_at bundle cs vs i.form) same ∙ h)
 asked_crossing bundle s f b i j cs vs None act at same classes vars h = tt
+
+-- the cases of what stands at a place
+pub cases_stand : (bundle : List Item) (s : Held) (f : Activation) (b : BlockCode) (i j : Code) → AsksAt bundle s f b i → i ≡ j → slice_get (bundle_blocks bundle) f.block ≡ Some b → cases_of j.form ≡ cases_at bundle f.block f.at
+cases_stand bundle s f b i j at same there = sym (ap cases_in (code_is bundle f.block f.at b i there at.there) ∙ ap (λ (i : Code). cases_of i.form) same)
 
 -- an act that the step is has a rule where the step has one
 pub acting_at_once : (bundle : List Item) (s : Held) (a : Act) → stepping bundle s ≢ Stuck → stepping bundle s ≡ acting bundle s a → acting bundle s a ≢ Stuck

@@ -8,6 +8,7 @@ ghost use Rattle.model_numbers.specs.Forms.{act_at};
 ghost use Rattle.model_numbers.specs.Numbered.{numbered};
 ghost use Rattle.step_forms.specs.Asked.{asked, lists_of};
 ghost use Rattle.step_forms.specs.AtOnce.{decided};
+ghost use Rattle.step_forms.specs.CaseRows.{cases_of, cases_at};
 ghost use Rattle.thread_acts.specs.Held.{configuration};
 ghost use Rattle.thread_acts.specs.Outcome.{outcome_of};
 ghost use Rattle.thread_acts.specs.Acting.{answers, acting, stepping, told};
@@ -20,7 +21,7 @@ use code_check::{ControlForm, Form};
 use mem_axioms::Memory;
 use mu_values::Slots;
 use std::alloc::Global;
-use step_forms::{Act, AtOnce, Room, Variables, call, decide_at_once, ret};
+use step_forms::{Act, AtOnce, CaseRows, Room, Variables, call, decide_at_once, ret};
 use thread_acts::state::State;
 
 /// What the thread's next instruction asks, where that is decided at once, with values in the list.
@@ -46,16 +47,23 @@ fn asks_at_once<M: Memory, C: Determined>(
     )
 }
 
-/// What a call or a return does, with values and classes in the room. None comes for other instructions, and where no memory is found.
+/// What a call, a return or a SWITCH does that stands at this place, with values and classes in the room. None comes for other
+/// instructions, and where no memory is found.
 fn decide_crossing(
     code: &Checked,
+    rows: &mut CaseRows,
+    block: u32,
+    at: u32,
     types: &[u32],
     vars: &Variables,
     form: &Form,
     room: &mut Room,
 ) -> Option<Act>
-    requires { IsSome (act_at code.now types.now vars.now form.now) }
-    ensures { IfSome result (λ act. act_at code.now types.now vars.now form.now ≡ Some (asked act (lists_of room.new))) }
+    requires code { rows.old ≡ code.now }
+    requires place { cases_of form.now ≡ cases_at code.now block at }
+    requires there { IsSome (act_at code.now types.now vars.now form.now) }
+    ensures act { IfSome result (λ act. act_at code.now types.now vars.now form.now ≡ Some (asked act (lists_of room.new))) }
+    ensures same { rows.new ≡ rows.old }
 {
     match form {
         Form::Control(
@@ -68,26 +76,53 @@ fn decide_crossing(
         Form::Control(ControlForm::Ret { values }) => {
             ret(code, types, vars, values.as_slice(), room).ok()
         }
+        Form::Control(
+            ControlForm::Switch {
+                operand,
+                default,
+                cases,
+                ..
+            },
+        ) => {
+            let values = &mut room.values;
+            let block = rows.arrive(
+                code,
+                block,
+                at,
+                vars,
+                *operand,
+                default,
+                cases.as_slice(),
+                values,
+            )?;
+            Some(Act::Goes { block })
+        }
         _ => None,
     }
 }
 
-/// What the thread's next instruction asks, where that is a call or a return.
+/// What the thread's next instruction asks, where that is a call, a return or a SWITCH.
 #[tactic(auto, using(thread_acts::specs::StepLaws::running))]
 fn asks_crossing<M: Memory, C: Determined>(
     state: &State<M, C>,
     code: &Checked,
+    rows: &mut CaseRows,
     room: &mut Room,
 ) -> Option<Act>
+    requires code { rows.old ≡ code.now }
     requires waits { GoesOn state.now }
     requires there { stepping code.now state.now ≢ Stuck }
-    ensures { IfSome result (λ act. stepping code.now state.now ≡ acting code.now state.now (asked act (lists_of room.new))) }
+    ensures act { IfSome result (λ act. stepping code.now state.now ≡ acting code.now state.now (asked act (lists_of room.new))) }
+    ensures same { rows.new ≡ rows.old }
 {
     let top = state.frames.top();
     let block = code.block(top.block);
     let form = &block.code.as_slice()[top.at as usize].form;
     decide_crossing(
         code,
+        rows,
+        top.block,
+        top.at,
         block.classes.as_slice(),
         &Variables::of(&top.slots),
         form,
@@ -95,25 +130,32 @@ fn asks_crossing<M: Memory, C: Determined>(
     )
 }
 
-/// The thread calls a function or returns from one at once, or nothing changes.
-#[tactic(auto, using(crate::proofs::AtOnce::acting_at_once))]
+/// The thread calls a function, returns from one or does a SWITCH at once, or nothing changes.
+#[tactic(auto, using(crate::proofs::AtOnce::acting_at_once, thread_acts::specs::ActLaws::goes_is))]
 fn cross_at_once<M: Memory, C: Determined>(
     state: &mut State<M, C>,
     alloc: Global,
     code: &Checked,
+    rows: &mut CaseRows,
     room: &mut Room,
     out: &mut Slots,
 ) -> bool
+    requires code { rows.old ≡ code.now }
     requires left { state.old.left ≡ true }
     requires room { state.old.steps < state.old.budget }
     requires waits { GoesOn state.old }
     requires there { stepping code.now state.old ≢ Stuck }
     ensures made { result ≡ true → answers (Went []) state.new ≡ stepping code.now state.old }
     ensures left { result ≡ false → state.new ≡ state.old }
+    ensures same { rows.new ≡ rows.old }
 {
-    match asks_crossing(state, code, room) {
+    match asks_crossing(state, code, rows, room) {
         Some(Act::Calls { function }) => state.call_at_once(alloc, code, function, room),
         Some(Act::Returns) => state.return_at_once(code, room, out),
+        Some(Act::Goes { block }) => {
+            state.go_at_once(block, &mut room.values);
+            true
+        }
         _ => false,
     }
 }
@@ -124,15 +166,18 @@ fn run_at_once<M: Memory, C: Determined>(
     state: &mut State<M, C>,
     alloc: Global,
     code: &Checked,
+    rows: &mut CaseRows,
     room: &mut Room,
     out: &mut Slots,
 ) -> bool
+    requires code { rows.old ≡ code.now }
     requires left { state.old.left ≡ true }
     requires room { state.old.steps < state.old.budget }
     requires waits { GoesOn state.old }
     requires there { stepping code.now state.old ≢ Stuck }
     ensures made { result ≡ true → answers (Went []) state.new ≡ stepping code.now state.old }
     ensures left { result ≡ false → state.new ≡ state.old }
+    ensures same { rows.new ≡ rows.old }
 {
     match asks_at_once(state, code, &mut room.values) {
         AtOnce::Gives(scalar) => state.give_at_once(code, scalar),
@@ -140,7 +185,7 @@ fn run_at_once<M: Memory, C: Determined>(
             state.go_at_once(block, &mut room.values);
             true
         }
-        AtOnce::Other => cross_at_once(state, alloc, code, room, out),
+        AtOnce::Other => cross_at_once(state, alloc, code, rows, room, out),
     }
 }
 
@@ -150,18 +195,21 @@ fn turn_at_once<M: Memory, C: Determined>(
     state: &mut State<M, C>,
     alloc: Global,
     code: &Checked,
+    rows: &mut CaseRows,
     room: &mut Room,
     out: &mut Slots,
 ) -> bool
+    requires code { rows.old ≡ code.now }
     requires left { state.old.left ≡ true }
     requires room { state.old.steps < state.old.budget }
     requires there { told code.now state.old.client (stepping code.now state.old) ≢ Stuck }
     ensures made { result ≡ true → answers (Went []) state.new ≡ told code.now state.old.client (stepping code.now state.old) }
     ensures left { result ≡ false → state.new ≡ state.old }
+    ensures same { rows.new ≡ rows.old }
 {
     match state.seats.waiting(state.thread) {
         Some(_cell) => false,
-        None => run_at_once(state, alloc, code, room, out),
+        None => run_at_once(state, alloc, code, rows, room, out),
     }
 }
 
@@ -170,21 +218,24 @@ pub(crate) fn step_at_once<M: Memory, C: Determined>(
     state: &mut State<M, C>,
     alloc: Global,
     code: &Checked,
+    rows: &mut CaseRows,
     room: &mut Room,
     out: &mut Slots,
 ) -> bool
+    requires code { rows.old ≡ code.now }
     requires whole { state.old.skip ≡ 0 }
     requires there { told code.now state.old.client (step (numbered code.now) (configuration state.old)) ≢ Stuck }
     ensures made { result ≡ true → outcome_of (Went []) (configuration state.new) ≡ told code.now state.old.client (step (numbered code.now) (configuration state.old)) }
     ensures left { result ≡ false → configuration state.new ≡ configuration state.old }
     ensures whole { state.new.skip ≡ 0 }
+    ensures same { rows.new ≡ rows.old }
 {
     let many = state.seats.runnable();
     if many == 0 || state.steps == state.budget {
         return false;
     }
     pick_thread(state, many);
-    let made = turn_at_once(state, alloc, code, room, out);
+    let made = turn_at_once(state, alloc, code, rows, room, out);
     settle(state, made);
     made
 }

@@ -20,7 +20,7 @@ use mu_threads::Schedule;
 use mu_values::Slots;
 use std::alloc::{AllocError, Global};
 use std::marker::Model;
-use step_forms::Room;
+use step_forms::{CaseRows, Room};
 use thread_acts::state::State;
 use typed_heap::Heap;
 
@@ -31,6 +31,7 @@ pub struct Machine<'a, M: Memory, C: Determined> {
     alloc: Global,
     code: &'a Checked,
     state: State<M, C>,
+    rows: CaseRows<'a>,
     // What these hold between steps means nothing.
     room: Room,
     spare: Slots,
@@ -46,7 +47,7 @@ impl<'a, M: Memory, C: Determined> Model for Machine<'a, M, C> {
 
     ghost view = { λ m. record { bundle = m.code.now; configuration = configuration m.state; ended = m.ended } };
 
-    ghost invariant = { λ m. m.state.skip ≡ 0 };
+    ghost invariant = { λ m. (m.state.skip ≡ 0) × (m.rows ≡ m.code.now) };
 }
 
 impl<'a, M: Memory + Drop, C: Determined + Drop> Machine<'a, M, C> {
@@ -79,6 +80,7 @@ impl<'a, M: Memory + Drop, C: Determined + Drop> Machine<'a, M, C> {
             alloc,
             code,
             state,
+            rows: CaseRows::new(alloc, code),
             room: Room::new(alloc),
             spare: Slots::new(alloc),
             ended: false,
@@ -86,8 +88,9 @@ impl<'a, M: Memory + Drop, C: Determined + Drop> Machine<'a, M, C> {
     }
 
     /// Makes the next step where that is a frequent one, which writes nothing: an instruction that computes a scalar, that only goes to a
-    /// block, that calls a function, or that returns to the frame below. It takes no memory once the lists of the block are long enough, but
-    /// for what a call keeps until its return. Else nothing changes, and `step` makes it.
+    /// block, that calls a function, that returns to the frame below, or that is a SWITCH. It takes no memory once the lists of the block
+    /// are long enough, but for what a call keeps until its return, and for a row of the constants of a SWITCH, which is made when that is
+    /// first come to. Else nothing changes, and `step` makes it.
     #[tactic(auto, using(crate::specs::Machines::machines))]
     pub fn advance(&mut self) -> bool
         requires there { client_answers (named self.old.bundle) self.old.configuration.client (step (named self.old.bundle) self.old.configuration) ≢ Stuck }
@@ -103,6 +106,7 @@ impl<'a, M: Memory + Drop, C: Determined + Drop> Machine<'a, M, C> {
             &mut self.state,
             self.alloc,
             code,
+            &mut self.rows,
             &mut self.room,
             &mut self.spare,
         )

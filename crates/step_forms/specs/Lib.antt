@@ -1,6 +1,7 @@
 pub mod AccessLaws
 pub mod Asked
 pub mod AtOnce
+pub mod CaseRows
 pub mod Classes
 pub mod ConstantLaws
 pub mod OperandLaws

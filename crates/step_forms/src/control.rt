@@ -97,7 +97,7 @@ pub fn branch2(
 #[tactic(auto, using(crate::specs::OperandLaws::same_told))]
 #[cold]
 #[inline(never)]
-fn is_equal(a: &Scalar, b: &Scalar) -> bool
+pub(crate) fn is_equal(a: &Scalar, b: &Scalar) -> bool
     ensures { result ≡ same_scalar a.now b.now }
 {
     *a == *b

@@ -1,0 +1,229 @@
+// The constants of the cases of a SWITCH in a row, so that a step looks at few bytes for each case.
+ghost use Rattle.std.specs.Prelude.{◌≡◌, ◌+◌, ◌<◌, ◌≤◌, List, [], Some, IsSome, IsSomeAnd, IfSome, IfOk, OnOk, length, map, slice_get};
+ghost use Rattle.mu_values.specs.SameScalar.{same_scalar};
+ghost use Rattle.ir_tree.specs.declared.items.Item.{Item};
+ghost use Rattle.bundle_constants.specs.Bundle.{constant_values};
+ghost use Rattle.bundle_check.specs.Checking.{bundle_tables};
+ghost use Rattle.mu_model.specs.Acts as acts;
+ghost use Rattle.mu_model.specs.Operands.{scalar_in};
+ghost use Rattle.mu_model.specs.ControlForms.{switch_act};
+ghost use Rattle.model_numbers.specs.Sources.{value_at, goal_at};
+ghost use Rattle.model_numbers.specs.Forms.{arm_at};
+ghost use Rattle.step_forms.specs.CaseRows.{half_of, half_in, constant_half, case_half, cases_at, AreRows};
+
+use crate::control::{arrive, is_equal};
+use crate::operands::{constant, lent, scalar};
+use crate::variables::Variables;
+use bundle_check::Checked;
+use code_check::{CaseForm, Source, Target};
+use mu_values::{Scalar, Slots};
+use std::alloc::{AllocError, Global};
+use std::marker::Model;
+
+/// The lower half of an integer, and 0 of other scalars.
+#[inline]
+fn half(scalar: &Scalar) -> u64
+    ensures { result ≡ half_of scalar.now }
+{
+    match scalar {
+        Scalar::Int { bits, .. } => (*bits % 18446744073709551616) as u64,
+        _ => 0,
+    }
+}
+
+/// That of a value of one scalar, and 0 of other values.
+fn half_in(value: &[Scalar]) -> u64
+    ensures { result ≡ half_in (Some value.now) }
+{
+    match value {
+        [scalar] => half(scalar),
+        _ => 0,
+    }
+}
+
+/// That of a constant, and 0 where there is none.
+#[tactic(auto, using(crate::specs::CaseRows::constants))]
+fn constant_half(code: &Checked, n: u32) -> u64
+    ensures { result ≡ constant_half code.now n }
+{
+    if (n as usize) < code.constants() {
+        half_in(code.constant(n).as_slice())
+    } else {
+        0
+    }
+}
+
+/// Those of the constants of cases.
+fn halves(alloc: Global, code: &Checked, cases: &[CaseForm]) -> Result<Vec<u64>, AllocError>
+    ensures { IfOk result (λ row. row.items ≡ map (case_half code.now) cases.now) }
+{
+    let mut row = Vec::new(alloc);
+    let mut left = cases;
+    'each: while let [case, more @ ..] = left {
+        row.push(constant_half(code, case.constant))?;
+        left = more;
+    }
+    Ok(row)
+}
+
+/// Whether a scalar is a constant. The lower halves come first: most that differ do so there.
+#[tactic(auto, using(crate::specs::CaseRows::halves, crate::specs::OperandLaws::operands))]
+#[inline(always)]
+fn is_constant(code: &Checked, wanted: &Scalar, half: u64, other: u64, n: u32) -> bool
+    requires there { IsSome (scalar_in (slice_get (constant_values (bundle_tables code.now) code.now) n)) }
+    requires half { half ≡ half_of wanted.now }
+    requires other { other ≡ constant_half code.now n }
+    ensures { IsSomeAnd (scalar_in (slice_get (constant_values (bundle_tables code.now) code.now) n)) (λ c. result ≡ same_scalar wanted.now c) }
+{
+    half == other && is_equal(wanted, lent(constant(code, n)))
+}
+
+/// SWITCH, with the lower halves of its constants in a row. It looks at the cases in order, up to the first that is equal. None comes
+/// only where no memory is found.
+#[tactic(auto, using(crate::specs::OperandLaws::operands))]
+fn arrive_by_row(
+    code: &Checked,
+    vars: &Variables,
+    operand: Source,
+    default: &Target,
+    cases: &[CaseForm],
+    row: &[u64],
+    values: &mut Slots,
+) -> Option<u32>
+    requires there { IsSome (switch_act (value_at code.now vars.now operand) (goal_at code.now vars.now default.now) (map (arm_at code.now vars.now) cases.now)) }
+    requires row { row.now ≡ map (case_half code.now) cases.now }
+    ensures { IfSome result (λ block. switch_act (value_at code.now vars.now operand) (goal_at code.now vars.now default.now) (map (arm_at code.now vars.now) cases.now) ≡ Some (acts.Goes (record { block = block; values = values.new.values }))) }
+{
+    let wanted = scalar(code, vars, operand);
+    let half = half(&wanted);
+    let mut left = cases;
+    let mut halves = row;
+    'cases: while let [other, rest @ ..] = halves {
+        let [case, more @ ..] = left else {
+            unreachable!()
+        };
+        if is_constant(code, &wanted, half, *other, case.constant) {
+            return arrive(code, vars, &case.target, values);
+        }
+        left = more;
+        halves = rest;
+    }
+    arrive(code, vars, default, values)
+}
+
+/// What is kept of a block: the lower halves of the constants of the SWITCH that stands at a place of it.
+#[derive(Drop)]
+pub(crate) struct Row {
+    pub at: u32,
+    pub halves: Vec<u64>,
+}
+
+/// Rows of the constants of each SWITCH that was come to, by block. Contracts see the bundle. A row is made once, when it is first
+/// asked for, so that a run which comes to no SWITCH takes no memory for them.
+#[derive(Drop)]
+pub struct CaseRows<'a> {
+    alloc: Global,
+    code: &'a Checked,
+    rows: Vec<Option<Row>>,
+}
+
+impl<'a> Model for CaseRows<'a> {
+    ghost use Rattle.std.specs.Prelude.{List};
+    ghost use Rattle.ir_tree.specs.declared.items.Item.{Item};
+    ghost use Rattle.step_forms.specs.CaseRows.{AreRows};
+
+    ghost Value = { List Item };
+
+    ghost view = { λ r. r.code.now };
+
+    ghost invariant = { λ r. AreRows r.code.now r.rows.items };
+}
+
+#[inline]
+fn kept(rows: &[Option<Row>], block: usize) -> &Option<Row>
+    requires { block < length rows.now }
+    ensures { slice_get rows.now block ≡ Some result.now }
+{
+    &rows[block]
+}
+
+/// Adds rows that are not made yet, until there is one of this block.
+#[tactic(auto, using(crate::specs::CaseRows::rows))]
+fn reach(rows: &mut Vec<Option<Row>>, block: usize) -> Result<(), AllocError>
+    ensures rows { (bundle : List Item) → AreRows bundle rows.old.items → AreRows bundle rows.new.items }
+    ensures there { OnOk result (block < length rows.new.items) }
+{
+    while rows.len() <= block {
+        rows.push(None)?;
+    }
+    Ok(())
+}
+
+impl<'a> CaseRows<'a> {
+    /// No rows. It takes no memory yet.
+    #[tactic(auto, using(crate::specs::CaseRows::rows))]
+    pub fn new(alloc: Global, code: &'a Checked) -> CaseRows<'a>
+        ensures { result ≡ code.now }
+    {
+        CaseRows {
+            alloc,
+            code,
+            rows: Vec::new(alloc),
+        }
+    }
+
+    /// The row of the SWITCH at a place, where it was made.
+    #[tactic(auto, using(crate::specs::CaseRows::found))]
+    #[inline]
+    fn row(&self, block: u32, at: u32) -> Option<&[u64]>
+        ensures { IfSome result (λ row. row.now ≡ map (case_half self.now) (cases_at self.now block at)) }
+    {
+        let block = block as usize;
+        if block >= self.rows.len() {
+            return None;
+        }
+        match kept(&self.rows, block) {
+            Some(row) if row.at == at => Some(row.halves.as_slice()),
+            _ => None,
+        }
+    }
+
+    /// Makes the row of the SWITCH at a place, which has these cases.
+    #[tactic(auto, using(crate::specs::CaseRows::rows))]
+    #[cold]
+    #[inline(never)]
+    fn make(&mut self, block: u32, at: u32, cases: &[CaseForm]) -> Result<(), AllocError>
+        requires { cases.now ≡ cases_at self.old block at }
+        ensures { self.new ≡ self.old }
+    {
+        let halves = halves(self.alloc, self.code, cases)?;
+        reach(&mut self.rows, block as usize)?;
+        self.rows[block as usize] = Some(Row { at, halves });
+        Ok(())
+    }
+
+    /// The block that the SWITCH at a place goes to, with the values for it in the list. None comes only where no memory is found.
+    pub fn arrive(
+        &mut self,
+        code: &Checked,
+        block: u32,
+        at: u32,
+        vars: &Variables,
+        operand: Source,
+        default: &Target,
+        cases: &[CaseForm],
+        values: &mut Slots,
+    ) -> Option<u32>
+        requires code { self.old ≡ code.now }
+        requires place { cases.now ≡ cases_at code.now block at }
+        requires there { IsSome (switch_act (value_at code.now vars.now operand) (goal_at code.now vars.now default.now) (map (arm_at code.now vars.now) cases.now)) }
+        ensures goes { IfSome result (λ block. switch_act (value_at code.now vars.now operand) (goal_at code.now vars.now default.now) (map (arm_at code.now vars.now) cases.now) ≡ Some (acts.Goes (record { block = block; values = values.new.values }))) }
+        ensures same { self.new ≡ self.old }
+    {
+        if self.row(block, at).is_none() {
+            self.make(block, at, cases).ok()?;
+        }
+        let row = self.row(block, at)?;
+        arrive_by_row(code, vars, operand, default, cases, row, values)
+    }
+}
