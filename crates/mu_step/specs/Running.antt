@@ -16,7 +16,7 @@ abbrev pub gives_ending : StepEnd → Bool
 gives_ending (Went ls) = false
 gives_ending (Ended ls e) = true
 
--- once an ending was told it comes without lines, and any other outcome as it is
+-- an outcome as it comes once the ending was told: an ending without its lines, any other as it is
 abbrev pub without_lines : Outcome → Outcome
 without_lines (End ls e) = End [] e
 without_lines o = o

@@ -47,9 +47,9 @@ fn asks_at_once<M: Memory, C: Determined>(
     )
 }
 
-/// What a call, a return or a SWITCH does that stands at this place, with values and classes in the room. None comes for other
-/// instructions, and where no memory is found.
-fn decide_crossing(
+/// What the instruction at this place does, where it is a call, a return or a SWITCH, with values and classes in the room. None comes
+/// for other instructions, and where no memory is found.
+fn decide_with_room(
     code: &Checked,
     rows: &mut CaseRows,
     block: u32,
@@ -103,7 +103,7 @@ fn decide_crossing(
 
 /// What the thread's next instruction asks, where that is a call, a return or a SWITCH.
 #[tactic(auto, using(thread_acts::specs::StepLaws::running))]
-fn asks_crossing<M: Memory, C: Determined>(
+fn asks_with_room<M: Memory, C: Determined>(
     state: &State<M, C>,
     code: &Checked,
     rows: &mut CaseRows,
@@ -118,7 +118,7 @@ fn asks_crossing<M: Memory, C: Determined>(
     let top = state.frames.top();
     let block = code.block(top.block);
     let form = &block.code.as_slice()[top.at as usize].form;
-    decide_crossing(
+    decide_with_room(
         code,
         rows,
         top.block,
@@ -132,7 +132,7 @@ fn asks_crossing<M: Memory, C: Determined>(
 
 /// The thread calls a function, returns from one or does a SWITCH at once, or nothing changes.
 #[tactic(auto, using(crate::proofs::AtOnce::acting_at_once, thread_acts::specs::ActLaws::goes_is))]
-fn cross_at_once<M: Memory, C: Determined>(
+fn make_with_room<M: Memory, C: Determined>(
     state: &mut State<M, C>,
     alloc: Global,
     code: &Checked,
@@ -149,7 +149,7 @@ fn cross_at_once<M: Memory, C: Determined>(
     ensures left { result ≡ false → state.new ≡ state.old }
     ensures same { rows.new ≡ rows.old }
 {
-    match asks_crossing(state, code, rows, room) {
+    match asks_with_room(state, code, rows, room) {
         Some(Act::Calls { function }) => state.call_at_once(alloc, code, function, room),
         Some(Act::Returns) => state.return_at_once(code, room, out),
         Some(Act::Goes { block }) => {
@@ -185,7 +185,7 @@ fn run_at_once<M: Memory, C: Determined>(
             state.go_at_once(block, &mut room.values);
             true
         }
-        AtOnce::Other => cross_at_once(state, alloc, code, rows, room, out),
+        AtOnce::Other => make_with_room(state, alloc, code, rows, room, out),
     }
 }
 

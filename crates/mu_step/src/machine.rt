@@ -88,9 +88,9 @@ impl<'a, M: Memory + Drop, C: Determined + Drop> Machine<'a, M, C> {
     }
 
     /// Makes the next step where that is a frequent one, which writes nothing: an instruction that computes a scalar, that only goes to a
-    /// block, that calls a function, that returns to the frame below, or that is a SWITCH. It takes no memory once the lists of the block
-    /// are long enough, but for what a call keeps until its return, and for a row of the constants of a SWITCH, which is made when that is
-    /// first come to. Else nothing changes, and `step` makes it.
+    /// block (a SWITCH is one of them), that calls a function, or that returns to the frame below. It takes no memory once the lists of
+    /// the block are long enough, but for what a call keeps until its return, and, when a SWITCH is first come to, for the row of its
+    /// constants and for a place for the row of each block up to its own. Else nothing changes, and `step` makes it.
     #[tactic(auto, using(crate::specs::Machines::machines))]
     pub fn advance(&mut self) -> bool
         requires there { client_answers (named self.old.bundle) self.old.configuration.client (step (named self.old.bundle) self.old.configuration) ≢ Stuck }

@@ -1,5 +1,5 @@
 -- Inner: nothing that a reader believes of a run rests on this. It is what is kept beside the cases of a SWITCH.
-use Rattle.std.specs.Prelude.{◌≡◌, ◌≢◌, ℕ, zero, suc, ◌%◌, ◌≤◌, ◌==◌, false, List, [], ◌∷◌, ◌++◌, Option, Some, None, IsSome, map, length, slice_get, slice_set, refl, ⊤}
+use Rattle.std.specs.Prelude.{◌≡◌, ◌≢◌, ℕ, zero, suc, ◌%◌, ◌^◌, ◌≤◌, ◌==◌, false, List, [], ◌∷◌, ◌++◌, Option, Some, None, IsSome, map, length, slice_get, slice_set, refl, ⊤}
 use Rattle.std.proofs.Common.{sym, ap, arith, subst, ◌⊎◌, inl, inr}
 use Rattle.std.proofs.lemmas.Bool.Decides.{eqb_tells}
 use Rattle.std.proofs.Math.Bool.{and-false}
@@ -22,11 +22,12 @@ use Rattle.step_forms.specs.declared.case_rows.Row.{Row}
 
 -- ---- lower halves
 
--- the lower half of an integer
+-- the lower half of an integer, and 0 of other scalars
 abbrev pub half_of : Scalar → ℕ
-half_of (Int width bits) = bits % 18446744073709551616
+half_of (Int width bits) = bits % 2 ^ 64
 half_of _ = 0
 
+-- that of a value of one scalar, of a constant of a bundle, and of the constant of a case
 abbrev pub half_in : Option Value → ℕ
 half_in (Some (s ∷ [])) = half_of s
 half_in _ = 0
@@ -39,6 +40,7 @@ case_half bundle c = constant_half bundle c.constant
 
 -- ---- the cases of an instruction
 
+-- the cases of a form, of an instruction, and of that at a place of a block: none where that is no SWITCH
 abbrev pub cases_of : Form → List CaseForm
 cases_of (Control (Switch c a t cs)) = cs
 cases_of _ = []
@@ -52,11 +54,12 @@ cases_at bundle block at = cases_in (code_at bundle block at)
 
 -- ---- rows
 
--- what is kept of a block is the halves of an instruction of it
+-- the row of a block has the lower halves of the constants of the SWITCH at its place; one that is not made yet says nothing
 abbrev pub IsRow : List Item → ℕ → Option Row → Type 0
 IsRow bundle block None = ⊤
 IsRow bundle block (Some r) = r.halves.items ≡ map (case_half bundle) (cases_at bundle block r.at)
 
+-- so it is with each block
 abbrev pub AreRows : List Item → List (Option Row) → Type 0
 AreRows bundle rows = (n : ℕ) (r : Option Row) → slice_get rows n ≡ Some r → IsRow bundle n r
 
@@ -98,7 +101,7 @@ pub no_constant : (bundle : List Item) (n : ℕ) → length (bundle_tables bundl
 no_constant bundle n h = none_half _ (λ some. let within = constant_within bundle n some in omega (arith, h, within))
 
 pub halves_differ : (s c : Scalar) → half_of s ≢ half_of c → same_scalar s c ≡ false
-halves_differ (Int w m) (Int v n) h = elim (eqb_tells m n) [ inl t ↦ absurd (h (ap (λ k. k % 18446744073709551616) t.1)) | inr f ↦ rw f.0 (and-false (w == v)) ]
+halves_differ (Int w m) (Int v n) h = elim (eqb_tells m n) [ inl t ↦ absurd (h (ap (λ k. k % 2 ^ 64) t.1)) | inr f ↦ rw f.0 (and-false (w == v)) ]
 halves_differ (Int w m) _ h = refl
 halves_differ _ (Int v n) h = refl
 halves_differ _ _ h = absurd (h refl)

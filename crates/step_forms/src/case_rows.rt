@@ -1,4 +1,4 @@
-// The constants of the cases of a SWITCH in a row, so that a step looks at few bytes for each case.
+// The lower halves of the constants of the cases of a SWITCH, in a row, so that a step looks at eight bytes a case.
 ghost use Rattle.std.specs.Prelude.{◌≡◌, ◌+◌, ◌<◌, ◌≤◌, List, [], Some, IsSome, IsSomeAnd, IfSome, IfOk, OnOk, length, map, slice_get};
 ghost use Rattle.mu_values.specs.SameScalar.{same_scalar};
 ghost use Rattle.ir_tree.specs.declared.items.Item.{Item};
@@ -22,26 +22,26 @@ use std::marker::Model;
 
 /// The lower half of an integer, and 0 of other scalars.
 #[inline]
-fn half(scalar: &Scalar) -> u64
+fn half_of(scalar: &Scalar) -> u64
     ensures { result ≡ half_of scalar.now }
 {
     match scalar {
-        Scalar::Int { bits, .. } => (*bits % 18446744073709551616) as u64,
+        Scalar::Int { bits, .. } => (*bits % (1 << 64)) as u64,
         _ => 0,
     }
 }
 
-/// That of a value of one scalar, and 0 of other values.
+/// The lower half of a value of one integer, and 0 of other values.
 fn half_in(value: &[Scalar]) -> u64
     ensures { result ≡ half_in (Some value.now) }
 {
     match value {
-        [scalar] => half(scalar),
+        [scalar] => half_of(scalar),
         _ => 0,
     }
 }
 
-/// That of a constant, and 0 where there is none.
+/// The lower half of a constant, and 0 where there is none: no contract says that a case behind the first equal one has a constant.
 #[tactic(auto, using(crate::specs::CaseRows::constants))]
 fn constant_half(code: &Checked, n: u32) -> u64
     ensures { result ≡ constant_half code.now n }
@@ -53,11 +53,11 @@ fn constant_half(code: &Checked, n: u32) -> u64
     }
 }
 
-/// Those of the constants of cases.
-fn halves(alloc: Global, code: &Checked, cases: &[CaseForm]) -> Result<Vec<u64>, AllocError>
+/// The lower halves of the constants of cases, in their order.
+fn row_of(alloc: Global, code: &Checked, cases: &[CaseForm]) -> Result<Vec<u64>, AllocError>
     ensures { IfOk result (λ row. row.items ≡ map (case_half code.now) cases.now) }
 {
-    let mut row = Vec::new(alloc);
+    let mut row = Vec::with_capacity(alloc, cases.len())?;
     let mut left = cases;
     'each: while let [case, more @ ..] = left {
         row.push(constant_half(code, case.constant))?;
@@ -66,7 +66,8 @@ fn halves(alloc: Global, code: &Checked, cases: &[CaseForm]) -> Result<Vec<u64>,
     Ok(row)
 }
 
-/// Whether a scalar is a constant. The lower halves come first: most that differ do so there.
+/// Whether a scalar is the value of constant `n`. `half` is its lower half and `other` that of the constant: most that differ do so
+/// there.
 #[tactic(auto, using(crate::specs::CaseRows::halves, crate::specs::OperandLaws::operands))]
 #[inline(always)]
 fn is_constant(code: &Checked, wanted: &Scalar, half: u64, other: u64, n: u32) -> bool
@@ -95,7 +96,7 @@ fn arrive_by_row(
     ensures { IfSome result (λ block. switch_act (value_at code.now vars.now operand) (goal_at code.now vars.now default.now) (map (arm_at code.now vars.now) cases.now) ≡ Some (acts.Goes (record { block = block; values = values.new.values }))) }
 {
     let wanted = scalar(code, vars, operand);
-    let half = half(&wanted);
+    let half = half_of(&wanted);
     let mut left = cases;
     let mut halves = row;
     'cases: while let [other, rest @ ..] = halves {
@@ -111,7 +112,8 @@ fn arrive_by_row(
     arrive(code, vars, default, values)
 }
 
-/// What is kept of a block: the lower halves of the constants of the SWITCH that stands at a place of it.
+/// What is kept of a block: the lower halves of the constants of the SWITCH that stands at a place of it. There is one at most, which
+/// ends the block.
 #[derive(Drop)]
 pub(crate) struct Row {
     pub at: u32,
@@ -119,7 +121,7 @@ pub(crate) struct Row {
 }
 
 /// Rows of the constants of each SWITCH that was come to, by block. Contracts see the bundle. A row is made once, when it is first
-/// asked for, so that a run which comes to no SWITCH takes no memory for them.
+/// asked for, so that a run which comes to no SWITCH takes no memory for them; where none is found it is asked for again the next time.
 #[derive(Drop)]
 pub struct CaseRows<'a> {
     alloc: Global,
@@ -139,6 +141,7 @@ impl<'a> Model for CaseRows<'a> {
     ghost invariant = { λ r. AreRows r.code.now r.rows.items };
 }
 
+/// What is kept of a block.
 #[inline]
 fn kept(rows: &[Option<Row>], block: usize) -> &Option<Row>
     requires { block < length rows.now }
@@ -196,8 +199,8 @@ impl<'a> CaseRows<'a> {
         requires { cases.now ≡ cases_at self.old block at }
         ensures { self.new ≡ self.old }
     {
-        let halves = halves(self.alloc, self.code, cases)?;
         reach(&mut self.rows, block as usize)?;
+        let halves = row_of(self.alloc, self.code, cases)?;
         self.rows[block as usize] = Some(Row { at, halves });
         Ok(())
     }

@@ -1,5 +1,5 @@
 // Instructions that say where the function goes on, or that enter or leave one.
-ghost use Rattle.std.specs.Prelude.{◌≡◌, ◌%◌, ◌^◌, map, Some, IsSome, IfSome, IfOk};
+ghost use Rattle.std.specs.Prelude.{◌≡◌, map, Some, IsSome, IfSome, IfOk};
 ghost use Rattle.mu_values.specs.SameScalar.{same_scalar};
 ghost use Rattle.bundle_check.specs.Checking.{bundle_tables};
 ghost use Rattle.typed_heap.specs.Places.{with_some};
@@ -93,7 +93,7 @@ pub fn branch2(
     }
 }
 
-/// Whether two scalars are one, by all that they hold. It stays out of the way of a loop that seldom comes to it.
+/// Whether two scalars are one, by all that they hold. It stays out of the way of the row of a SWITCH, which seldom comes to it.
 #[tactic(auto, using(crate::specs::OperandLaws::same_told))]
 #[cold]
 #[inline(never)]
@@ -101,27 +101,6 @@ pub(crate) fn is_equal(a: &Scalar, b: &Scalar) -> bool
     ensures { result ≡ same_scalar a.now b.now }
 {
     *a == *b
-}
-
-/// The lower half of the bits of an integer.
-#[inline]
-fn lower_half(bits: u128) -> u128
-    ensures { result ≡ bits % 2 ^ 64 }
-{
-    bits & 0xFFFF_FFFF_FFFF_FFFF
-}
-
-/// Whether two scalars are one. Of integers the lower halves come first: most that differ do so there.
-#[inline]
-fn is_same(a: &Scalar, b: &Scalar) -> bool
-    ensures { result ≡ same_scalar a.now b.now }
-{
-    match (a, b) {
-        (Scalar::Int { bits, .. }, Scalar::Int { bits: other, .. }) => {
-            lower_half(*bits) == lower_half(*other) && is_equal(a, b)
-        }
-        _ => is_equal(a, b),
-    }
 }
 
 /// SWITCH. It looks at the cases in order, up to the first that is equal.
@@ -140,7 +119,7 @@ pub fn switch(
     let wanted = scalar(code, vars, operand);
     let mut left = cases;
     'cases: while let [case, more @ ..] = left {
-        if is_same(&wanted, lent(constant(code, case.constant))) {
+        if is_equal(&wanted, lent(constant(code, case.constant))) {
             return branch(code, vars, &case.target, room);
         }
         left = more;

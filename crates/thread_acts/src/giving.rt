@@ -38,7 +38,8 @@ impl<M: Memory, C: Determined> State<M, C> {
         Ok(self.went(alloc))
     }
 
-    /// The thread's instruction has one result, of one scalar, which is given by way of the lists.
+    /// The thread's instruction has one result, of one scalar, which is given by way of the lists. Where no memory is found the state is
+    /// as before; the lists may have changed.
     fn give_one(
         &mut self,
         alloc: Global,
@@ -59,7 +60,8 @@ impl<M: Memory, C: Determined> State<M, C> {
         self.give(alloc, code, values, out)
     }
 
-    /// The thread's instruction has one result, of one scalar.
+    /// The thread's instruction has one result, of one scalar. Where no memory is found the state is as before; the lists may have
+    /// changed.
     pub fn give_scalar(
         &mut self,
         alloc: Global,

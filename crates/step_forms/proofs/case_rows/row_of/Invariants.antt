@@ -1,6 +1,6 @@
 use Rattle.std.proofs.Common.{◌≡◌, ◌++◌, map, length}
 use Rattle.step_forms.specs.CaseRows.{case_half}
-use Rattle.step_forms.proofs.case_rows.halves.Given as goal
+use Rattle.step_forms.proofs.case_rows.row_of.Given as goal
 
 abbrev pub invariant-each : goal.invariant-each
 invariant-each l = l.row.items ++ map (case_half l.code) l.left ≡ map (case_half l.code) l.fn.cases
