@@ -26,29 +26,12 @@ number_of_sources() {
   )
 }
 
-# The crates that the program stands on, and itself, lowest first: crates.txt has a line NAME: DEP DEP .. for each.
-needed_crates() {
-  awk '
-    function need(name, i, n, deps) {
-      if (!(name in line) || name in needed) return
-      needed[name] = 1
-      n = split(line[name], deps, " ")
-      for (i = 1; i <= n; i++) need(deps[i])
-    }
-    /^[a-z]/ { name = $1; sub(/:$/, "", name); order[++count] = name; $1 = ""; line[name] = $0 }
-    END {
-      need("mu")
-      for (i = 1; i <= count; i++) if (order[i] in needed) print order[i]
-    }' "$top/crates.txt"
-}
-
-# Proves and links once. What an earlier build left is removed first, so a program that is there afterwards is of this one. Crates
-# that do not stand on one another are proved side by side; the last command proves what is left and links. With no words the
-# program prints its usage.
+# Proves and links once. What an earlier build left is removed first, so a program that is there afterwards is of this one. Crates are
+# proved one after the other, each by several processes: `rt` lets no two runs work in a crate at a time, nor in those below it, and
+# all stand on the same ones. With no words the program prints its usage.
 make_program() {
   rm -f "$out/mu"
-  needed_crates | xargs -P "$(nproc)" -I '{}' sh -c 'cd "$0/crates/{}" && rt check' "$top" > "$out/build.log" 2>&1 < /dev/null
-  (cd "$top/crates/mu" && rt run) >> "$out/build.log" 2>&1 < /dev/null
+  (cd "$top/crates/mu" && rt run) > "$out/build.log" 2>&1 < /dev/null
   [ -x "$out/mu" ]
 }
 

@@ -21,18 +21,10 @@ is_sized (Some StackRef) = true
 is_sized (Some ThreadRef) = true
 is_sized _ = false
 
--- no hybrid
+-- all types but hybrids
 abbrev pub is_no_hybrid : Option TypeDef → Bool
-is_no_hybrid (Some (Int width)) = true
-is_no_hybrid (Some (Struct fields)) = true
-is_no_hybrid (Some (Array element size)) = true
 is_no_hybrid (Some Void) = true
-is_no_hybrid (Some (Ref t)) = true
-is_no_hybrid (Some (Iref t)) = true
-is_no_hybrid (Some (FuncRef s)) = true
-is_no_hybrid (Some StackRef) = true
-is_no_hybrid (Some ThreadRef) = true
-is_no_hybrid _ = false
+is_no_hybrid d = is_sized d
 
 -- variables have value types: neither void nor a hybrid, with at most 256 leaves
 abbrev pub most_leaves_of_a_variable : ℕ
@@ -41,13 +33,6 @@ most_leaves_of_a_variable = 256
 abbrev pub is_value_type : Option TypeDef → List ℕ → Bool
 is_value_type d leaves = is_sized d && nat_le (length leaves) most_leaves_of_a_variable
 
--- a reference to an object, to a place or to a function, which may be cast
-abbrev pub is_castable : Option TypeDef → Bool
-is_castable (Some (Ref t)) = true
-is_castable (Some (Iref t)) = true
-is_castable (Some (FuncRef s)) = true
-is_castable _ = false
-
 -- both are references to objects, both to places, or both to functions
 abbrev pub are_cast : Option TypeDef → Option TypeDef → Bool
 are_cast (Some (Ref t)) (Some (Ref u)) = true
@@ -55,9 +40,9 @@ are_cast (Some (Iref t)) (Some (Iref u)) = true
 are_cast (Some (FuncRef s)) (Some (FuncRef r)) = true
 are_cast _ _ = false
 
-abbrev pub is_hybrid : Option TypeDef → Bool
-is_hybrid (Some (Hybrid fixed element)) = true
-is_hybrid _ = false
+-- such a reference, which may be cast
+abbrev pub is_castable : Option TypeDef → Bool
+is_castable d = are_cast d d
 
 -- the fields of a struct
 abbrev pub fields_of : Option TypeDef → Option (List ℕ)
@@ -87,6 +72,9 @@ element_of _ = None
 abbrev pub repeated_of : Option TypeDef → Option ℕ
 repeated_of (Some (Hybrid fixed element)) = Some element
 repeated_of _ = None
+
+abbrev pub is_hybrid : Option TypeDef → Bool
+is_hybrid d = is_some (repeated_of d)
 
 -- an int of 64 bits
 abbrev pub is_int64 : Option TypeDef → Bool

@@ -183,7 +183,7 @@ impl Tables {
         }
     }
 
-    /// The width of the int that a name stands for.
+    /// The width of the int that a name stands for, and none where it stands for no int.
     pub fn width(&self, name: &Name) -> Option<u128>
         ensures { result ≡ width_of (definition_named self.now name.now) }
     {

@@ -20,11 +20,12 @@ use Rattle.ir_lex.proofs.Lists.{one_list}
 use Rattle.ir_tree.specs.declared.items.Item.{Item}
 use Rattle.bundle_names.specs.Globals.{globals_of}
 use Rattle.client_script.specs.declared.fault.ScriptKind.{ScriptKind}
+use Rattle.client_script.specs.declared.fault.ScriptKind.TheVariants.{Text}
 use Rattle.client_script.specs.declared.tree.Entry.{Entry}
 use Rattle.client_script.specs.Grammar.{script}
 use Rattle.client_script.specs.Demands.{token_demands}
 use Rattle.client_script.specs.Meaning.{entries_meant}
-use Rattle.client_script.specs.Texts.{kind_of, tokens_before, demands_by, entries_in}
+use Rattle.client_script.specs.Texts.{tokens_before, demands_by, entries_in}
 use Rattle.client_script.specs.ScriptAnswers.{IsAnswer, script_read, grammar_first, token_first, answer_by, TextsAreAnswered}
 use Rattle.client_script.proofs.Grammatical.{is_grammar}
 use Rattle.client_script.proofs.FirstUnmet.{unmet_is, front_live, derived_live, fault_place, front_is}
@@ -51,7 +52,7 @@ of_script bundle bytes s es derives (Some e) bad =
 -- a text of no script, of which the names and numbers before the grammar's fault are judged
 of_fault : (bundle : List Item) (bytes : List ℕ) (s : Seen bytes) (f : Fault) → IsFirstFault (script bundle) (seen bytes s.tokens s.end) f
     → (d : Option (unmet.Fault ScriptKind)) → first_unmet (token_demands (globals_of bundle).names (tokens_before f.place (seen bytes s.tokens s.end))) ≡ d
-    → IsAnswer bundle bytes (answer_by (or_else d (Some (At (kind_of f.kind) f.place))) [])
+    → IsAnswer bundle bytes (answer_by (or_else d (Some (At (Text f.kind) f.place))) [])
 of_fault bundle bytes s f is None met = grammar_first s.tokens s.end f s.lexes is (all_met (token_demands (globals_of bundle).names (tokens_before f.place (seen bytes s.tokens s.end))) met)
 of_fault bundle bytes s f is (Some e) bad =
     let u = unmet_is (globals_of bundle).names (tokens_before f.place (seen bytes s.tokens s.end)) e bad in

@@ -23,11 +23,12 @@ use Rattle.ir_tree.specs.Lists.{global}
 use Rattle.bundle_names.specs.declared.globals.Sort.{Sort}
 use Rattle.bundle_names.specs.Globals.{globals_of}
 use Rattle.client_script.specs.declared.fault.ScriptKind.{ScriptKind}
+use Rattle.client_script.specs.declared.fault.ScriptKind.TheVariants.{Text}
 use Rattle.client_script.specs.declared.tree.Entry.{Entry}
 use Rattle.client_script.specs.Grammar.{count, action, kept_value, argument, pass, way, rebind, reply, inside, entry, script}
 use Rattle.client_script.specs.Demands.{token_demand, token_demands}
 use Rattle.client_script.specs.Meaning.{entries_meant}
-use Rattle.client_script.specs.Texts.{kind_of, tokens_before, demands_by, entries_in}
+use Rattle.client_script.specs.Texts.{tokens_before, demands_by, entries_in}
 use Rattle.client_script.specs.ScriptAnswers.{Answer, IsAnswer, script_read, grammar_first, token_first, answer_by, script_answer, AnswerIsOne}
 use Rattle.client_script.proofs.Grammatical.{is_grammar}
 use Rattle.client_script.proofs.Limitless.{limitless, no_passes}
@@ -127,7 +128,7 @@ only bundle bytes _ (grammar_first tokens end f lexes is good) =
     let same : tokens_from bytes 0 ≡ seen bytes tokens end = tokens_are_seen bytes 0 tokens end lexes in
     let read : whole (script bundle) (seen bytes tokens end) ≡ Err f = fault_only (script bundle) (is_grammar bundle) (seen bytes tokens end) f (subst IsText same (texts_end bytes)) is in
     ap (λ (ts : List Tok). computed bundle ts (whole (script bundle) ts)) same ∙ ap (computed bundle (seen bytes tokens end)) read
-    ∙ ap (λ (d : Option (unmet.Fault ScriptKind)). answer_by (or_else d (Some (At (kind_of f.kind) f.place))) []) (none_met (token_demands (globals_of bundle).names (tokens_before f.place (seen bytes tokens end))) good)
+    ∙ ap (λ (d : Option (unmet.Fault ScriptKind)). answer_by (or_else d (Some (At (Text f.kind) f.place))) []) (none_met (token_demands (globals_of bundle).names (tokens_before f.place (seen bytes tokens end))) good)
 only bundle bytes _ (token_first tokens end before after here e lexes parts live good bad) =
     let same : tokens_from bytes 0 ≡ seen bytes tokens end = tokens_are_seen bytes 0 tokens end lexes in
     ap (λ (ts : List Tok). computed bundle ts (whole (script bundle) ts)) same

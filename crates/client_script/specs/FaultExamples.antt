@@ -1,13 +1,13 @@
 -- Worked examples: the first fault of texts, with its place.
 use Rattle.std.specs.Prelude.{◌≡◌, refl, None, codes}
-use Rattle.ir_lex.specs.declared.token.LexKind.TheVariants as lexical
+use Rattle.text_forms.specs.declared.fault.FaultKind.TheVariants as kinds
 use Rattle.text_forms.specs.Reading.{elements}
 use Rattle.ir_lex.specs.WordTable.{words, directives, common_names}
 use Rattle.ir_lex.specs.Scanner.{gap_len, next_of}
 use Rattle.ir_lex.specs.Walk.{tokens_within, tokens_from}
 use Rattle.ir_lex.specs.TokenForms.{mark, name, numeral}
 use Rattle.ir_tree.specs.Lists.{global}
-use Rattle.client_script.specs.declared.fault.ScriptKind.TheVariants.{Lex, Unexpected, Unknown}
+use Rattle.client_script.specs.declared.fault.ScriptKind.TheVariants.{Text, Unknown}
 use Rattle.client_script.specs.Grammar.{count, action, kept_value, argument, pass, way, rebind, reply, inside, entry, script}
 use Rattle.client_script.specs.Samples.{text_fault, stands}
 
@@ -21,31 +21,31 @@ unfolding tokens_from tokens_within next_of gap_len words directives common_name
 good_texts = (refl, refl, refl, refl, refl)
 
 tokens_are_unexpected :
-    (text_fault (codes "frames") ≡ stands Unexpected 0)
-    × (text_fault (codes "{") ≡ stands Unexpected 1)
-    × (text_fault (codes "{ }") ≡ stands Unexpected 2)
-    × (text_fault (codes "{ frames }") ≡ stands Unexpected 9)
-    × (text_fault (codes "{ exit") ≡ stands Unexpected 6)
-    × (text_fault (codes "{ exit stop }") ≡ stands Unexpected 7)
-    × (text_fault (codes "{ exit frames }") ≡ stands Unexpected 7)
-    × (text_fault (codes "{ exit } }") ≡ stands Unexpected 9)
-    × (text_fault (codes "{ kept exit }") ≡ stands Unexpected 7)
-    × (text_fault (codes "{ pass @k }") ≡ stands Unexpected 7)
-    × (text_fault (codes "{ pass (%a) }") ≡ stands Unexpected 8)
-    × (text_fault (codes "{ pass (7) }") ≡ stands Unexpected 8)
-    × (text_fault (codes "{ pass (kept 0) }") ≡ stands Unexpected 14)
-    × (text_fault (codes "{ throw }") ≡ stands Unexpected 8)
-    × (text_fault (codes "{ THROW @k }") ≡ stands Unexpected 2)
-    × (text_fault (codes "{ rebind @k }") ≡ stands Unexpected 12)
-    × (text_fault (codes "{ rebind @k exit }") ≡ stands Unexpected 12)
+    (text_fault (codes "frames") ≡ stands (Text kinds.Unexpected) 0)
+    × (text_fault (codes "{") ≡ stands (Text kinds.Unexpected) 1)
+    × (text_fault (codes "{ }") ≡ stands (Text kinds.Unexpected) 2)
+    × (text_fault (codes "{ frames }") ≡ stands (Text kinds.Unexpected) 9)
+    × (text_fault (codes "{ exit") ≡ stands (Text kinds.Unexpected) 6)
+    × (text_fault (codes "{ exit stop }") ≡ stands (Text kinds.Unexpected) 7)
+    × (text_fault (codes "{ exit frames }") ≡ stands (Text kinds.Unexpected) 7)
+    × (text_fault (codes "{ exit } }") ≡ stands (Text kinds.Unexpected) 9)
+    × (text_fault (codes "{ kept exit }") ≡ stands (Text kinds.Unexpected) 7)
+    × (text_fault (codes "{ pass @k }") ≡ stands (Text kinds.Unexpected) 7)
+    × (text_fault (codes "{ pass (%a) }") ≡ stands (Text kinds.Unexpected) 8)
+    × (text_fault (codes "{ pass (7) }") ≡ stands (Text kinds.Unexpected) 8)
+    × (text_fault (codes "{ pass (kept 0) }") ≡ stands (Text kinds.Unexpected) 14)
+    × (text_fault (codes "{ throw }") ≡ stands (Text kinds.Unexpected) 8)
+    × (text_fault (codes "{ THROW @k }") ≡ stands (Text kinds.Unexpected) 2)
+    × (text_fault (codes "{ rebind @k }") ≡ stands (Text kinds.Unexpected) 12)
+    × (text_fault (codes "{ rebind @k exit }") ≡ stands (Text kinds.Unexpected) 12)
 unfolding tokens_from tokens_within next_of gap_len words directives common_names elements mark name numeral global count action kept_value argument pass way rebind reply inside entry script
 tokens_are_unexpected = (refl, refl, refl, refl, refl, refl, refl, refl, refl, refl, refl, refl, refl, refl, refl, refl, refl)
 
 numbers_are_out_of_range :
-    (text_fault (codes "{ kept -1 exit }") ≡ stands Unexpected 7)
-    × (text_fault (codes "{ watch 4294967296 exit }") ≡ stands Unexpected 8)
-    × (text_fault (codes "{ throw kept 0 -1 }") ≡ stands Unexpected 15)
-    × (text_fault (codes "{ kept 340282366920938463463374607431768211456 exit }") ≡ stands (Lex lexical.NumberTooLarge) 7)
+    (text_fault (codes "{ kept -1 exit }") ≡ stands (Text kinds.Unexpected) 7)
+    × (text_fault (codes "{ watch 4294967296 exit }") ≡ stands (Text kinds.Unexpected) 8)
+    × (text_fault (codes "{ throw kept 0 -1 }") ≡ stands (Text kinds.Unexpected) 15)
+    × (text_fault (codes "{ kept 340282366920938463463374607431768211456 exit }") ≡ stands (Text kinds.NumberTooLarge) 7)
 unfolding tokens_from tokens_within next_of gap_len words directives common_names elements mark name numeral global count action kept_value argument pass way rebind reply inside entry script
 numbers_are_out_of_range = (refl, refl, refl, refl)
 
@@ -58,20 +58,20 @@ unfolding tokens_from tokens_within next_of gap_len words directives common_name
 names_are_unknown = (refl, refl, refl, refl)
 
 no_token_begins :
-    (text_fault (codes "{ ? }") ≡ stands (Lex lexical.BadByte) 2)
-    × (text_fault (codes "{ kept 09 exit }") ≡ stands (Lex lexical.BadByte) 7)
-    × (text_fault (codes "{ throw @ }") ≡ stands (Lex lexical.BadName) 8)
-    × (text_fault (codes "{ exit } ?") ≡ stands (Lex lexical.BadByte) 9)
+    (text_fault (codes "{ ? }") ≡ stands (Text kinds.BadByte) 2)
+    × (text_fault (codes "{ kept 09 exit }") ≡ stands (Text kinds.BadByte) 7)
+    × (text_fault (codes "{ throw @ }") ≡ stands (Text kinds.BadName) 8)
+    × (text_fault (codes "{ exit } ?") ≡ stands (Text kinds.BadByte) 9)
 unfolding tokens_from tokens_within next_of gap_len words directives common_names elements mark name numeral global count action kept_value argument pass way rebind reply inside entry script
 no_token_begins = (refl, refl, refl, refl)
 
 -- of several the first stands; a name is judged only where a name may stand
 the_first_stands :
     (text_fault (codes "{ pass (@zz ?") ≡ stands Unknown 8)
-    × (text_fault (codes "{ kept -1 pass (@zz) }") ≡ stands Unexpected 7)
+    × (text_fault (codes "{ kept -1 pass (@zz) }") ≡ stands (Text kinds.Unexpected) 7)
     × (text_fault (codes "{ pass (@zz kept 0 -1) }") ≡ stands Unknown 8)
-    × (text_fault (codes "{ rebind @k @zz }") ≡ stands Unexpected 12)
-    × (text_fault (codes "@zz") ≡ stands Unexpected 0)
+    × (text_fault (codes "{ rebind @k @zz }") ≡ stands (Text kinds.Unexpected) 12)
+    × (text_fault (codes "@zz") ≡ stands (Text kinds.Unexpected) 0)
     × (text_fault (codes "{ exit } { throw @zz } }") ≡ stands Unknown 17)
 unfolding tokens_from tokens_within next_of gap_len words directives common_names elements mark name numeral global count action kept_value argument pass way rebind reply inside entry script
 the_first_stands = (refl, refl, refl, refl, refl, refl)

@@ -16,11 +16,12 @@ use Rattle.ir_tree.specs.declared.items.Item.{Item}
 use Rattle.bundle_names.specs.Globals.{globals_of}
 use Rattle.mu_model.specs.Clients.{ScriptEntry}
 use Rattle.client_script.specs.declared.fault.ScriptKind.{ScriptKind}
+use Rattle.client_script.specs.declared.fault.ScriptKind.TheVariants.{Text}
 use Rattle.client_script.specs.declared.tree.Entry.{Entry}
 use Rattle.client_script.specs.Grammar.{script}
 use Rattle.client_script.specs.Demands.{token_demand, token_demands}
 use Rattle.client_script.specs.Meaning.{entries_meant}
-use Rattle.client_script.specs.Texts.{kind_of, tokens_before, script_demands, script_entries}
+use Rattle.client_script.specs.Texts.{tokens_before, script_demands, script_entries}
 
 abbrev pub Answer : Type 0
 Answer = Result (List ScriptEntry) (unmet.Fault ScriptKind)
@@ -36,7 +37,7 @@ pub data IsAnswer (bundle : List Item) (bytes : List ℕ) : Answer → Type 0 wh
       → IsAnswer bundle bytes (Ok (entries_meant entries))
   -- the first token, or the end, with which no script goes on, where each name and number before it is good
   grammar_first : (tokens : List Token) (end : Option LexFault) (f : Fault) → Lexes bytes 0 tokens end → IsFirstFault (script bundle) (seen bytes tokens end) f → AllGood bundle (tokens_before f.place (seen bytes tokens end))
-      → IsAnswer bundle bytes (Err (At (kind_of f.kind) f.place))
+      → IsAnswer bundle bytes (Err (At (Text f.kind) f.place))
   -- the first name or number that is not good, where some script goes on with it
   token_first : (tokens : List Token) (end : Option LexFault) (before after : List Tok) (here : Tok) (e : unmet.Fault ScriptKind) → Lexes bytes 0 tokens end → seen bytes tokens end ≡ before ++ here ∷ after → Live (script bundle) (before ++ here ∷ []) → AllGood bundle before
       → first_unmet (token_demand (globals_of bundle).names here) ≡ Some e → IsAnswer bundle bytes (Err e)

@@ -1,13 +1,10 @@
 -- To believe: what the text of a script is refused for, and the entries that it means.
 use Rattle.std.specs.Prelude.{ℕ, false, nat_lt, List, [], ◌∷◌, Result, Ok, Err, if◌then◌else◌}
 use Rattle.text_forms.specs.declared.fault.Fault.{Fault}
-use Rattle.text_forms.specs.declared.fault.FaultKind.{FaultKind}
-use Rattle.text_forms.specs.declared.fault.FaultKind.TheVariants as kinds
 use Rattle.text_forms.specs.Tokens.{Tok}
 use Rattle.text_forms.specs.Reading.{whole}
 use Rattle.demands.specs.Demands.{Demands, demand, ◌⨾◌}
 use Rattle.demands.specs.Names.{Names}
-use Rattle.ir_lex.specs.declared.token.LexKind.TheVariants as lexical
 use Rattle.ir_lex.specs.Walk.{tokens_from}
 use Rattle.ir_tree.specs.declared.items.Item.{Item}
 use Rattle.bundle_names.specs.declared.globals.Sort.{Sort}
@@ -15,18 +12,10 @@ use Rattle.bundle_names.specs.Globals.{globals_of}
 use Rattle.mu_model.specs.Clients.{ScriptEntry}
 use Rattle.client_script.specs.declared.tree.Entry.{Entry}
 use Rattle.client_script.specs.declared.fault.ScriptKind.{ScriptKind}
-use Rattle.client_script.specs.declared.fault.ScriptKind.TheVariants.{Lex, Unexpected}
+use Rattle.client_script.specs.declared.fault.ScriptKind.TheVariants.{Text}
 use Rattle.client_script.specs.Grammar.{script}
 use Rattle.client_script.specs.Demands.{token_demands}
 use Rattle.client_script.specs.Meaning.{entries_meant}
-
--- what a fault of the grammar is called. The grammar leaves out no words and has no limits on lists
-abbrev pub kind_of : FaultKind → ScriptKind
-kind_of kinds.BadByte = Lex lexical.BadByte
-kind_of kinds.BadName = Lex lexical.BadName
-kind_of kinds.NumberTooLarge = Lex lexical.NumberTooLarge
-kind_of kinds.TooLong = Lex lexical.TooLong
-kind_of _ = Unexpected
 
 -- the tokens before a place
 abbrev pub tokens_before : ℕ → List Tok → List Tok
@@ -37,7 +26,7 @@ tokens_before place (t ∷ ts) = if nat_lt t.place place then t ∷ tokens_befor
 -- the grammar stands behind them.
 abbrev pub demands_by : Names Sort → List Tok → Result (List Entry) Fault → Demands ScriptKind
 demands_by names ts (Ok entries) = token_demands names ts
-demands_by names ts (Err f) = token_demands names (tokens_before f.place ts) ⨾ demand f.place (kind_of f.kind) false
+demands_by names ts (Err f) = token_demands names (tokens_before f.place ts) ⨾ demand f.place (Text f.kind) false
 
 abbrev pub entries_in : Result (List Entry) Fault → List Entry
 entries_in (Ok entries) = entries

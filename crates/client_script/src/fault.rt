@@ -1,18 +1,17 @@
 // Why a script is refused.
 use demands::Fault;
-use ir_lex::LexKind;
 use std::fmt;
+use text_forms::FaultKind;
 use thiserror::Error;
 
 /// What is wrong with the text of a script.
 #[derive(Clone, Copy, Debug, PartialEq, Eq, Error)]
 pub enum ScriptKind {
-    /// No token begins where one should.
+    /// A fault of the text: no token begins where one should, or no script goes on with this token, or with the text's end; or the
+    /// number is below 0, or 2^32 or more, which is `Unexpected`. Scripts have no words that are left out and no limits on lists, so
+    /// `NotInProfile` and `TooMany` never come.
     #[error("{0}")]
-    Lex(LexKind),
-    /// No script goes on with this token, or with the text's end; or the number is below 0, or 2^32 or more.
-    #[error("unexpected here")]
-    Unexpected,
+    Text(FaultKind),
     /// No constant, global or function has this name.
     #[error("no constant, global or function has this name")]
     Unknown,

@@ -8,7 +8,8 @@ ghost use Rattle.ir_lex.specs.Walk.{tokens_from};
 ghost use Rattle.ir_lex.specs.Scanner.{number_of};
 ghost use Rattle.client_script.specs.Numbers.{is_count};
 ghost use Rattle.client_script.specs.Told.{is_value};
-ghost use Rattle.client_script.specs.declared.fault.ScriptKind.TheVariants.{Unexpected, Unknown};
+ghost use Rattle.client_script.specs.declared.fault.ScriptKind.TheVariants.{Text, Unknown};
+ghost use Rattle.text_forms.specs.declared.fault.FaultKind.TheVariants as kinds;
 ghost use Rattle.client_script.specs.Demands.{token_demand, token_demands};
 ghost use Rattle.client_script.specs.Judged.{is_before, judged_tokens};
 
@@ -17,7 +18,7 @@ use crate::parts::{GLOBALS, is_count};
 use bundle_names::Sort;
 use demands::Scope;
 use ir_lex::Cursor;
-use text_forms::Symbol;
+use text_forms::{FaultKind, Symbol};
 
 /// Nothing stands behind a token of these.
 const LAST: [Symbol; 5] = [
@@ -53,11 +54,11 @@ fn meet(kind: ScriptKind, place: usize, met: bool) -> Result<(), ScriptFault>
 #[tactic(auto, unfolding(ir_lex::specs::TokenForms::numeral))]
 fn judge_number(cursor: &Cursor) -> Result<(), ScriptFault>
     requires { at (symbols.Number ∷ []) cursor.now ≡ true }
-    ensures { Meets (demand (first cursor.now).place Unexpected (is_count (number_of (first cursor.now).spelling))) result }
+    ensures { Meets (demand (first cursor.now).place (Text kinds.Unexpected) (is_count (number_of (first cursor.now).spelling))) result }
 {
     match cursor.ahead().numeral() {
         Ok(numeral) => meet(
-            ScriptKind::Unexpected,
+            ScriptKind::Text(FaultKind::Unexpected),
             cursor.place(),
             is_count(numeral.number),
         ),

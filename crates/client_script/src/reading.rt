@@ -1,36 +1,23 @@
 //! Scripts from their texts.
 ghost use Rattle.std.specs.Prelude.{◌≡◌};
 ghost use Rattle.demands.specs.Demands.{Judges};
-ghost use Rattle.client_script.specs.Texts.{kind_of, script_demands, script_entries};
+ghost use Rattle.client_script.specs.Texts.{script_demands, script_entries};
 
 use crate::entries::entries;
 use crate::fault::{ScriptFault, ScriptKind};
 use crate::judging::judge_tokens;
 use crate::script::Script;
 use bundle_check::Checked;
-use ir_lex::{Cursor, LexKind};
+use ir_lex::Cursor;
 use std::alloc::Global;
-use text_forms::{FaultKind, ReadError};
-
-/// What a fault of the grammar is called.
-fn kind_of(kind: FaultKind) -> ScriptKind
-    ensures { result ≡ kind_of kind }
-{
-    match kind {
-        FaultKind::BadByte => ScriptKind::Lex(LexKind::BadByte),
-        FaultKind::BadName => ScriptKind::Lex(LexKind::BadName),
-        FaultKind::NumberTooLarge => ScriptKind::Lex(LexKind::NumberTooLarge),
-        FaultKind::TooLong => ScriptKind::Lex(LexKind::TooLong),
-        _ => ScriptKind::Unexpected,
-    }
-}
+use text_forms::ReadError;
 
 /// Reads the script of a client: entries, each with actions and a reply. Its names are those of a bundle. The text may hold any bytes;
 /// an empty one is a script that is spent.
 ///
-/// `At` is the first fault. `Lex` stands at a byte where no token begins as it should, once a token is looked for there; `Unexpected`
-/// at the first token, or at the text's end, with which no script's text goes on, and at a number that is below 0, or 2^32 or more;
-/// `Unknown` at a name of no constant, global or function. It takes time and memory for the text.
+/// `At` is the first fault. `BadByte`, `BadName`, `NumberTooLarge` or `TooLong` stands where no token begins as it should, once a token
+/// is looked for there; `Unexpected` at the first token, or at the text's end, with which no script's text goes on, and at a number that
+/// is below 0, or 2^32 or more; `Unknown` at a name of no constant, global or function. It takes time and memory for the text.
 #[tactic(auto, unfolding(bundle_tables::specs::Entries::tables_of))]
 pub fn read_script(alloc: Global, bytes: &[u8], code: &Checked) -> Result<Script, ScriptFault>
     ensures { Judges (script_demands code.now bytes.now) (script_entries code.now bytes.now) result }
@@ -45,7 +32,7 @@ pub fn read_script(alloc: Global, bytes: &[u8], code: &Checked) -> Result<Script
         Err(ReadError::Fault(fault)) => {
             judge_tokens(names, bytes, Some(fault.place))?;
             Err(ScriptFault::At {
-                kind: kind_of(fault.kind),
+                kind: ScriptKind::Text(fault.kind),
                 place: fault.place,
             })
         }

@@ -1,28 +1,17 @@
 -- Instructions that read or write memory, and that meet their demands, fit, one clause a form.
-use Rattle.std.proofs.Common.{◌≡◌, Bool, true, false, None, refl}
+use Rattle.std.proofs.Common.{◌≡◌, false, None, refl}
 use Rattle.demands.specs.Demands.{AllMet}
-use Rattle.ir_tree.specs.declared.operators.MemoryOrder.{MemoryOrder}
-use Rattle.ir_tree.specs.declared.operators.MemoryOrder.TheVariants as orders
-use Rattle.ir_tree.specs.declared.operators.UpdateOp.{UpdateOp}
-use Rattle.ir_tree.specs.declared.operators.UpdateOp.TheVariants as updates
+use Rattle.mu_base.specs.declared.operators.UpdateOp.{UpdateOp}
+use Rattle.mu_base.specs.declared.operators.UpdateOp.TheVariants as updates
 use Rattle.ir_tree.specs.declared.accessing.Access.{Access}
 use Rattle.ir_tree.specs.declared.accessing.Access.TheVariants as accesses
 use Rattle.check_tables.specs.declared.tables.Tables.{Tables}
 use Rattle.check_tables.specs.Lookups.{type_named}
 use Rattle.check_tables.specs.TypeTests.{is_scalar}
 use Rattle.code_check.specs.declared.scopes.Locals.{Locals}
-use Rattle.code_check.specs.Accesses.{memory_order, may_load, may_store, may_update, may_fail, may_fence, updates_type, access_demands, access_gives, access_code}
-use Rattle.code_check.specs.Typed.{OrderFits, AccessFits, LocalsFit}
+use Rattle.code_check.specs.Accesses.{updates_type, access_demands, access_gives, access_code}
+use Rattle.code_check.specs.Typed.{AccessFits, LocalsFit}
 use Rattle.code_check.proofs.TypedOperands.{of_type_fits, place_fits, TypeIn, type_of}
-
-order_fits : (allows : MemoryOrder → Bool) (o : MemoryOrder) → allows o ≡ true → OrderFits allows (memory_order o)
-order_fits allows orders.NotAtomic m = m
-order_fits allows orders.Relaxed m = m
-order_fits allows orders.Consume m = m
-order_fits allows orders.Acquire m = m
-order_fits allows orders.Release m = m
-order_fits allows orders.AcqRel m = m
-order_fits allows orders.SeqCst m = m
 
 nothing_is_updated : (op : UpdateOp) → updates_type op None ≡ false
 nothing_is_updated updates.Xchg = refl
@@ -41,10 +30,10 @@ pub access_fits : (p : Tables) (ls : Locals) (a : Access) → LocalsFit ls → A
     AccessFits p ls.classes (access_code p ls a) (access_gives p a)
 access_fits p ls (accesses.Load o t l e) fits m =
     let type : TypeIn p (type_named p t) is_scalar = type_of p t is_scalar refl m.1.0 in
-    (order_fits may_load o.order m.0, type.type, place_fits p ls l (type_named p t) type.type.number fits type.is m.1.1, refl)
+    (m.0, type.type, place_fits p ls l (type_named p t) type.type.number fits type.is m.1.1, refl)
 access_fits p ls (accesses.Store o t l a e) fits m =
     let type : TypeIn p (type_named p t) is_scalar = type_of p t is_scalar refl m.1.0 in (
-      order_fits may_store o.order m.0,
+      m.0,
       type.type,
       place_fits p ls l (type_named p t) type.type.number fits type.is m.1.1.0,
       of_type_fits p ls a t fits m.1.1.1,
@@ -52,8 +41,8 @@ access_fits p ls (accesses.Store o t l a e) fits m =
     )
 access_fits p ls (accesses.Cmpxchg w s o t l a b e) fits m =
     let type : TypeIn p (type_named p t) is_scalar = type_of p t is_scalar refl m.1.1.0 in (
-      order_fits may_update s.order m.0,
-      order_fits may_fail o.order m.1.0,
+      m.0,
+      m.1.0,
       type.type,
       place_fits p ls l (type_named p t) type.type.number fits type.is m.1.1.1.0,
       of_type_fits p ls a t fits m.1.1.1.1.0,
@@ -62,10 +51,10 @@ access_fits p ls (accesses.Cmpxchg w s o t l a b e) fits m =
     )
 access_fits p ls (accesses.Atomicrmw o op t l a e) fits m =
     let type : TypeIn p (type_named p t) (updates_type op) = type_of p t (updates_type op) (nothing_is_updated op) m.1.0 in (
-      order_fits may_update o.order m.0,
+      m.0,
       type.type,
       place_fits p ls l (type_named p t) type.type.number fits type.is m.1.1.0,
       of_type_fits p ls a t fits m.1.1.1,
       refl,
     )
-access_fits p ls (accesses.Fence o) fits m = (order_fits may_fence o.order m, refl)
+access_fits p ls (accesses.Fence o) fits m = (m, refl)

@@ -5,9 +5,9 @@ use Rattle.ir_tree.specs.declared.computing.Computation.{Computation}
 use Rattle.ir_tree.specs.declared.computing.Computation.TheVariants as computations
 use Rattle.type_laws.specs.declared.definition.TypeDef.{TypeDef}
 use Rattle.type_laws.specs.declared.definition.TypeDef.TheVariants.{Int, Struct, Array, Hybrid, Void, Ref, Iref, FuncRef, StackRef, ThreadRef, Sig}
-use Rattle.mu_values.specs.declared.operators.CmpOp.{CmpOp}
-use Rattle.mu_values.specs.declared.operators.CmpOp.TheVariants as cmp_ops
-use Rattle.mu_values.specs.declared.operators.ConvOp.{ConvOp}
+use Rattle.mu_base.specs.declared.operators.CompareOp.{CompareOp}
+use Rattle.mu_base.specs.declared.operators.CompareOp.TheVariants as compare_ops
+use Rattle.mu_base.specs.declared.operators.ConvertOp.{ConvertOp}
 use Rattle.check_tables.specs.declared.fault.CheckKind.TheVariants.{OperandType}
 use Rattle.check_tables.specs.declared.tables.Tables.{Tables}
 use Rattle.check_tables.specs.Types.{definition_at, definition_in, class_in, int1}
@@ -16,19 +16,19 @@ use Rattle.check_tables.specs.TypeTests.{is_int, is_castable, are_cast, is_struc
 use Rattle.code_check.specs.declared.code.Source.{Source}
 use Rattle.code_check.specs.declared.scopes.Locals.{Locals}
 use Rattle.code_check.specs.Operands.{source_of}
-use Rattle.code_check.specs.Computations.{compare_op, convert_op, compares, converts, field_named, computation_demands, computation_gives, computation_code}
+use Rattle.code_check.specs.Computations.{compares, converts, field_named, computation_demands, computation_gives, computation_code}
 use Rattle.code_check.specs.Typed.{SourceFits, TypeFits, nth_field, ComputationFits, LocalsFit, TablesFit}
 use Rattle.code_check.proofs.TypedTables.{part_gives_type, field_is_there}
 use Rattle.code_check.proofs.TypedOperands.{both_are, same_class, operand_fits, of_type_fits, field_is, TypeIn, type_of, ValueTypeIn, value_type_in}
 
 -- ---- what is not there passes no test
 
-nothing_compares : (op : CmpOp) → compares op None ≡ false
-nothing_compares cmp_ops.Eq = refl
-nothing_compares cmp_ops.Ne = refl
+nothing_compares : (op : CompareOp) → compares op None ≡ false
+nothing_compares compare_ops.Eq = refl
+nothing_compares compare_ops.Ne = refl
 nothing_compares _ = refl
 
-nothing_is_converted : (op : ConvOp) (d : Option TypeDef) → converts op d None ≡ false
+nothing_is_converted : (op : ConvertOp) (d : Option TypeDef) → converts op d None ≡ false
 nothing_is_converted op (Some (Int width)) = refl
 nothing_is_converted op _ = refl
 
@@ -58,12 +58,12 @@ pub computation_fits : (p : Tables) (ls : Locals) (c : Computation) → TablesFi
 computation_fits p ls (computations.Binary op t a b e) tables fits m =
     ((type_of p t is_int refl m.0).type, of_type_fits p ls a t fits m.1.0, of_type_fits p ls b t fits m.1.1, refl)
 computation_fits p ls (computations.Compare op t a b) tables fits m =
-    ((type_of p t (compares (compare_op op)) (nothing_compares (compare_op op)) m.0).type, of_type_fits p ls a t fits m.1.0, of_type_fits p ls b t fits m.1.1, refl)
+    ((type_of p t (compares op) (nothing_compares op) m.0).type, of_type_fits p ls a t fits m.1.0, of_type_fits p ls b t fits m.1.1, refl)
 computation_fits p ls (computations.Convert op s t a) tables fits m =
     let from : TypeIn p (type_named p s) is_int = type_of p s is_int refl m.0 in (
       from.type,
-      (type_of p t (converts (convert_op op) (definition_at p.types from.type.number)) (nothing_is_converted (convert_op op) (definition_at p.types from.type.number))
-          (subst (λ (x : Option ℕ). converts (convert_op op) (definition_in p.types x) (definition_named p t) ≡ true) from.is m.1.0)).type,
+      (type_of p t (converts op (definition_at p.types from.type.number)) (nothing_is_converted op (definition_at p.types from.type.number))
+          (subst (λ (x : Option ℕ). converts op (definition_in p.types x) (definition_named p t) ≡ true) from.is m.1.0)).type,
       of_type_fits p ls a s fits m.1.1,
       refl,
     )

@@ -1,17 +1,14 @@
 -- To believe: instructions that read or write memory, or order such accesses: for each form its demands from left to right, what it
 -- gives, and its code.
-use Rattle.std.specs.Prelude.{ℕ, Bool, true, false, List, [], ◌∷◌}
+use Rattle.std.specs.Prelude.{ℕ, Bool, true, false, List, [], ◌∷◌, Option, ◌&&◌}
 use Rattle.demands.specs.Demands.{Demands, demand, ◌⨾◌}
-use Rattle.mu_base.specs.declared.order.Order.{Order as MuOrder}
-use Rattle.mu_base.specs.declared.order.Order.TheVariants as mu_orders
-use Rattle.ir_tree.specs.declared.operators.MemoryOrder.{MemoryOrder}
-use Rattle.ir_tree.specs.declared.operators.MemoryOrder.TheVariants as orders
-use Rattle.ir_tree.specs.declared.operators.Order.{Order}
-use Rattle.ir_tree.specs.declared.operators.UpdateOp.{UpdateOp}
-use Rattle.ir_tree.specs.declared.operators.UpdateOp.TheVariants as updates
+use Rattle.mu_base.specs.declared.order.Order.{Order}
+use Rattle.mu_base.specs.declared.order.Order.TheVariants as orders
+use Rattle.ir_tree.specs.declared.order.WrittenOrder.{WrittenOrder}
+use Rattle.mu_base.specs.declared.operators.UpdateOp.{UpdateOp}
+use Rattle.mu_base.specs.declared.operators.UpdateOp.TheVariants as updates
 use Rattle.ir_tree.specs.declared.accessing.Access.{Access}
 use Rattle.ir_tree.specs.declared.accessing.Access.TheVariants as accesses
-use Rattle.std.specs.Prelude.{Option}
 use Rattle.type_laws.specs.declared.definition.TypeDef.{TypeDef}
 use Rattle.check_tables.specs.declared.fault.CheckKind.{CheckKind}
 use Rattle.check_tables.specs.declared.fault.CheckKind.TheVariants.{BadOrder}
@@ -27,17 +24,8 @@ use Rattle.code_check.specs.Objects.{place_of_type}
 
 -- ---- orders
 
-abbrev pub memory_order : MemoryOrder → MuOrder
-memory_order orders.NotAtomic = mu_orders.NotAtomic
-memory_order orders.Relaxed = mu_orders.Relaxed
-memory_order orders.Consume = mu_orders.Consume
-memory_order orders.Acquire = mu_orders.Acquire
-memory_order orders.Release = mu_orders.Release
-memory_order orders.AcqRel = mu_orders.AcqRel
-memory_order orders.SeqCst = mu_orders.SeqCst
-
 -- of a LOAD
-abbrev pub may_load : MemoryOrder → Bool
+abbrev pub may_load : Order → Bool
 may_load orders.NotAtomic = true
 may_load orders.Relaxed = true
 may_load orders.Consume = true
@@ -46,7 +34,7 @@ may_load orders.SeqCst = true
 may_load _ = false
 
 -- of a STORE
-abbrev pub may_store : MemoryOrder → Bool
+abbrev pub may_store : Order → Bool
 may_store orders.NotAtomic = true
 may_store orders.Relaxed = true
 may_store orders.Release = true
@@ -54,27 +42,23 @@ may_store orders.SeqCst = true
 may_store _ = false
 
 -- of an update, which is atomic
-abbrev pub may_update : MemoryOrder → Bool
+abbrev pub may_update : Order → Bool
 may_update orders.NotAtomic = false
 may_update _ = true
 
--- of a CMPXCHG that fails
-abbrev pub may_fail : MemoryOrder → Bool
-may_fail orders.Relaxed = true
-may_fail orders.Consume = true
-may_fail orders.Acquire = true
-may_fail orders.SeqCst = true
-may_fail _ = false
+-- of a CMPXCHG that fails, which is an atomic load then
+abbrev pub may_fail : Order → Bool
+may_fail order = may_load order && may_update order
 
 -- of a FENCE
-abbrev pub may_fence : MemoryOrder → Bool
+abbrev pub may_fence : Order → Bool
 may_fence orders.Acquire = true
 may_fence orders.Release = true
 may_fence orders.AcqRel = true
 may_fence orders.SeqCst = true
 may_fence _ = false
 
-abbrev pub order_demand : (MemoryOrder → Bool) → Order → Demands CheckKind
+abbrev pub order_demand : (Order → Bool) → WrittenOrder → Demands CheckKind
 order_demand allows o = demand o.place BadOrder (allows o.order)
 
 -- XCHG exchanges all scalars, every other update is of ints
@@ -108,9 +92,9 @@ access_gives p (accesses.Atomicrmw o op t l a e) = noted_class p t ∷ []
 access_gives p (accesses.Fence o) = []
 
 abbrev pub access_code : Tables → Locals → Access → AccessForm
-access_code p ls (accesses.Load o t l e) = forms.Load (memory_order o.order) (noted_class p t) (source_of p ls l)
-access_code p ls (accesses.Store o t l a e) = forms.Store (memory_order o.order) (noted_class p t) (source_of p ls l) (source_of p ls a)
+access_code p ls (accesses.Load o t l e) = forms.Load o.order (noted_class p t) (source_of p ls l)
+access_code p ls (accesses.Store o t l a e) = forms.Store o.order (noted_class p t) (source_of p ls l) (source_of p ls a)
 access_code p ls (accesses.Cmpxchg w s o t l a b e) =
-    forms.Cmpxchg w (memory_order s.order) (memory_order o.order) (noted_class p t) (source_of p ls l) (source_of p ls a) (source_of p ls b)
-access_code p ls (accesses.Atomicrmw o op t l a e) = forms.Atomicrmw (memory_order o.order) op (noted_class p t) (source_of p ls l) (source_of p ls a)
-access_code p ls (accesses.Fence o) = forms.Fence (memory_order o.order)
+    forms.Cmpxchg w s.order o.order (noted_class p t) (source_of p ls l) (source_of p ls a) (source_of p ls b)
+access_code p ls (accesses.Atomicrmw o op t l a e) = forms.Atomicrmw o.order op (noted_class p t) (source_of p ls l) (source_of p ls a)
+access_code p ls (accesses.Fence o) = forms.Fence o.order

@@ -3,22 +3,13 @@ use Rattle.std.specs.Prelude.{ℕ, Bool, false, List, [], ◌∷◌, Option, Som
 use Rattle.demands.specs.Demands.{Demands, demand, ◌⨾◌}
 use Rattle.ir_lex.specs.declared.name.Name.{Name}
 use Rattle.ir_lex.specs.declared.name.Numeral.{Numeral}
-use Rattle.ir_tree.specs.declared.operators.BinaryOp.{BinaryOp}
-use Rattle.ir_tree.specs.declared.operators.BinaryOp.TheVariants as binary_ops
-use Rattle.ir_tree.specs.declared.operators.CompareOp.{CompareOp}
-use Rattle.ir_tree.specs.declared.operators.CompareOp.TheVariants as compare_ops
-use Rattle.ir_tree.specs.declared.operators.ConvertOp.{ConvertOp}
-use Rattle.ir_tree.specs.declared.operators.ConvertOp.TheVariants as convert_ops
+use Rattle.mu_base.specs.declared.operators.CompareOp.{CompareOp}
+use Rattle.mu_base.specs.declared.operators.CompareOp.TheVariants as compare_ops
+use Rattle.mu_base.specs.declared.operators.ConvertOp.{ConvertOp}
 use Rattle.ir_tree.specs.declared.computing.Computation.{Computation}
 use Rattle.ir_tree.specs.declared.computing.Computation.TheVariants as computations
 use Rattle.type_laws.specs.declared.definition.TypeDef.{TypeDef}
 use Rattle.type_laws.specs.declared.definition.TypeDef.TheVariants.{Int}
-use Rattle.mu_values.specs.declared.operators.BinOp.{BinOp}
-use Rattle.mu_values.specs.declared.operators.BinOp.TheVariants as bin_ops
-use Rattle.mu_values.specs.declared.operators.CmpOp.{CmpOp}
-use Rattle.mu_values.specs.declared.operators.CmpOp.TheVariants as cmp_ops
-use Rattle.mu_values.specs.declared.operators.ConvOp.{ConvOp}
-use Rattle.mu_values.specs.declared.operators.ConvOp.TheVariants as conv_ops
 use Rattle.mu_values.specs.Integers.{is_conversion}
 use Rattle.check_tables.specs.declared.fault.CheckKind.{CheckKind}
 use Rattle.check_tables.specs.declared.fault.CheckKind.TheVariants.{OperandType, BadIndex}
@@ -31,50 +22,16 @@ use Rattle.code_check.specs.declared.code.ComputationForm.TheVariants as forms
 use Rattle.code_check.specs.declared.scopes.Locals.{Locals}
 use Rattle.code_check.specs.Operands.{operand_demands, of_type, is_class, type_demand, value_type_demand, source_of}
 
--- ---- what the words stand for
-
-abbrev pub binary_op : BinaryOp → BinOp
-binary_op binary_ops.Add = bin_ops.Add
-binary_op binary_ops.Sub = bin_ops.Sub
-binary_op binary_ops.Mul = bin_ops.Mul
-binary_op binary_ops.Sdiv = bin_ops.Sdiv
-binary_op binary_ops.Srem = bin_ops.Srem
-binary_op binary_ops.Udiv = bin_ops.Udiv
-binary_op binary_ops.Urem = bin_ops.Urem
-binary_op binary_ops.Shl = bin_ops.Shl
-binary_op binary_ops.Lshr = bin_ops.Lshr
-binary_op binary_ops.Ashr = bin_ops.Ashr
-binary_op binary_ops.And = bin_ops.And
-binary_op binary_ops.Or = bin_ops.Or
-binary_op binary_ops.Xor = bin_ops.Xor
-
-abbrev pub compare_op : CompareOp → CmpOp
-compare_op compare_ops.Eq = cmp_ops.Eq
-compare_op compare_ops.Ne = cmp_ops.Ne
-compare_op compare_ops.Slt = cmp_ops.Slt
-compare_op compare_ops.Sle = cmp_ops.Sle
-compare_op compare_ops.Sgt = cmp_ops.Sgt
-compare_op compare_ops.Sge = cmp_ops.Sge
-compare_op compare_ops.Ult = cmp_ops.Ult
-compare_op compare_ops.Ule = cmp_ops.Ule
-compare_op compare_ops.Ugt = cmp_ops.Ugt
-compare_op compare_ops.Uge = cmp_ops.Uge
-
-abbrev pub convert_op : ConvertOp → ConvOp
-convert_op convert_ops.Trunc = conv_ops.Trunc
-convert_op convert_ops.Zext = conv_ops.Zext
-convert_op convert_ops.Sext = conv_ops.Sext
-
 -- EQ and NE compare all scalars, the orders ints alone
-abbrev pub compares : CmpOp → Option TypeDef → Bool
-compares cmp_ops.Eq d = is_scalar d
-compares cmp_ops.Ne d = is_scalar d
+abbrev pub compares : CompareOp → Option TypeDef → Bool
+compares compare_ops.Eq d = is_scalar d
+compares compare_ops.Ne d = is_scalar d
 compares _ d = is_int d
 
 -- TRUNC, ZEXT and SEXT lead from an int to an int, of a width that `is_conversion` allows
-abbrev pub converts : ConvOp → Option TypeDef → Option TypeDef → Bool
+abbrev pub converts : ConvertOp → Option TypeDef → Option TypeDef → Bool
 converts op (Some (Int from)) (Some (Int to)) = is_conversion op from to
-converts op _ _ = false
+converts _ _ _ = false
 
 -- ---- fields
 
@@ -94,10 +51,10 @@ abbrev pub computation_demands : Tables → Locals → Computation → Demands C
 -- BIN < T > a b exc?: T int; a, b: T
 computation_demands p ls (computations.Binary op t a b e) = type_demand t (is_int (definition_named p t)) ⨾ of_type p ls a t ⨾ of_type p ls b t
 -- CMP < T > a b: T scalar for EQ and NE, else int; a, b: T
-computation_demands p ls (computations.Compare op t a b) = type_demand t (compares (compare_op op) (definition_named p t)) ⨾ of_type p ls a t ⨾ of_type p ls b t
+computation_demands p ls (computations.Compare op t a b) = type_demand t (compares op (definition_named p t)) ⨾ of_type p ls a t ⨾ of_type p ls b t
 -- TRUNC < A B > a, ZEXT, SEXT: A, B int; B not wider, or not narrower; a: A
 computation_demands p ls (computations.Convert op s t a) =
-    type_demand s (is_int (definition_named p s)) ⨾ type_demand t (converts (convert_op op) (definition_named p s) (definition_named p t)) ⨾ of_type p ls a s
+    type_demand s (is_int (definition_named p s)) ⨾ type_demand t (converts op (definition_named p s) (definition_named p t)) ⨾ of_type p ls a s
 -- REFCAST < A B > a: both ref, both iref or both funcref; a: A
 computation_demands p ls (computations.Refcast s t a) =
     type_demand s (is_castable (definition_named p s)) ⨾ type_demand t (are_cast (definition_named p s) (definition_named p t)) ⨾ of_type p ls a s
@@ -121,9 +78,9 @@ computation_gives p (computations.Extractvalue t n a) = or_zero (class_in p.type
 computation_gives p (computations.Insertvalue t n a b) = noted_class p t ∷ []
 
 abbrev pub computation_code : Tables → Locals → Computation → ComputationForm
-computation_code p ls (computations.Binary op t a b e) = forms.Binary (binary_op op) (noted_class p t) (source_of p ls a) (source_of p ls b)
-computation_code p ls (computations.Compare op t a b) = forms.Compare (compare_op op) (noted_class p t) (source_of p ls a) (source_of p ls b)
-computation_code p ls (computations.Convert op s t a) = forms.Convert (convert_op op) (noted_class p s) (noted_class p t) (source_of p ls a)
+computation_code p ls (computations.Binary op t a b e) = forms.Binary op (noted_class p t) (source_of p ls a) (source_of p ls b)
+computation_code p ls (computations.Compare op t a b) = forms.Compare op (noted_class p t) (source_of p ls a) (source_of p ls b)
+computation_code p ls (computations.Convert op s t a) = forms.Convert op (noted_class p s) (noted_class p t) (source_of p ls a)
 computation_code p ls (computations.Refcast s t a) = forms.Refcast (noted_class p s) (noted_class p t) (source_of p ls a)
 computation_code p ls (computations.Select s t c a b) = forms.Select (noted_class p t) (source_of p ls c) (source_of p ls a) (source_of p ls b)
 computation_code p ls (computations.Extractvalue t n a) = forms.Extractvalue (noted_class p t) n.number.magnitude (source_of p ls a)

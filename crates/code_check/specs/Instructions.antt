@@ -100,6 +100,19 @@ switch_exc (switches.SwapReturning s ts n e k) = e
 switch_exc (switches.SwapKilling s n) = None
 switch_exc (switches.Newthread s tl n e) = e
 
+abbrev pub trapping_exc : Trapping → Option ExceptionClause
+trapping_exc (trappings.Trap ts e k) = e
+trapping_exc _ = None
+
+abbrev pub exc_of : Op → Option ExceptionClause
+exc_of (ops.Computation c) = computation_exc c
+exc_of (ops.ControlFlow c) = control_exc c
+exc_of (ops.Allocation a) = allocation_exc a
+exc_of (ops.Access a) = access_exc a
+exc_of (ops.Trapping t) = trapping_exc t
+exc_of (ops.StackSwitch s) = switch_exc s
+exc_of _ = None
+
 abbrev pub normal_of_exc : Option ExceptionClause → Option Destination
 normal_of_exc e = option_map (λ e. e.normal) e
 
@@ -107,36 +120,14 @@ abbrev pub exceptional_of_exc : Option ExceptionClause → Option Destination
 exceptional_of_exc e = option_map (λ e. e.exceptional) e
 
 -- the destination that may use the instruction's own results: the first of EXC, the second of a WATCHPOINT
-abbrev pub trapping_normal : Trapping → Option Destination
-trapping_normal (trappings.Trap ts e k) = normal_of_exc e
-trapping_normal (trappings.Watchpoint n ts d e x k) = Some e
-trapping_normal (trappings.Wpbranch n d e) = None
-
 abbrev pub normal_of : Op → Option Destination
-normal_of (ops.Computation c) = normal_of_exc (computation_exc c)
-normal_of (ops.ControlFlow c) = normal_of_exc (control_exc c)
-normal_of (ops.Allocation a) = normal_of_exc (allocation_exc a)
-normal_of (ops.Addressing a) = None
-normal_of (ops.Access a) = normal_of_exc (access_exc a)
-normal_of (ops.Trapping t) = trapping_normal t
-normal_of (ops.StackSwitch s) = normal_of_exc (switch_exc s)
-normal_of (ops.Common c) = None
+normal_of (ops.Trapping (trappings.Watchpoint n ts d e x k)) = Some e
+normal_of op = normal_of_exc (exc_of op)
 
 -- the destination of an exception: the second of EXC, that of WPEXC
-abbrev pub trapping_exceptional : Trapping → Option Destination
-trapping_exceptional (trappings.Trap ts e k) = exceptional_of_exc e
-trapping_exceptional (trappings.Watchpoint n ts d e x k) = x
-trapping_exceptional (trappings.Wpbranch n d e) = None
-
 abbrev pub exceptional_of : Op → Option Destination
-exceptional_of (ops.Computation c) = exceptional_of_exc (computation_exc c)
-exceptional_of (ops.ControlFlow c) = exceptional_of_exc (control_exc c)
-exceptional_of (ops.Allocation a) = exceptional_of_exc (allocation_exc a)
-exceptional_of (ops.Addressing a) = None
-exceptional_of (ops.Access a) = exceptional_of_exc (access_exc a)
-exceptional_of (ops.Trapping t) = trapping_exceptional t
-exceptional_of (ops.StackSwitch s) = exceptional_of_exc (switch_exc s)
-exceptional_of (ops.Common c) = None
+exceptional_of (ops.Trapping (trappings.Watchpoint n ts d e x k)) = x
+exceptional_of op = exceptional_of_exc (exc_of op)
 
 -- KEEPALIVE ( L* )
 abbrev pub control_keepalive : ControlFlow → Option (List Name)
@@ -169,14 +160,12 @@ control_ends _ = true
 -- so do WATCHPOINT and WPBRANCH
 abbrev pub trapping_ends : Trapping → Bool
 trapping_ends (trappings.Trap ts e k) = is_some e
-trapping_ends (trappings.Watchpoint n ts d e x k) = true
-trapping_ends (trappings.Wpbranch n d e) = true
+trapping_ends _ = true
 
 -- SWAPSTACK with KILL_OLD
 abbrev pub switch_ends : StackSwitch → Bool
-switch_ends (switches.SwapReturning s ts n e k) = is_some e
 switch_ends (switches.SwapKilling s n) = true
-switch_ends (switches.Newthread s tl n e) = is_some e
+switch_ends switch = is_some (switch_exc switch)
 
 -- @uvm.thread_exit
 abbrev pub common_ends : CommonInst → Bool
@@ -185,14 +174,11 @@ common_ends _ = false
 
 -- and every instruction with EXC
 abbrev pub is_ending : Op → Bool
-is_ending (ops.Computation c) = is_some (computation_exc c)
 is_ending (ops.ControlFlow c) = control_ends c
-is_ending (ops.Allocation a) = is_some (allocation_exc a)
-is_ending (ops.Addressing a) = false
-is_ending (ops.Access a) = is_some (access_exc a)
 is_ending (ops.Trapping t) = trapping_ends t
 is_ending (ops.StackSwitch s) = switch_ends s
 is_ending (ops.Common c) = common_ends c
+is_ending op = is_some (exc_of op)
 
 -- ---- variables
 

@@ -4,10 +4,6 @@
 -- instruction gives.
 use Rattle.std.specs.Prelude.{◌≡◌, ℕ, ◌^◌, Bool, true, false, List, [], ◌∷◌, ◌++◌, Option, Some, None, IsSomeAnd, is_some, slice_get, take, nat_lt, not, ◌&&◌, ◌||◌}
 use Rattle.demands.specs.Names.{found}
-use Rattle.mu_base.specs.declared.order.Order.{Order as MuOrder}
-use Rattle.mu_base.specs.declared.order.Order.TheVariants as mu_orders
-use Rattle.ir_tree.specs.declared.operators.MemoryOrder.{MemoryOrder}
-use Rattle.ir_tree.specs.declared.operators.MemoryOrder.TheVariants as orders
 use Rattle.type_laws.specs.declared.definition.TypeDef.{TypeDef}
 use Rattle.type_laws.specs.Same.{IsGraph}
 use Rattle.type_laws.specs.Parts.{parts_at}
@@ -173,21 +169,6 @@ abbrev pub OptionalNormalFits : Tables → Blocks → List ℕ → Option Target
 OptionalNormalFits p blocks ks None = Unit {0}
 OptionalNormalFits p blocks ks (Some t) = NormalFits p blocks ks t
 
--- ---- orders of accesses, and the words of the text that stand for them
-
-abbrev pub written_order : MuOrder → MemoryOrder
-written_order mu_orders.NotAtomic = orders.NotAtomic
-written_order mu_orders.Relaxed = orders.Relaxed
-written_order mu_orders.Consume = orders.Consume
-written_order mu_orders.Acquire = orders.Acquire
-written_order mu_orders.Release = orders.Release
-written_order mu_orders.AcqRel = orders.AcqRel
-written_order mu_orders.SeqCst = orders.SeqCst
-
--- an order that passes the test of its form
-abbrev pub OrderFits : (MemoryOrder → Bool) → MuOrder → Type 0
-OrderFits allows o = allows (written_order o) ≡ true
-
 -- ---- the forms: each fits the variables before it, and gives values of the classes gs
 
 abbrev pub ComputationFits : Tables → List ℕ → ComputationForm → List ℕ → Type 0
@@ -262,20 +243,20 @@ AddressingFits p ks (finding.Getvarpartiref c l) gs =
 
 abbrev pub AccessFits : Tables → List ℕ → AccessForm → List ℕ → Type 0
 -- an order of loads; a scalar type; a reference to a place of it; the result has the type
-AccessFits p ks (accessing.Load o c l) gs = OrderFits may_load o × (t : HasType p is_scalar c) × PlaceFits p ks l t.number × (gs ≡ c ∷ [])
+AccessFits p ks (accessing.Load o c l) gs = (may_load o ≡ true) × (t : HasType p is_scalar c) × PlaceFits p ks l t.number × (gs ≡ c ∷ [])
 -- an order of stores; a scalar type; a reference to a place of it, and a value of it
 AccessFits p ks (accessing.Store o c l v) gs =
-    OrderFits may_store o × (t : HasType p is_scalar c) × PlaceFits p ks l t.number × SourceFits p ks v c × (gs ≡ [])
+    (may_store o ≡ true) × (t : HasType p is_scalar c) × PlaceFits p ks l t.number × SourceFits p ks v c × (gs ≡ [])
 -- orders of updates and of failing ones; a scalar type; a reference to a place of it, and two values of it; the results are one more
 -- and whether they were exchanged
 AccessFits p ks (accessing.Cmpxchg w s f c l v u) gs =
-    OrderFits may_update s × OrderFits may_fail f × (t : HasType p is_scalar c) × PlaceFits p ks l t.number × SourceFits p ks v c × SourceFits p ks u c
+    (may_update s ≡ true) × (may_fail f ≡ true) × (t : HasType p is_scalar c) × PlaceFits p ks l t.number × SourceFits p ks v c × SourceFits p ks u c
     × (gs ≡ c ∷ int1 p.types ∷ [])
 -- an order of updates; a type that the operator updates; a reference to a place of it, and a value of it; the result is one more
 AccessFits p ks (accessing.Atomicrmw o op c l v) gs =
-    OrderFits may_update o × (t : HasType p (updates_type op) c) × PlaceFits p ks l t.number × SourceFits p ks v c × (gs ≡ c ∷ [])
+    (may_update o ≡ true) × (t : HasType p (updates_type op) c) × PlaceFits p ks l t.number × SourceFits p ks v c × (gs ≡ c ∷ [])
 -- an order of fences
-AccessFits p ks (accessing.Fence o) gs = OrderFits may_fence o × (gs ≡ [])
+AccessFits p ks (accessing.Fence o) gs = (may_fence o ≡ true) × (gs ≡ [])
 
 abbrev pub TrappingFits : Tables → Blocks → List ℕ → TrappingForm → List ℕ → Type 0
 -- types that variables may have, which the results have

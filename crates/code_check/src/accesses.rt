@@ -7,7 +7,7 @@ ghost use Rattle.check_tables.specs.Lookups.{noted_class, definition_named};
 ghost use Rattle.check_tables.specs.TypeTests.{is_scalar};
 ghost use Rattle.code_check.specs.Operands.{type_demand};
 ghost use Rattle.code_check.specs.Gifts.{listed};
-ghost use Rattle.code_check.specs.Accesses.{memory_order, may_load, may_store, may_update, may_fail, may_fence, updates_type, access_demands, access_gives, access_code};
+ghost use Rattle.code_check.specs.Accesses.{may_load, may_store, may_update, may_fail, may_fence, updates_type, access_demands, access_gives, access_code};
 
 use crate::code::AccessForm;
 use crate::gifts::Gift;
@@ -16,70 +16,48 @@ use crate::operands::{demand, of_type};
 use crate::scopes::Locals;
 use check_tables::{CheckFault, CheckKind, Tables};
 use ir_lex::Name;
-use ir_tree::{Access, MemoryOrder, Operand, Order, UpdateOp};
+use ir_tree::{Access, Operand, WrittenOrder};
+use mu_base::{Order, UpdateOp};
 
 // ---- orders
 
-fn memory_order(order: MemoryOrder) -> mu_base::Order
-    ensures { result ≡ memory_order order }
-{
-    match order {
-        MemoryOrder::NotAtomic => mu_base::Order::NotAtomic,
-        MemoryOrder::Relaxed => mu_base::Order::Relaxed,
-        MemoryOrder::Consume => mu_base::Order::Consume,
-        MemoryOrder::Acquire => mu_base::Order::Acquire,
-        MemoryOrder::Release => mu_base::Order::Release,
-        MemoryOrder::AcqRel => mu_base::Order::AcqRel,
-        MemoryOrder::SeqCst => mu_base::Order::SeqCst,
-    }
-}
-
-fn may_load(order: MemoryOrder) -> bool
+fn may_load(order: Order) -> bool
     ensures { result ≡ may_load order }
 {
-    !matches!(order, MemoryOrder::Release | MemoryOrder::AcqRel)
+    !matches!(order, Order::Release | Order::AcqRel)
 }
 
-fn may_store(order: MemoryOrder) -> bool
+fn may_store(order: Order) -> bool
     ensures { result ≡ may_store order }
 {
-    !matches!(
-        order,
-        MemoryOrder::Consume | MemoryOrder::Acquire | MemoryOrder::AcqRel
-    )
+    !matches!(order, Order::Consume | Order::Acquire | Order::AcqRel)
 }
 
-fn may_update(order: MemoryOrder) -> bool
+fn may_update(order: Order) -> bool
     ensures { result ≡ may_update order }
 {
-    !matches!(order, MemoryOrder::NotAtomic)
+    !matches!(order, Order::NotAtomic)
 }
 
-/// Whether a `CMPXCHG` that fails may have this order.
-fn may_fail(order: MemoryOrder) -> bool
+/// Whether a `CMPXCHG` that fails, which is an atomic load then, may have this order.
+fn may_fail(order: Order) -> bool
     ensures { result ≡ may_fail order }
 {
-    matches!(
-        order,
-        MemoryOrder::Relaxed | MemoryOrder::Consume | MemoryOrder::Acquire | MemoryOrder::SeqCst
-    )
+    may_load(order) && may_update(order)
 }
 
-fn may_fence(order: MemoryOrder) -> bool
+fn may_fence(order: Order) -> bool
     ensures { result ≡ may_fence order }
 {
-    !matches!(
-        order,
-        MemoryOrder::NotAtomic | MemoryOrder::Relaxed | MemoryOrder::Consume
-    )
+    !matches!(order, Order::NotAtomic | Order::Relaxed | Order::Consume)
 }
 
 /// A memory order that has to be allowed.
-fn order(allowed: bool, order: Order) -> Result<mu_base::Order, CheckFault>
-    ensures { Judges (demand order.place BadOrder allowed) (memory_order order.order) result }
+fn order(allowed: bool, order: WrittenOrder) -> Result<Order, CheckFault>
+    ensures { Judges (demand order.place BadOrder allowed) order.order result }
 {
     demand(allowed, CheckKind::BadOrder, order.place)?;
-    Ok(memory_order(order.order))
+    Ok(order.order)
 }
 
 // ---- types
@@ -105,7 +83,7 @@ fn updates_type(tables: &Tables, op: UpdateOp, name: &Name) -> bool
 fn load(
     tables: &Tables,
     locals: &Locals,
-    given: Order,
+    given: WrittenOrder,
     name: &Name,
     location: &Operand,
 ) -> Result<AccessForm, CheckFault>
@@ -124,7 +102,7 @@ fn load(
 fn store(
     tables: &Tables,
     locals: &Locals,
-    given: Order,
+    given: WrittenOrder,
     name: &Name,
     location: &Operand,
     value: &Operand,
@@ -147,8 +125,8 @@ fn cmpxchg(
     tables: &Tables,
     locals: &Locals,
     weak: bool,
-    success: Order,
-    failure: Order,
+    success: WrittenOrder,
+    failure: WrittenOrder,
     name: &Name,
     location: &Operand,
     expected: &Operand,
@@ -176,7 +154,7 @@ fn cmpxchg(
 fn atomicrmw(
     tables: &Tables,
     locals: &Locals,
-    given: Order,
+    given: WrittenOrder,
     op: UpdateOp,
     name: &Name,
     location: &Operand,

@@ -1,6 +1,7 @@
 // What stands behind instructions, and which of them end their block.
 ghost use Rattle.std.specs.Prelude.{◌≡◌, option_copied};
-ghost use Rattle.code_check.specs.Instructions.{computation_exc, control_exc, allocation_exc, access_exc, switch_exc, normal_of_exc, exceptional_of_exc, trapping_normal, normal_of, trapping_exceptional, exceptional_of, control_keepalive, trapping_keepalive, switch_keepalive, keepalive_of, control_ends, trapping_ends, switch_ends, common_ends, is_ending};
+ghost use Rattle.ir_tree.specs.declared.code.Op.TheVariants as ops;
+ghost use Rattle.code_check.specs.Instructions.{computation_exc, control_exc, allocation_exc, access_exc, switch_exc, normal_of_exc, exceptional_of_exc, normal_of, exceptional_of, control_keepalive, trapping_keepalive, switch_keepalive, keepalive_of, control_ends, trapping_ends, switch_ends, common_ends, is_ending};
 
 use ir_lex::Name;
 use ir_tree::{
@@ -82,7 +83,7 @@ fn exceptional_of_exc(clause: Option<&ExceptionClause>) -> Option<&Destination>
 }
 
 fn trapping_normal(trapping: &Trapping) -> Option<&Destination>
-    ensures { option_copied result ≡ trapping_normal trapping.now }
+    ensures { option_copied result ≡ normal_of (ops.Trapping trapping.now) }
 {
     match trapping {
         Trapping::Trap { exception, .. } => normal_of_exc(exception.as_ref()),
@@ -107,7 +108,7 @@ pub fn normal_of(op: &Op) -> Option<&Destination>
 }
 
 fn trapping_exceptional(trapping: &Trapping) -> Option<&Destination>
-    ensures { option_copied result ≡ trapping_exceptional trapping.now }
+    ensures { option_copied result ≡ exceptional_of (ops.Trapping trapping.now) }
 {
     match trapping {
         Trapping::Trap { exception, .. } => exceptional_of_exc(exception.as_ref()),

@@ -1,7 +1,5 @@
 // Code that was checked: names are numbers, and types are classes.
-use ir_tree::UpdateOp;
-use mu_base::Order;
-use mu_values::{BinOp, CmpOp, ConvOp};
+use mu_base::{BinaryOp, CompareOp, ConvertOp, Order, UpdateOp};
 use text_forms::Listing;
 
 /// Where the value of an operand comes from, by number.
@@ -41,21 +39,21 @@ pub enum Entered {
 pub enum ComputationForm {
     /// ADD and its like
     Binary {
-        op: BinOp,
+        op: BinaryOp,
         class: u32,
         left: Source,
         right: Source,
     },
     /// EQ and its like
     Compare {
-        op: CmpOp,
+        op: CompareOp,
         class: u32,
         left: Source,
         right: Source,
     },
     /// TRUNC, ZEXT and SEXT
     Convert {
-        op: ConvOp,
+        op: ConvertOp,
         from: u32,
         to: u32,
         operand: Source,

@@ -5,7 +5,7 @@ ghost use Rattle.ir_tree.specs.declared.computing.Computation.TheVariants as for
 ghost use Rattle.check_tables.specs.Types.{class_in};
 ghost use Rattle.check_tables.specs.Lookups.{or_zero, definition_named};
 ghost use Rattle.code_check.specs.Gifts.{listed};
-ghost use Rattle.code_check.specs.Computations.{binary_op, compare_op, convert_op, compares, converts, field_named, field_demands, computation_demands, computation_gives, computation_code};
+ghost use Rattle.code_check.specs.Computations.{compares, converts, field_named, field_demands, computation_demands, computation_gives, computation_code};
 
 use crate::code::ComputationForm;
 use crate::gifts::{Gift, or_zero};
@@ -13,68 +13,21 @@ use crate::operands::{int_type, is_class, of_type, operand, type_demand, value_t
 use crate::scopes::Locals;
 use check_tables::{CheckFault, CheckKind, Field, Tables, fault_at};
 use ir_lex::{Name, Numeral};
-use ir_tree::{BinaryOp, CompareOp, Computation, ConvertOp, Operand};
-use mu_values::{BinOp, CmpOp, ConvOp, is_conversion};
+use ir_tree::{Computation, Operand};
+use mu_base::{BinaryOp, CompareOp, ConvertOp};
+use mu_values::is_conversion;
 
-fn binary_op(op: BinaryOp) -> BinOp
-    ensures { result ≡ binary_op op }
-{
-    match op {
-        BinaryOp::Add => BinOp::Add,
-        BinaryOp::Sub => BinOp::Sub,
-        BinaryOp::Mul => BinOp::Mul,
-        BinaryOp::Sdiv => BinOp::Sdiv,
-        BinaryOp::Srem => BinOp::Srem,
-        BinaryOp::Udiv => BinOp::Udiv,
-        BinaryOp::Urem => BinOp::Urem,
-        BinaryOp::Shl => BinOp::Shl,
-        BinaryOp::Lshr => BinOp::Lshr,
-        BinaryOp::Ashr => BinOp::Ashr,
-        BinaryOp::And => BinOp::And,
-        BinaryOp::Or => BinOp::Or,
-        BinaryOp::Xor => BinOp::Xor,
-    }
-}
-
-fn compare_op(op: CompareOp) -> CmpOp
-    ensures { result ≡ compare_op op }
-{
-    match op {
-        CompareOp::Eq => CmpOp::Eq,
-        CompareOp::Ne => CmpOp::Ne,
-        CompareOp::Slt => CmpOp::Slt,
-        CompareOp::Sle => CmpOp::Sle,
-        CompareOp::Sgt => CmpOp::Sgt,
-        CompareOp::Sge => CmpOp::Sge,
-        CompareOp::Ult => CmpOp::Ult,
-        CompareOp::Ule => CmpOp::Ule,
-        CompareOp::Ugt => CmpOp::Ugt,
-        CompareOp::Uge => CmpOp::Uge,
-    }
-}
-
-fn convert_op(op: ConvertOp) -> ConvOp
-    ensures { result ≡ convert_op op }
-{
-    match op {
-        ConvertOp::Trunc => ConvOp::Trunc,
-        ConvertOp::Zext => ConvOp::Zext,
-        ConvertOp::Sext => ConvOp::Sext,
-    }
-}
-
-/// Whether values of the type that a name stands for are compared so: an order is for ints alone.
-fn compares(tables: &Tables, op: CmpOp, name: &Name) -> bool
+fn compares(tables: &Tables, op: CompareOp, name: &Name) -> bool
     ensures { result ≡ compares op (definition_named tables.now name.now) }
 {
     match op {
-        CmpOp::Eq | CmpOp::Ne => tables.is_scalar(name),
+        CompareOp::Eq | CompareOp::Ne => tables.is_scalar(name),
         _ => tables.is_int(name),
     }
 }
 
 /// Whether the change of width leads from the one type to the other.
-fn converts(tables: &Tables, op: ConvOp, from: &Name, to: &Name) -> bool
+fn converts(tables: &Tables, op: ConvertOp, from: &Name, to: &Name) -> bool
     ensures { result ≡ converts op (definition_named tables.now from.now) (definition_named tables.now to.now) }
 {
     match (tables.width(from), tables.width(to)) {
@@ -111,7 +64,7 @@ fn binary(
     let left = of_type(tables, locals, left, name)?;
     let right = of_type(tables, locals, right, name)?;
     Ok(ComputationForm::Binary {
-        op: binary_op(op),
+        op,
         class,
         left,
         right,
@@ -129,7 +82,6 @@ fn compare(
 ) -> Result<ComputationForm, CheckFault>
     ensures { Judges (computation_demands tables.now locals.now (forms.Compare op name.now left.now right.now)) (computation_code tables.now locals.now (forms.Compare op name.now left.now right.now)) result }
 {
-    let op = compare_op(op);
     type_demand(name, compares(tables, op, name))?;
     let left = of_type(tables, locals, left, name)?;
     let right = of_type(tables, locals, right, name)?;
@@ -152,7 +104,6 @@ fn convert(
 ) -> Result<ComputationForm, CheckFault>
     ensures { Judges (computation_demands tables.now locals.now (forms.Convert op from.now to.now operand.now)) (computation_code tables.now locals.now (forms.Convert op from.now to.now operand.now)) result }
 {
-    let op = convert_op(op);
     let class = int_type(tables, from)?;
     type_demand(to, converts(tables, op, from, to))?;
     let operand = of_type(tables, locals, operand, from)?;

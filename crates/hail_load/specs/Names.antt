@@ -10,8 +10,9 @@ use Rattle.ir_lex.specs.Scanner.{number_of}
 use Rattle.ir_tree.specs.Lists.{globals}
 use Rattle.bundle_names.specs.declared.globals.Sort.{Sort}
 use Rattle.bundle_names.specs.declared.globals.Sort.TheVariants as sorts
+use Rattle.text_forms.specs.declared.fault.FaultKind.TheVariants as kinds
 use Rattle.hail_load.specs.declared.fault.HailKind.{HailKind}
-use Rattle.hail_load.specs.declared.fault.HailKind.TheVariants.{Unexpected, Unknown, Duplicate}
+use Rattle.hail_load.specs.declared.fault.HailKind.TheVariants.{Text, Unknown, Duplicate}
 
 -- ---- what a global name has to stand for
 
@@ -59,8 +60,8 @@ given_with given before t = if has (symbols.Object ∷ []) t.symbol then (if is_
 -- ---- numbers: an index stands behind `[`, a length behind `>`, and neither is negative
 
 abbrev pub number_demand : Symbol → Tok → Demands HailKind
-number_demand symbols.SquareOpen t = demand t.place Unexpected (not (number_of t.spelling).negative)
-number_demand symbols.Greater t = demand t.place Unexpected (not (number_of t.spelling).negative)
+number_demand symbols.SquareOpen t = demand t.place (Text kinds.Unexpected) (not (number_of t.spelling).negative)
+number_demand symbols.Greater t = demand t.place (Text kinds.Unexpected) (not (number_of t.spelling).negative)
 number_demand _ t = none
 
 -- ---- tokens

@@ -1,7 +1,7 @@
 -- Worked examples: texts of scripts.
 use Rattle.std.specs.Prelude.{◌≡◌, refl, [], ◌∷◌, ◌++◌, None, codes}
 use Rattle.type_laws.specs.Leaves.{times}
-use Rattle.ir_lex.specs.declared.token.LexKind.TheVariants as lexical
+use Rattle.text_forms.specs.declared.fault.FaultKind.TheVariants as kinds
 use Rattle.text_forms.specs.Reading.{elements}
 use Rattle.ir_lex.specs.WordTable.{words, directives, common_names}
 use Rattle.ir_lex.specs.Scanner.{gap_len, next_of}
@@ -13,7 +13,7 @@ use Rattle.hail_load.specs.Grammar.{new_command, newhybrid_command, init_command
 use Rattle.hail_load.specs.declared.tree.Root.TheVariants as roots
 use Rattle.hail_load.specs.declared.tree.Piece.TheVariants as pieces
 use Rattle.hail_load.specs.declared.tree.Command.TheVariants as commands
-use Rattle.hail_load.specs.declared.fault.HailKind.TheVariants.{Lex, Unexpected, Unknown, Duplicate}
+use Rattle.hail_load.specs.declared.fault.HailKind.TheVariants.{Text, Unknown, Duplicate}
 use Rattle.hail_load.specs.Texts.{hail_commands}
 use Rattle.hail_load.specs.Samples.{text_fault, stands, named, plain_number}
 
@@ -57,43 +57,43 @@ unfolding tokens_from tokens_within next_of gap_len words directives common_name
 names_are_given_once = (refl, refl)
 
 numbers_are_not_negative :
-    (text_fault (codes ".init @a[-1] = 0") ≡ stands Unexpected 9)
-    × (text_fault (codes ".init @p = &@a[-1]") ≡ stands Unexpected 15)
-    × (text_fault (codes ".newhybrid $h <@hy> -1") ≡ stands Unexpected 20)
+    (text_fault (codes ".init @a[-1] = 0") ≡ stands (Text kinds.Unexpected) 9)
+    × (text_fault (codes ".init @p = &@a[-1]") ≡ stands (Text kinds.Unexpected) 15)
+    × (text_fault (codes ".newhybrid $h <@hy> -1") ≡ stands (Text kinds.Unexpected) 20)
 unfolding tokens_from tokens_within next_of gap_len words directives common_names elements mark name numeral global bracketed object root index target reference plain members list source new_command newhybrid_command init_command command hail
 numbers_are_not_negative = (refl, refl, refl)
 
 tokens_are_unexpected :
-    (text_fault (codes ".new <") ≡ stands Unexpected 5)
-    × (text_fault (codes ".new $a <$b>") ≡ stands Unexpected 9)
-    × (text_fault (codes ".new $a <@i64> 5") ≡ stands Unexpected 15)
-    × (text_fault (codes ".init @g =") ≡ stands Unexpected 10)
-    × (text_fault (codes ".init @g = .new") ≡ stands Unexpected 11)
-    × (text_fault (codes ".init @g = 5 [0]") ≡ stands Unexpected 13)
-    × (text_fault (codes ".init @g = {[0]}") ≡ stands Unexpected 12)
-    × (text_fault (codes ".init @g = {{}[0]}") ≡ stands Unexpected 14)
-    × (text_fault (codes ".init @g = {&@a[0] 5 [0]}") ≡ stands Unexpected 21)
-    × (text_fault (codes ".typedef") ≡ stands Unexpected 0)
-    × (text_fault (codes ".init @g = {1 2") ≡ stands Unexpected 15)
+    (text_fault (codes ".new <") ≡ stands (Text kinds.Unexpected) 5)
+    × (text_fault (codes ".new $a <$b>") ≡ stands (Text kinds.Unexpected) 9)
+    × (text_fault (codes ".new $a <@i64> 5") ≡ stands (Text kinds.Unexpected) 15)
+    × (text_fault (codes ".init @g =") ≡ stands (Text kinds.Unexpected) 10)
+    × (text_fault (codes ".init @g = .new") ≡ stands (Text kinds.Unexpected) 11)
+    × (text_fault (codes ".init @g = 5 [0]") ≡ stands (Text kinds.Unexpected) 13)
+    × (text_fault (codes ".init @g = {[0]}") ≡ stands (Text kinds.Unexpected) 12)
+    × (text_fault (codes ".init @g = {{}[0]}") ≡ stands (Text kinds.Unexpected) 14)
+    × (text_fault (codes ".init @g = {&@a[0] 5 [0]}") ≡ stands (Text kinds.Unexpected) 21)
+    × (text_fault (codes ".typedef") ≡ stands (Text kinds.Unexpected) 0)
+    × (text_fault (codes ".init @g = {1 2") ≡ stands (Text kinds.Unexpected) 15)
 unfolding tokens_from tokens_within next_of gap_len words directives common_names elements mark name numeral global bracketed object root index target reference plain members list source new_command newhybrid_command init_command command hail
 tokens_are_unexpected = (refl, refl, refl, refl, refl, refl, refl, refl, refl, refl, refl)
 
 tokens_are_lexical_faults :
-    (text_fault (codes ".init @g = ?") ≡ stands (Lex lexical.BadByte) 11)
-    × (text_fault (codes ".init $ = 5") ≡ stands (Lex lexical.BadName) 6)
-    × (text_fault (codes ".init @x = 340282366920938463463374607431768211456") ≡ stands (Lex lexical.NumberTooLarge) 11)
+    (text_fault (codes ".init @g = ?") ≡ stands (Text kinds.BadByte) 11)
+    × (text_fault (codes ".init $ = 5") ≡ stands (Text kinds.BadName) 6)
+    × (text_fault (codes ".init @x = 340282366920938463463374607431768211456") ≡ stands (Text kinds.NumberTooLarge) 11)
 unfolding tokens_from tokens_within next_of gap_len words directives common_names elements mark name numeral global bracketed object root index target reference plain members list source new_command newhybrid_command init_command command hail
 tokens_are_lexical_faults = (refl, refl, refl)
 
 first_fault_counts :
     (text_fault (codes ".init $q }") ≡ stands Unknown 6)
     × (text_fault (codes ".new $a <@q ?") ≡ stands Unknown 9)
-    × (text_fault (codes ".new $a <@n> ? .new $a <@n>") ≡ stands (Lex lexical.BadByte) 13)
+    × (text_fault (codes ".new $a <@n> ? .new $a <@n>") ≡ stands (Text kinds.BadByte) 13)
 unfolding tokens_from tokens_within next_of gap_len words directives common_names elements mark name numeral global bracketed object root index target reference plain members list source new_command newhybrid_command init_command command hail
 first_fault_counts = (refl, refl, refl)
 
 braces_stand_in_one_another :
     (text_fault (codes ".init @g = " ++ times 64 (123 ∷ []) ++ 48 ∷ times 64 (125 ∷ [])) ≡ None)
-    × (text_fault (codes ".init @g = " ++ times 65 (123 ∷ [])) ≡ stands Unexpected 75)
+    × (text_fault (codes ".init @g = " ++ times 65 (123 ∷ [])) ≡ stands (Text kinds.Unexpected) 75)
 unfolding tokens_from tokens_within next_of gap_len words directives common_names elements mark name numeral global bracketed object root index target reference plain members list source new_command newhybrid_command init_command command hail
 braces_stand_in_one_another = (refl, refl)

@@ -2,28 +2,17 @@
 use Rattle.std.specs.Prelude.{ℕ, false, nat_lt, List, [], ◌∷◌, Result, Ok, Err, if◌then◌else◌}
 use Rattle.text_forms.specs.declared.symbol.Symbol.TheVariants as symbols
 use Rattle.text_forms.specs.declared.fault.Fault.{Fault}
-use Rattle.text_forms.specs.declared.fault.FaultKind.{FaultKind}
-use Rattle.text_forms.specs.declared.fault.FaultKind.TheVariants as kinds
 use Rattle.text_forms.specs.Tokens.{Tok}
 use Rattle.text_forms.specs.Reading.{whole}
 use Rattle.demands.specs.Demands.{Demands, demand, ◌⨾◌}
 use Rattle.demands.specs.Names.{Names}
-use Rattle.ir_lex.specs.declared.token.LexKind.TheVariants as lexical
 use Rattle.ir_lex.specs.Walk.{tokens_from}
 use Rattle.bundle_names.specs.declared.globals.Sort.{Sort}
 use Rattle.hail_load.specs.declared.tree.Command.{Command}
 use Rattle.hail_load.specs.declared.fault.HailKind.{HailKind}
-use Rattle.hail_load.specs.declared.fault.HailKind.TheVariants.{Lex, Unexpected}
+use Rattle.hail_load.specs.declared.fault.HailKind.TheVariants.{Text}
 use Rattle.hail_load.specs.Grammar.{hail}
 use Rattle.hail_load.specs.Names.{token_demands}
-
--- what a fault of the grammar is called. The grammar leaves out no words and has no limits on lists
-abbrev pub kind_of : FaultKind → HailKind
-kind_of kinds.BadByte = Lex lexical.BadByte
-kind_of kinds.BadName = Lex lexical.BadName
-kind_of kinds.NumberTooLarge = Lex lexical.NumberTooLarge
-kind_of kinds.TooLong = Lex lexical.TooLong
-kind_of _ = Unexpected
 
 -- the tokens before a place
 abbrev pub tokens_before : ℕ → List Tok → List Tok
@@ -34,7 +23,7 @@ tokens_before place (t ∷ ts) = if nat_lt t.place place then t ∷ tokens_befor
 -- there. The fault of the grammar stands behind them.
 abbrev pub demands_by : Names Sort → List Tok → Result (List Command) Fault → Demands HailKind
 demands_by names ts (Ok commands) = token_demands names [] symbols.End ts
-demands_by names ts (Err f) = token_demands names [] symbols.End (tokens_before f.place ts) ⨾ demand f.place (kind_of f.kind) false
+demands_by names ts (Err f) = token_demands names [] symbols.End (tokens_before f.place ts) ⨾ demand f.place (Text f.kind) false
 
 abbrev pub commands_in : Result (List Command) Fault → List Command
 commands_in (Ok commands) = commands

@@ -14,7 +14,7 @@ use bundle_names::Sort;
 use demands::Scope;
 use ir_lex::Cursor;
 use std::alloc::{AllocError, Global};
-use text_forms::Symbol;
+use text_forms::{FaultKind, Symbol};
 
 /// Nothing stands behind a token of these.
 const LAST: [Symbol; 5] = [
@@ -80,7 +80,7 @@ fn judge_number(before: Symbol, cursor: &Cursor) -> Result<(), HailFault>
     }
     match cursor.ahead().numeral() {
         Ok(numeral) => meet(
-            HailKind::Unexpected,
+            HailKind::Text(FaultKind::Unexpected),
             cursor.place(),
             !numeral.number.negative,
         ),

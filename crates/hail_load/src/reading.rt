@@ -5,7 +5,7 @@ ghost use Rattle.demands.specs.Demands.{Judges};
 ghost use Rattle.ir_lex.specs.Walk.{tokens_from};
 ghost use Rattle.hail_load.specs.Code.{code_of};
 ghost use Rattle.hail_load.specs.Grammar.{hail};
-ghost use Rattle.hail_load.specs.Texts.{kind_of, hail_demands, hail_commands};
+ghost use Rattle.hail_load.specs.Texts.{hail_demands, hail_commands};
 
 use crate::commands::hail;
 use crate::fault::{HailFault, HailKind};
@@ -14,24 +14,9 @@ use crate::tree::Hail;
 use bundle_check::Checked;
 use bundle_names::Sort;
 use demands::Scope;
-use ir_lex::{Cursor, LexKind};
+use ir_lex::Cursor;
 use std::alloc::Global;
-use text_forms::{Fault, FaultKind, ReadError};
-
-/// What a fault of the grammar is called.
-fn kind_of(kind: FaultKind) -> HailKind
-    ensures { result ≡ kind_of kind }
-{
-    match kind {
-        FaultKind::BadByte => HailKind::Lex(LexKind::BadByte),
-        FaultKind::BadName => HailKind::Lex(LexKind::BadName),
-        FaultKind::NumberTooLarge => HailKind::Lex(LexKind::NumberTooLarge),
-        FaultKind::TooLong => HailKind::Lex(LexKind::TooLong),
-        FaultKind::Unexpected | FaultKind::NotInProfile | FaultKind::TooMany => {
-            HailKind::Unexpected
-        }
-    }
-}
+use text_forms::{Fault, ReadError};
 
 /// The script, where the grammar has one: the names are judged of all its tokens.
 fn judge_all(
@@ -59,7 +44,7 @@ fn judge_before(
 {
     judge_tokens(alloc, names, text, Some(fault.place))?;
     Err(HailFault::At {
-        kind: kind_of(fault.kind),
+        kind: HailKind::Text(fault.kind),
         place: fault.place,
     })
 }
@@ -78,7 +63,7 @@ fn read(alloc: Global, names: &Scope<Sort>, text: &[u8]) -> Result<Hail, HailFau
 /// The script that a text spells, each name, number and mark with its place. The text may hold any bytes. It is judged token by token,
 /// and the first fault is answered:
 ///
-/// - `Lex` at a byte where no token begins as it should, once a token is looked for there;
+/// - `BadByte`, `BadName`, `NumberTooLarge` or `TooLong` where no token begins as it should, once a token is looked for there;
 /// - `Unexpected` at the first token, or at the text's end, with which no script goes on: a brace inside 64 others is such a token, and
 ///   so is a negative number as an index or as the length of a hybrid;
 /// - `Unknown` at a name that stands for nothing of the kind that belongs there: a type in `< >`, a global that a target begins with, a

@@ -33,13 +33,11 @@ is_sigil b = b == 64 || (b == 37 || (b == 36 || b == 46))
 
 -- the bytes that go on with a token of the kind: what stands behind such a token, and is none of them, is not of it
 abbrev pub goes_on : TokenKind → ℕ → Bool
-goes_on kinds.Global = is_name_byte
-goes_on kinds.Local = is_name_byte
-goes_on kinds.Object = is_name_byte
 goes_on kinds.Directive = is_directive_byte
 goes_on kinds.Word = is_word_byte
 goes_on kinds.Number = is_ascii_alphanumeric
 goes_on (kinds.Mark m) = λ _. false
+goes_on _ = is_name_byte
 
 -- none of them comes next: the bytes are empty, or begin with one that fails the test
 abbrev pub stops_at : (ℕ → Bool) → List ℕ → Type 0

@@ -134,12 +134,7 @@ numbered (Err e) = Err e
 
 abbrev pub meant : TokenKind → List ℕ → Result TokenKind LexKind
 meant kinds.Number spelling = numbered (numeral spelling)
-meant kinds.Global spelling = Ok kinds.Global
-meant kinds.Local spelling = Ok kinds.Local
-meant kinds.Object spelling = Ok kinds.Object
-meant kinds.Directive spelling = Ok kinds.Directive
-meant kinds.Word spelling = Ok kinds.Word
-meant (kinds.Mark m) spelling = Ok (kinds.Mark m)
+meant kind spelling = Ok kind
 
 -- a spelling: its kind, or its fault
 abbrev pub judged : TokenKind → List ℕ → Result TokenKind LexKind

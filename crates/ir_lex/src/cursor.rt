@@ -76,7 +76,7 @@ pub fn symbol(text: &[u8], token: &Token) -> Symbol
 fn is_among(symbols: &[Symbol], symbol: Symbol) -> bool
     ensures { result ≡ list_any (λ one. same one symbol) symbols.now }
 {
-    symbols.iter().any(|one| one.is(symbol))
+    symbols.iter().any(|one| *one == symbol)
 }
 
 // A token as a cursor holds it.
@@ -161,7 +161,7 @@ impl<'a> Cursor<'a> {
     pub fn at(&self, symbol: Symbol) -> bool
         ensures { result ≡ at (symbol ∷ []) self.now }
     {
-        symbol.is(self.token.symbol)
+        symbol == self.token.symbol
     }
 
     /// Whether the token here is one of these.

@@ -8,8 +8,8 @@ use Rattle.ir_lex.specs.declared.token.TokenKind.TheVariants as kinds
 use Rattle.ir_lex.specs.Printed.{Piece}
 use Rattle.ir_lex.specs.WordTable.{words}
 use Rattle.ir_lex.specs.TokenForms.{mark}
-use Rattle.ir_tree.specs.declared.operators.MemoryOrder.TheVariants as orders
-use Rattle.ir_tree.specs.declared.operators.Order.{Order}
+use Rattle.mu_base.specs.declared.order.Order.TheVariants as orders
+use Rattle.ir_tree.specs.declared.order.WrittenOrder.{WrittenOrder}
 use Rattle.ir_tree.specs.declared.accessing.Access.{Access}
 use Rattle.ir_tree.specs.declared.accessing.Access.TheVariants as accesses
 use Rattle.ir_tree.specs.Words.{order_words as order_table, update_words, order}
@@ -35,11 +35,11 @@ order_prints = made_prints (one_of_prints order_text order_table refl) (λ _. re
 
 -- ---- an order that is left out is printed as NOT_ATOMIC
 
-abbrev written_order : Option Order → Option Order
+abbrev written_order : Option WrittenOrder → Option WrittenOrder
 written_order None = Some (record { place = 0; order = orders.NotAtomic })
 written_order (Some o) = Some (bare_order o)
 
-abbrev order_or_not_atomic : List ℕ → Option Order → List Piece
+abbrev order_or_not_atomic : List ℕ → Option WrittenOrder → List Piece
 order_or_not_atomic space None = word_piece space (codes "NOT_ATOMIC") ∷ []
 order_or_not_atomic space (Some o) = order_words space o
 
@@ -60,28 +60,28 @@ unfolding optional_order
 optional_order_prints = record {
   again = λ s ts o good t. elim t as (λ _. Derives optional_order (toks (order_or_not_atomic s o)) (written_order o)) [
     | inl d ↦ inl (some_order_prints.again s ts o good d)
-    | inr (q, e) ↦ subst (λ (z : Option Order). Derives optional_order (toks (order_or_not_atomic s z)) (written_order z)) (sym e) (inl (record { place = 0; order = orders.NotAtomic }, not_atomic_again s, refl))
+    | inr (q, e) ↦ subst (λ (z : Option WrittenOrder). Derives optional_order (toks (order_or_not_atomic s z)) (written_order z)) (sym e) (inl (record { place = 0; order = orders.NotAtomic }, not_atomic_again s, refl))
   ];
   apart = λ s ts o blank good t b loose. elim t as (λ _. Apart b (order_or_not_atomic s o)) [
     | inl d ↦ some_order_prints.apart s ts o blank good d b loose
-    | inr (q, e) ↦ subst (λ (z : Option Order). Apart b (order_or_not_atomic s z)) (sym e) (record { blanks = blank; spells = not_atomic_is.spells; is_token = not_atomic_is.is_token }, loose, tt)
+    | inr (q, e) ↦ subst (λ (z : Option WrittenOrder). Apart b (order_or_not_atomic s z)) (sym e) (record { blanks = blank; spells = not_atomic_is.spells; is_token = not_atomic_is.is_token }, loose, tt)
   ];
   ends = λ s ts o t b h. absurd (cc);
-  placed = λ ts o t. elim t as (λ _. (a : Option Order) × Derives optional_order ts a × (option_map bare_order a ≡ o)) [
+  placed = λ ts o t. elim t as (λ _. (a : Option WrittenOrder) × Derives optional_order ts a × (option_map bare_order a ≡ o)) [
     | inl d ↦ let (a, da, ea) = some_order_prints.placed ts o d in (a, inl da, ea)
     | inr (q, e) ↦ (None, inr (erased_none ts q, refl), sym e)
   ];
 }
 
-order_meant : (place : ℕ) (o : Option Order) → bare_order (order_at place o) ≡ order_at 0 (written_order o)
+order_meant : (place : ℕ) (o : Option WrittenOrder) → bare_order (order_at place o) ≡ order_at 0 (written_order o)
 order_meant place None = refl
 order_meant place (Some o) = refl
 
-order_unplaced : (place : ℕ) (o : Option Order) → bare_order (order_at place o) ≡ order_at 0 (option_map bare_order o)
+order_unplaced : (place : ℕ) (o : Option WrittenOrder) → bare_order (order_at place o) ≡ order_at 0 (option_map bare_order o)
 order_unplaced place None = refl
 order_unplaced place (Some o) = refl
 
-order_worded : (space : List ℕ) (place : ℕ) (o : Option Order) → order_words space (order_at place o) ≡ order_or_not_atomic space o
+order_worded : (space : List ℕ) (place : ℕ) (o : Option WrittenOrder) → order_words space (order_at place o) ≡ order_or_not_atomic space o
 unfolding order_words words spelling
 order_worded space place None = refl
 order_worded space place (Some o) = refl
@@ -93,8 +93,8 @@ unfolding load access_words words spelling
 load_prints = made_as
     (both_prints spaced refl refl (word_at symbols.Load (codes "LOAD") refl)
     (both_prints spaced refl refl optional_order_prints (both_prints spaced refl refl bracketed_prints (both_prints spaced refl refl value_prints (optional_prints exc_prints)))))
-    (λ x. ap (λ (o : Order). (0, accesses.Load o (bare_name x.1.1.0) (bare_value x.1.1.1.0) (option_map bare_exc x.1.1.1.1))) (order_meant x.0 x.1.0))
-    (λ x. ap (λ (o : Order). (0, accesses.Load o (bare_name x.1.1.0) (bare_value x.1.1.1.0) (option_map bare_exc x.1.1.1.1))) (order_unplaced x.0 x.1.0))
+    (λ x. ap (λ (o : WrittenOrder). (0, accesses.Load o (bare_name x.1.1.0) (bare_value x.1.1.1.0) (option_map bare_exc x.1.1.1.1))) (order_meant x.0 x.1.0))
+    (λ x. ap (λ (o : WrittenOrder). (0, accesses.Load o (bare_name x.1.1.0) (bare_value x.1.1.1.0) (option_map bare_exc x.1.1.1.1))) (order_unplaced x.0 x.1.0))
     (λ s x. ap (λ (l : List Piece). word_piece s (codes "LOAD") ∷ (l ++ (bracketed_words spaced x.1.1.0 ++ (value_words spaced x.1.1.1.0 ++ optional_words exc_words x.1.1.1.1)))) (order_worded spaced x.0 x.1.0))
 
 store_prints : Prints false false store bare bare (λ s x. access_words s x.1)
@@ -102,8 +102,8 @@ unfolding store access_words words spelling stored_words
 store_prints = made_as
     (both_prints spaced refl refl (word_at symbols.Store (codes "STORE") refl)
     (both_prints spaced refl refl optional_order_prints (both_prints spaced refl refl bracketed_prints (both_prints spaced refl refl value_prints (both_prints spaced refl refl value_prints (optional_prints exc_prints))))))
-    (λ x. ap (λ (o : Order). (0, accesses.Store o (bare_name x.1.1.0) (bare_value x.1.1.1.0) (bare_value x.1.1.1.1.0) (option_map bare_exc x.1.1.1.1.1))) (order_meant x.0 x.1.0))
-    (λ x. ap (λ (o : Order). (0, accesses.Store o (bare_name x.1.1.0) (bare_value x.1.1.1.0) (bare_value x.1.1.1.1.0) (option_map bare_exc x.1.1.1.1.1))) (order_unplaced x.0 x.1.0))
+    (λ x. ap (λ (o : WrittenOrder). (0, accesses.Store o (bare_name x.1.1.0) (bare_value x.1.1.1.0) (bare_value x.1.1.1.1.0) (option_map bare_exc x.1.1.1.1.1))) (order_meant x.0 x.1.0))
+    (λ x. ap (λ (o : WrittenOrder). (0, accesses.Store o (bare_name x.1.1.0) (bare_value x.1.1.1.0) (bare_value x.1.1.1.1.0) (option_map bare_exc x.1.1.1.1.1))) (order_unplaced x.0 x.1.0))
     (λ s x. ap (λ (l : List Piece). word_piece s (codes "STORE") ∷ (l ++ (bracketed_words spaced x.1.1.0 ++ (value_words spaced x.1.1.1.0 ++ (value_words spaced x.1.1.1.1.0 ++ optional_words exc_words x.1.1.1.1.1))))) (order_worded spaced x.0 x.1.0))
 
 weak_prints : Prints false false weak (λ b. b) (λ b. b) weak_words

@@ -5,7 +5,7 @@ use Rattle.ir_lex.specs.declared.name.Name.{Name}
 use Rattle.ir_lex.specs.Printed.{Piece}
 use Rattle.ir_tree.specs.declared.operands.Operand.{Operand}
 use Rattle.ir_tree.specs.declared.operands.ExceptionClause.{ExceptionClause}
-use Rattle.ir_tree.specs.declared.operators.Order.{Order}
+use Rattle.ir_tree.specs.declared.order.WrittenOrder.{WrittenOrder}
 use Rattle.ir_tree.specs.declared.accessing.Access.{Access}
 use Rattle.ir_tree.specs.declared.accessing.Access.TheVariants as accesses
 use Rattle.ir_print.specs.Spellings.{spelling}
@@ -13,7 +13,7 @@ use Rattle.ir_print.specs.Words.{spaced, word, optional_words}
 use Rattle.ir_print.specs.Operators.{update_text, order_text}
 use Rattle.ir_print.specs.Lists.{bracketed_words, value_words, exc_words}
 
-unfoldable pub order_words : List ℕ → Order → List Piece
+unfoldable pub order_words : List ℕ → WrittenOrder → List Piece
 order_words space o = word space (order_text o.order) ∷ []
 
 -- WEAK?

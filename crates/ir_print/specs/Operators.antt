@@ -3,16 +3,16 @@ use Rattle.std.specs.Prelude.{ℕ, List, [], ◌∷◌, if◌then◌else◌}
 use denote.Enum.Bare.{sameb}
 use denote.Enum.Declared.{Declared}
 use Rattle.text_forms.specs.declared.symbol.Symbol.{Symbol}
-use Rattle.ir_tree.specs.declared.operators.BinaryOp.{BinaryOp}
-use Rattle.ir_tree.specs.declared.operators.CompareOp.{CompareOp}
-use Rattle.ir_tree.specs.declared.operators.ConvertOp.{ConvertOp}
-use Rattle.ir_tree.specs.declared.operators.UpdateOp.{UpdateOp}
-use Rattle.ir_tree.specs.declared.operators.MemoryOrder.{MemoryOrder}
-use Rattle.ir_tree.specs.contracts.operators.BinaryOp.{the_type as binary_type}
-use Rattle.ir_tree.specs.contracts.operators.CompareOp.{the_type as compare_type}
-use Rattle.ir_tree.specs.contracts.operators.ConvertOp.{the_type as convert_type}
-use Rattle.ir_tree.specs.contracts.operators.UpdateOp.{the_type as update_type}
-use Rattle.ir_tree.specs.contracts.operators.MemoryOrder.{the_type as order_type}
+use Rattle.mu_base.specs.declared.operators.BinaryOp.{BinaryOp}
+use Rattle.mu_base.specs.declared.operators.CompareOp.{CompareOp}
+use Rattle.mu_base.specs.declared.operators.ConvertOp.{ConvertOp}
+use Rattle.mu_base.specs.declared.operators.UpdateOp.{UpdateOp}
+use Rattle.mu_base.specs.declared.order.Order.{Order}
+use Rattle.mu_base.specs.contracts.operators.BinaryOp.{the_type as binary_type}
+use Rattle.mu_base.specs.contracts.operators.CompareOp.{the_type as compare_type}
+use Rattle.mu_base.specs.contracts.operators.ConvertOp.{the_type as convert_type}
+use Rattle.mu_base.specs.contracts.operators.UpdateOp.{the_type as update_type}
+use Rattle.mu_base.specs.contracts.order.Order.{the_type as order_type}
 use Rattle.ir_tree.specs.Words.{binary_words, compare_words, convert_words, update_words, order_words}
 use Rattle.ir_print.specs.Spellings.{spelling}
 
@@ -33,5 +33,5 @@ convert_text op = word_for convert_type convert_words op
 abbrev pub update_text : UpdateOp → List ℕ
 update_text op = word_for update_type update_words op
 
-abbrev pub order_text : MemoryOrder → List ℕ
+abbrev pub order_text : Order → List ℕ
 order_text order = word_for order_type order_words order

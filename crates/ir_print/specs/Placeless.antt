@@ -10,7 +10,7 @@ use Rattle.ir_tree.specs.declared.operands.Destination.{Destination}
 use Rattle.ir_tree.specs.declared.operands.ExceptionClause.{ExceptionClause}
 use Rattle.ir_tree.specs.declared.operands.NewStackClause.{NewStackClause}
 use Rattle.ir_tree.specs.declared.operands.NewStackClause.TheVariants as stacks
-use Rattle.ir_tree.specs.declared.operators.Order.{Order}
+use Rattle.ir_tree.specs.declared.order.WrittenOrder.{WrittenOrder}
 use Rattle.ir_tree.specs.declared.definitions.TypeForm.{TypeForm}
 use Rattle.ir_tree.specs.declared.definitions.TypeForm.TheVariants as types
 use Rattle.ir_tree.specs.declared.definitions.Literal.{Literal}
@@ -72,7 +72,7 @@ abbrev pub bare_new_stack_clause : NewStackClause → NewStackClause
 bare_new_stack_clause (stacks.PassValues types values) = stacks.PassValues (map bare_name types) (bare_values values)
 bare_new_stack_clause (stacks.ThrowExc exception) = stacks.ThrowExc (bare_value exception)
 
-abbrev pub bare_order : Order → Order
+abbrev pub bare_order : WrittenOrder → WrittenOrder
 bare_order o = record { place = 0; order = o.order }
 
 -- ---- types and constants

@@ -1,4 +1,5 @@
--- How the grammar's words, directives and names are spelled: its table, read from the symbol to the spelling.
+-- How the grammar's words, its directives and the global names of common instructions are spelled: its table, read from the symbol to the
+-- spelling.
 use Rattle.std.specs.Prelude.{ℕ, List, [], ◌∷◌, ◌++◌, if◌then◌else◌}
 use Rattle.text_forms.specs.declared.symbol.Symbol.{Symbol}
 use Rattle.text_forms.specs.Tokens.{same}

@@ -8,12 +8,12 @@ use crate::operators;
 use crate::spellings::spelling;
 use crate::words::put;
 use ir_lex::Name;
-use ir_tree::{Access, ExceptionClause, Operand, Order};
+use ir_tree::{Access, ExceptionClause, Operand, WrittenOrder};
 use std::alloc::AllocError;
 use text_forms::Symbol;
 
 #[tactic(auto, unfolding(crate::specs::Accesses::order_words))]
-fn order(out: &mut Vec<u8>, space: &[u8], order: &Order) -> Result<(), AllocError>
+fn order(out: &mut Vec<u8>, space: &[u8], order: &WrittenOrder) -> Result<(), AllocError>
     ensures { OnOk result (out.new.items ≡ out.old.items ++ text (order_words space.now order.now)) }
 {
     put(out, space, operators::order(order.order))?;

@@ -3,7 +3,7 @@ ghost use Rattle.std.specs.Prelude.{◌≡◌};
 ghost use Rattle.ir_print.specs.Operators.{binary_text, compare_text, convert_text, update_text, order_text};
 
 use crate::spellings::spelling;
-use ir_tree::{BinaryOp, CompareOp, ConvertOp, MemoryOrder, UpdateOp};
+use mu_base::{BinaryOp, CompareOp, ConvertOp, Order, UpdateOp};
 use text_forms::Symbol;
 
 pub fn binary(op: BinaryOp) -> &'static [u8]
@@ -71,16 +71,16 @@ pub fn update(op: UpdateOp) -> &'static [u8]
     }
 }
 
-pub fn order(order: MemoryOrder) -> &'static [u8]
+pub fn order(order: Order) -> &'static [u8]
     ensures { result.now ≡ order_text order }
 {
     match order {
-        MemoryOrder::NotAtomic => spelling(Symbol::NotAtomic),
-        MemoryOrder::Relaxed => spelling(Symbol::Relaxed),
-        MemoryOrder::Consume => spelling(Symbol::Consume),
-        MemoryOrder::Acquire => spelling(Symbol::Acquire),
-        MemoryOrder::Release => spelling(Symbol::Release),
-        MemoryOrder::AcqRel => spelling(Symbol::AcqRel),
-        MemoryOrder::SeqCst => spelling(Symbol::SeqCst),
+        Order::NotAtomic => spelling(Symbol::NotAtomic),
+        Order::Relaxed => spelling(Symbol::Relaxed),
+        Order::Consume => spelling(Symbol::Consume),
+        Order::Acquire => spelling(Symbol::Acquire),
+        Order::Release => spelling(Symbol::Release),
+        Order::AcqRel => spelling(Symbol::AcqRel),
+        Order::SeqCst => spelling(Symbol::SeqCst),
     }
 }

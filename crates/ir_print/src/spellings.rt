@@ -4,7 +4,7 @@ ghost use Rattle.ir_print.specs.Spellings.{spelling};
 
 use text_forms::Symbol;
 
-/// The bytes of a word, a directive or a name of the grammar; none of any other symbol.
+/// The bytes of a word, of a directive or of the global name of a common instruction; none of any other symbol.
 #[tactic(auto, unfolding(crate::specs::Spellings::spelling, ir_lex::specs::WordTable::words, ir_lex::specs::WordTable::directives, ir_lex::specs::WordTable::common_names))]
 pub fn spelling(symbol: Symbol) -> &'static [u8]
     ensures { result.now ≡ spelling symbol }

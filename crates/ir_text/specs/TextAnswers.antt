@@ -1,21 +1,16 @@
 -- What a text is answered: the bundle that its tokens stand for, or the first fault.
 use Rattle.std.specs.Prelude.{◌≡◌, ℕ, List, Option, Result, Ok, Err, ◌↔◌}
 use Rattle.text_forms.specs.declared.fault.Fault.{Fault}
-use Rattle.text_forms.specs.declared.fault.FaultKind.{FaultKind}
-use Rattle.text_forms.specs.declared.fault.FaultKind.TheVariants as kinds
 use Rattle.text_forms.specs.Reading.{whole}
 use Rattle.text_forms.specs.Derives.{Derives}
 use Rattle.text_forms.specs.First.{IsFirstFault}
 use Rattle.ir_lex.specs.declared.token.Token.{Token}
 use Rattle.ir_lex.specs.declared.token.LexFault.{LexFault}
-use Rattle.ir_lex.specs.declared.token.LexKind.TheVariants as lexical
 use Rattle.ir_lex.specs.Texts.{Lexes}
 use Rattle.ir_lex.specs.Seen.{seen}
 use Rattle.ir_lex.specs.Walk.{tokens_from}
 use Rattle.ir_tree.specs.declared.items.Item.{Item}
 use Rattle.ir_tree.specs.Items.{bundle}
-use Rattle.ir_text.specs.declared.fault.TextKind.{TextKind}
-use Rattle.ir_text.specs.declared.fault.TextKind.TheVariants.{Lex, Unexpected, NotInProfile, TooMany}
 use Rattle.ir_text.specs.declared.fault.TextFault.{TextFault}
 use Rattle.ir_text.specs.declared.fault.TextFault.TheVariants as faults
 use Rattle.ir_text.specs.declared.fault.TextFault.TheVariants.{At}
@@ -23,18 +18,9 @@ use Rattle.ir_text.specs.declared.fault.TextFault.TheVariants.{At}
 abbrev pub Answer : Type 0
 Answer = Result (List Item) TextFault
 
--- what a fault of the grammar is called
-abbrev pub kind_of : FaultKind → TextKind
-kind_of kinds.BadByte = Lex lexical.BadByte
-kind_of kinds.BadName = Lex lexical.BadName
-kind_of kinds.NumberTooLarge = Lex lexical.NumberTooLarge
-kind_of kinds.TooLong = Lex lexical.TooLong
-kind_of kinds.Unexpected = Unexpected
-kind_of kinds.NotInProfile = NotInProfile
-kind_of kinds.TooMany = TooMany
-
+-- a fault of the grammar is the text's
 abbrev pub refused : Fault → TextFault
-refused f = At (kind_of f.kind) f.place
+refused f = At f.kind f.place
 
 -- in the words of the grammar: which answer the bytes of a text have. Its tokens are those that the rules of tokens give, up to
 -- its end or to its first lexical fault

@@ -8,7 +8,8 @@ ghost use Rattle.ir_tree.specs.Accesses.{optional_order, order_at, load, store, 
 use crate::lists::{bracketed, optional_exc, value};
 use crate::words::{order, update_op};
 use ir_lex::Cursor;
-use ir_tree::{Access, MemoryOrder, Order};
+use ir_tree::{Access, WrittenOrder};
+use mu_base::Order;
 use std::alloc::Global;
 use text_forms::{ReadError, Symbol};
 
@@ -25,7 +26,7 @@ const ORDERS: [Symbol; 7] = [
 
 /// `ord?`
 #[tactic(auto, unfolding(ir_tree::specs::Accesses::optional_order))]
-fn optional_order(cursor: &mut Cursor) -> Result<Option<Order>, ReadError>
+fn optional_order(cursor: &mut Cursor) -> Result<Option<WrittenOrder>, ReadError>
     ensures { Gives result cursor.new (read optional_order cursor.old) }
 {
     if cursor.at_any(&ORDERS) {
@@ -36,13 +37,13 @@ fn optional_order(cursor: &mut Cursor) -> Result<Option<Order>, ReadError>
 }
 
 /// An order that is left out is `NOT_ATOMIC`, with the place of the instruction's word.
-fn order_at(place: usize, order: Option<Order>) -> Order
+fn order_at(place: usize, order: Option<WrittenOrder>) -> WrittenOrder
     ensures { result ≡ order_at place order }
 {
     match order {
-        None => Order {
+        None => WrittenOrder {
             place,
-            order: MemoryOrder::NotAtomic,
+            order: Order::NotAtomic,
         },
         Some(order) => order,
     }

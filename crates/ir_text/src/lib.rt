@@ -20,6 +20,6 @@ mod stacks;
 mod types;
 mod words;
 
-pub use fault::{TextFault, TextKind};
+pub use fault::TextFault;
 pub use laws::{answer_is_one, body_is_as_written, bundle_is_as_written};
 pub use reading::read_bundle;

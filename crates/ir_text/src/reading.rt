@@ -21,10 +21,10 @@ fn answer(alloc: Global, bytes: &[u8]) -> Result<Bundle, TextFault>
 
 /// The bundle that a text spells, each name, number and mark with its place. The text may hold any bytes.
 ///
-/// - `At` is the first fault. `Lex` stands at a byte where no token begins as it should, once a token is looked for there;
-///   `Unexpected` at the first token, or at the text's end, with which no bundle's text goes on; `NotInProfile` at a word that
-///   belongs there and that the profile leaves out; `TooMany` at the first token of an item past 16,384, of a block or an
-///   instruction past 4,096, of a case past 1,024, and of a member of one list past 256.
+/// - `At` is the first fault. `BadByte`, `BadName`, `NumberTooLarge` or `TooLong` stands where no token begins as it should, once a
+///   token is looked for there; `Unexpected` at the first token, or at the text's end, with which no bundle's text goes on;
+///   `NotInProfile` at a word that belongs there and that the profile leaves out; `TooMany` at the first token of an item past 16,384,
+///   of a block or an instruction past 4,096, of a case past 1,024, and of a member of one list past 256.
 /// - `Memory` says that no memory was found for a name or a list. What was read is dropped.
 ///
 /// Each token is read once, and compared with the words of the grammar. So the time is in proportion to the text, and so is the

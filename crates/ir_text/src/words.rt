@@ -8,7 +8,8 @@ ghost use Rattle.ir_lex.specs.TokenForms.{mark};
 ghost use Rattle.ir_tree.specs.Words.{one_of, binary_words, compare_words, convert_words, update_words, order_words, order};
 
 use ir_lex::Cursor;
-use ir_tree::{BinaryOp, CompareOp, ConvertOp, MemoryOrder, Order, UpdateOp};
+use ir_tree::WrittenOrder;
+use mu_base::{BinaryOp, CompareOp, ConvertOp, Order, UpdateOp};
 use text_forms::{ReadError, Symbol};
 
 /// The word, and what it stands for.
@@ -94,26 +95,26 @@ pub fn update_op(cursor: &mut Cursor) -> Result<(usize, UpdateOp), ReadError>
 }
 
 /// `NOT_ATOMIC`, `RELAXED` and the like
-pub fn memory_order(cursor: &mut Cursor) -> Result<(usize, MemoryOrder), ReadError>
+pub fn memory_order(cursor: &mut Cursor) -> Result<(usize, Order), ReadError>
     ensures { Gives result cursor.new (read (one_of order_words) cursor.old) }
 {
     match cursor.symbol() {
-        Symbol::NotAtomic => word(cursor, Symbol::NotAtomic, MemoryOrder::NotAtomic),
-        Symbol::Relaxed => word(cursor, Symbol::Relaxed, MemoryOrder::Relaxed),
-        Symbol::Consume => word(cursor, Symbol::Consume, MemoryOrder::Consume),
-        Symbol::Acquire => word(cursor, Symbol::Acquire, MemoryOrder::Acquire),
-        Symbol::Release => word(cursor, Symbol::Release, MemoryOrder::Release),
-        Symbol::AcqRel => word(cursor, Symbol::AcqRel, MemoryOrder::AcqRel),
-        Symbol::SeqCst => word(cursor, Symbol::SeqCst, MemoryOrder::SeqCst),
+        Symbol::NotAtomic => word(cursor, Symbol::NotAtomic, Order::NotAtomic),
+        Symbol::Relaxed => word(cursor, Symbol::Relaxed, Order::Relaxed),
+        Symbol::Consume => word(cursor, Symbol::Consume, Order::Consume),
+        Symbol::Acquire => word(cursor, Symbol::Acquire, Order::Acquire),
+        Symbol::Release => word(cursor, Symbol::Release, Order::Release),
+        Symbol::AcqRel => word(cursor, Symbol::AcqRel, Order::AcqRel),
+        Symbol::SeqCst => word(cursor, Symbol::SeqCst, Order::SeqCst),
         _ => Err(ReadError::Fault(cursor.fault())),
     }
 }
 
 /// ord
 #[tactic(auto, unfolding(ir_tree::specs::Words::order))]
-pub fn order(cursor: &mut Cursor) -> Result<Order, ReadError>
+pub fn order(cursor: &mut Cursor) -> Result<WrittenOrder, ReadError>
     ensures { Gives result cursor.new (read order cursor.old) }
 {
     let (place, order) = memory_order(cursor)?;
-    Ok(Order { place, order })
+    Ok(WrittenOrder { place, order })
 }

@@ -5,8 +5,8 @@ use Rattle.ir_lex.specs.WordTable.{words, directives, common_names}
 use Rattle.ir_lex.specs.Scanner.{gap_len, next_of}
 use Rattle.ir_lex.specs.Walk.{tokens_within, tokens_from}
 use Rattle.ir_lex.specs.TokenForms.{mark, name}
-use Rattle.ir_tree.specs.declared.operators.UpdateOp.TheVariants as updates
-use Rattle.ir_tree.specs.declared.operators.MemoryOrder.TheVariants as orders
+use Rattle.mu_base.specs.declared.operators.UpdateOp.TheVariants as updates
+use Rattle.mu_base.specs.declared.order.Order.TheVariants as orders
 use Rattle.ir_tree.specs.declared.accessing.Access.TheVariants as accesses
 use Rattle.ir_tree.specs.declared.code.Op.TheVariants as ops
 use Rattle.ir_tree.specs.Words.{order}

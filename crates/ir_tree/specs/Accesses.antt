@@ -4,19 +4,19 @@ use Rattle.text_forms.specs.declared.symbol.Symbol.{Symbol}
 use Rattle.text_forms.specs.declared.symbol.Symbol.TheVariants as symbols
 use Rattle.text_forms.specs.Forms.{Form, nothing, both, on, made}
 use Rattle.ir_lex.specs.TokenForms.{mark}
-use Rattle.ir_tree.specs.declared.operators.MemoryOrder.TheVariants as orders
-use Rattle.ir_tree.specs.declared.operators.Order.{Order}
+use Rattle.mu_base.specs.declared.order.Order.TheVariants as orders
+use Rattle.ir_tree.specs.declared.order.WrittenOrder.{WrittenOrder}
 use Rattle.ir_tree.specs.declared.accessing.Access.{Access}
 use Rattle.ir_tree.specs.declared.accessing.Access.TheVariants as accesses
 use Rattle.ir_tree.specs.Words.{one_of, words_of, order_words, update_words, order}
 use Rattle.ir_tree.specs.Lists.{optional, bracketed, value, exc}
 
 -- ord?
-unfoldable pub optional_order : Form (Option Order)
+unfoldable pub optional_order : Form (Option WrittenOrder)
 optional_order = on (words_of order_words) (made Some order) (nothing None)
 
 -- an order that is left out is NOT_ATOMIC
-abbrev pub order_at : ℕ → Option Order → Order
+abbrev pub order_at : ℕ → Option WrittenOrder → WrittenOrder
 order_at place None = record { place = place; order = orders.NotAtomic }
 order_at place (Some o) = o
 

@@ -5,9 +5,9 @@ use Rattle.ir_lex.specs.WordTable.{words, directives, common_names}
 use Rattle.ir_lex.specs.Scanner.{gap_len, next_of}
 use Rattle.ir_lex.specs.Walk.{tokens_within, tokens_from}
 use Rattle.ir_lex.specs.TokenForms.{mark, name, numeral}
-use Rattle.ir_tree.specs.declared.operators.BinaryOp.TheVariants as binaries
-use Rattle.ir_tree.specs.declared.operators.CompareOp.TheVariants as comparisons
-use Rattle.ir_tree.specs.declared.operators.ConvertOp.TheVariants as conversions
+use Rattle.mu_base.specs.declared.operators.BinaryOp.TheVariants as binaries
+use Rattle.mu_base.specs.declared.operators.CompareOp.TheVariants as comparisons
+use Rattle.mu_base.specs.declared.operators.ConvertOp.TheVariants as conversions
 use Rattle.ir_tree.specs.declared.computing.Computation.TheVariants as computations
 use Rattle.ir_tree.specs.declared.code.Op.TheVariants as ops
 use Rattle.ir_tree.specs.Lists.{global, local, bracketed, bracketed_pair, value, values, dest, exc}

@@ -4,17 +4,17 @@ use Rattle.text_forms.specs.declared.symbol.Symbol.{Symbol}
 use Rattle.text_forms.specs.declared.symbol.Symbol.TheVariants as symbols
 use Rattle.text_forms.specs.Forms.{Form, never, on, made}
 use Rattle.ir_lex.specs.TokenForms.{mark}
-use Rattle.ir_tree.specs.declared.operators.BinaryOp.{BinaryOp}
-use Rattle.ir_tree.specs.declared.operators.BinaryOp.TheVariants as binaries
-use Rattle.ir_tree.specs.declared.operators.CompareOp.{CompareOp}
-use Rattle.ir_tree.specs.declared.operators.CompareOp.TheVariants as comparisons
-use Rattle.ir_tree.specs.declared.operators.ConvertOp.{ConvertOp}
-use Rattle.ir_tree.specs.declared.operators.ConvertOp.TheVariants as conversions
-use Rattle.ir_tree.specs.declared.operators.UpdateOp.{UpdateOp}
-use Rattle.ir_tree.specs.declared.operators.UpdateOp.TheVariants as updates
-use Rattle.ir_tree.specs.declared.operators.MemoryOrder.{MemoryOrder}
-use Rattle.ir_tree.specs.declared.operators.MemoryOrder.TheVariants as orders
-use Rattle.ir_tree.specs.declared.operators.Order.{Order}
+use Rattle.mu_base.specs.declared.operators.BinaryOp.{BinaryOp}
+use Rattle.mu_base.specs.declared.operators.BinaryOp.TheVariants as binaries
+use Rattle.mu_base.specs.declared.operators.CompareOp.{CompareOp}
+use Rattle.mu_base.specs.declared.operators.CompareOp.TheVariants as comparisons
+use Rattle.mu_base.specs.declared.operators.ConvertOp.{ConvertOp}
+use Rattle.mu_base.specs.declared.operators.ConvertOp.TheVariants as conversions
+use Rattle.mu_base.specs.declared.operators.UpdateOp.{UpdateOp}
+use Rattle.mu_base.specs.declared.operators.UpdateOp.TheVariants as updates
+use Rattle.mu_base.specs.declared.order.Order.{Order}
+use Rattle.mu_base.specs.declared.order.Order.TheVariants as orders
+use Rattle.ir_tree.specs.declared.order.WrittenOrder.{WrittenOrder}
 
 -- one of these words: its place, and what it stands for
 abbrev pub one_of : {A : Type 0} → List (Symbol × A) → Form (ℕ × A)
@@ -49,11 +49,11 @@ update_words =
     ∷ (symbols.Xor, updates.Xor) ∷ (symbols.Max, updates.Max) ∷ (symbols.Min, updates.Min) ∷ (symbols.Umax, updates.Umax) ∷ (symbols.Umin, updates.Umin) ∷ []
 
 -- NOT_ATOMIC RELAXED CONSUME ACQUIRE RELEASE ACQ_REL SEQ_CST
-abbrev pub order_words : List (Symbol × MemoryOrder)
+abbrev pub order_words : List (Symbol × Order)
 order_words =
     (symbols.NotAtomic, orders.NotAtomic) ∷ (symbols.Relaxed, orders.Relaxed) ∷ (symbols.Consume, orders.Consume) ∷ (symbols.Acquire, orders.Acquire)
     ∷ (symbols.Release, orders.Release) ∷ (symbols.AcqRel, orders.AcqRel) ∷ (symbols.SeqCst, orders.SeqCst) ∷ []
 
 -- ord: the grammar has each order everywhere, and a later demand says which of them an instruction may have
-unfoldable pub order : Form Order
+unfoldable pub order : Form WrittenOrder
 order = made (λ x. record { place = x.0; order = x.1 }) (one_of order_words)

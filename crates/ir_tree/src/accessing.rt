@@ -1,21 +1,22 @@
 // Instructions that read and write memory.
 use crate::operands::{ExceptionClause, Operand};
-use crate::operators::{Order, UpdateOp};
+use crate::order::WrittenOrder;
 use ir_lex::Name;
+use mu_base::UpdateOp;
 
 /// An instruction that reads or writes memory, or orders such accesses.
 #[derive(Drop)]
 pub enum Access {
     /// `LOAD order < of_type > location exception`
     Load {
-        order: Order,
+        order: WrittenOrder,
         of_type: Name,
         location: Operand,
         exception: Option<ExceptionClause>,
     },
     /// `STORE order < of_type > location value exception`
     Store {
-        order: Order,
+        order: WrittenOrder,
         of_type: Name,
         location: Operand,
         value: Operand,
@@ -24,8 +25,8 @@ pub enum Access {
     /// `CMPXCHG WEAK success failure < of_type > location expected desired exception`
     Cmpxchg {
         weak: bool,
-        success: Order,
-        failure: Order,
+        success: WrittenOrder,
+        failure: WrittenOrder,
         of_type: Name,
         location: Operand,
         expected: Operand,
@@ -34,7 +35,7 @@ pub enum Access {
     },
     /// `ATOMICRMW order op < of_type > location operand exception`
     Atomicrmw {
-        order: Order,
+        order: WrittenOrder,
         op: UpdateOp,
         of_type: Name,
         location: Operand,
@@ -43,6 +44,6 @@ pub enum Access {
     },
     /// `FENCE order`
     Fence {
-        order: Order,
+        order: WrittenOrder,
     },
 }

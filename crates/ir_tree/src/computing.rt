@@ -1,7 +1,7 @@
 // Instructions that compute a value from values.
 use crate::operands::{ExceptionClause, Operand};
-use crate::operators::{BinaryOp, CompareOp, ConvertOp};
 use ir_lex::{Name, Numeral};
+use mu_base::{BinaryOp, CompareOp, ConvertOp};
 
 /// An instruction that computes a value from values, and neither sees nor changes memory.
 #[derive(Drop)]

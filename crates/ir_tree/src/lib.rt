@@ -13,7 +13,7 @@ mod flow;
 mod items;
 mod laws;
 mod operands;
-mod operators;
+mod order;
 mod switching;
 mod trapping;
 
@@ -28,6 +28,6 @@ pub use flow::{Case, ControlFlow};
 pub use items::{Bundle, Funcdef, Item};
 pub use laws::bundle_is_grammar;
 pub use operands::{Arguments, Destination, ExceptionClause, NewStackClause, Operand};
-pub use operators::{BinaryOp, CompareOp, ConvertOp, MemoryOrder, Order, UpdateOp};
+pub use order::WrittenOrder;
 pub use switching::StackSwitch;
 pub use trapping::Trapping;

@@ -30,7 +30,8 @@ use Rattle.mu_model.specs.Types.{type_graph}
 use Rattle.mu_model.specs.Clients.{ScriptEntry, Client}
 use Rattle.model_laws.specs.Values.{HasGlobals}
 use Rattle.model_laws.specs.ClientsFit.{ArgumentFits, ArgumentsFit, EntryFits, ClientFits}
-use Rattle.client_script.specs.declared.fault.ScriptKind.TheVariants.{Unexpected, Unknown}
+use Rattle.text_forms.specs.declared.fault.FaultKind.TheVariants as kinds
+use Rattle.client_script.specs.declared.fault.ScriptKind.TheVariants.{Text, Unknown}
 use Rattle.client_script.specs.declared.tree.Argument.{Argument}
 use Rattle.client_script.specs.declared.tree.With.{With}
 use Rattle.client_script.specs.declared.tree.With.TheVariants as ways
@@ -64,7 +65,7 @@ no_number symbols.Number e = cc
 no_number _ e = refl
 
 met_name : (number is_global : Bool) (place : ℕ) (count value : Bool) → number ≡ false → is_global ≡ true →
-    AllMet (if number then demand place Unexpected count else (if is_global then demand place Unknown value else none)) → value ≡ true
+    AllMet (if number then demand place (Text kinds.Unexpected) count else (if is_global then demand place Unknown value else none)) → value ≡ true
 met_name true is_global place count value e f h = cc
 met_name false true place count value e f h = h
 met_name false false place count value e f h = cc

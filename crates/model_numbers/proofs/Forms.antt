@@ -24,8 +24,8 @@ use Rattle.ir_tree.specs.declared.code.Inst.{Inst}
 use Rattle.check_tables.specs.Types.{int1, int32, stackref, ref_void, class_in}
 use Rattle.check_tables.specs.Lookups.{ref_named, iref_named, signature_named, funcref_of, takes_of}
 use Rattle.code_check.specs.declared.scopes.Locals.{Locals}
-use Rattle.code_check.specs.Computations.{binary_op, compare_op, convert_op, field_named, computation_demands, computation_code}
-use Rattle.code_check.specs.Accesses.{memory_order, access_demands, access_code}
+use Rattle.code_check.specs.Computations.{field_named, computation_demands, computation_code}
+use Rattle.code_check.specs.Accesses.{access_demands, access_code}
 use Rattle.code_check.specs.Control.{control_demands, control_code}
 use Rattle.code_check.specs.Objects.{allocation_demands, allocation_code, addressing_demands, addressing_code}
 use Rattle.code_check.specs.Stacks.{trapping_demands, trapping_code, switch_demands, switch_code}
@@ -43,7 +43,7 @@ use Rattle.mu_model.specs.Operands.{Scope, tables_in, class, values_named}
 use Rattle.mu_model.specs.ComputationForms.{binary_act, compare_act, convert_act, scalar_act, extractvalue_act, insertvalue_act, computation_act}
 use Rattle.mu_model.specs.ControlForms.{branch_act, callee_act, ret_act, function_gives, control_act}
 use Rattle.mu_model.specs.ObjectForms.{newhybrid_act, getiref_act, find_by_act, allocation_act, addressing_act}
-use Rattle.mu_model.specs.AccessForms.{update_op, load_act, store_act, atomicrmw_act, memory_act}
+use Rattle.mu_model.specs.AccessForms.{load_act, store_act, atomicrmw_act, memory_act}
 use Rattle.mu_model.specs.TrappingForms.{watchpoint_act, wpbranch_act, trapping_act}
 use Rattle.mu_model.specs.StackForms.{swap_returning_act, swap_killing_act, new_stack_act, futex_wait_act, futex_wake_act, switch_stack_act, common_act}
 use Rattle.mu_model.specs.Programs.{act_named, optional_goal, does_named}
@@ -55,12 +55,12 @@ use Rattle.model_numbers.proofs.Operands.{body, variable_classes, ScopeFits, val
 computation_same : (s : Scope) (ls : Locals) (vars : List Value) → ScopeFits s ls → (c : Computation) → AllMet (computation_demands (tables_in s) ls c) →
     computation_act s vars c ≡ computation_at s.bundle vars (computation_code (tables_in s) ls c)
 computation_same s ls vars fits (computations.Binary op t a b e) m =
-    ap₂ (binary_act (tables_in s) (binary_op op) (class s t)) (typed_same s ls vars fits a t m.1.0) (typed_same s ls vars fits b t m.1.1)
+    ap₂ (binary_act (tables_in s) op (class s t)) (typed_same s ls vars fits a t m.1.0) (typed_same s ls vars fits b t m.1.1)
 computation_same s ls vars fits (computations.Compare op t a b) m =
-    ap₂ (compare_act (compare_op op)) (typed_same s ls vars fits a t m.1.0) (typed_same s ls vars fits b t m.1.1)
+    ap₂ (compare_act op) (typed_same s ls vars fits a t m.1.0) (typed_same s ls vars fits b t m.1.1)
 computation_same s ls vars fits (computations.Extractvalue t n a) m = ap (extractvalue_act (tables_in s) (class s t) n.number.magnitude) (typed_same s ls vars fits a t m.1)
 computation_same s ls vars fits (computations.Convert op t u a) m =
-    ap (convert_act (tables_in s) (convert_op op) (class s t) (class s u)) (typed_same s ls vars fits a t m.1.1)
+    ap (convert_act (tables_in s) op (class s t) (class s u)) (typed_same s ls vars fits a t m.1.1)
 computation_same s ls vars fits (computations.Refcast t q a) m = ap (scalar_act (Casts (class s q))) (typed_same s ls vars fits a t m.1.1)
 computation_same s ls vars fits (computations.Select t u c a b) m =
     rw (typed_same s ls vars fits c t m.1.1.0, typed_same s ls vars fits a u m.1.1.1.0, typed_same s ls vars fits b u m.1.1.1.1) refl
@@ -111,13 +111,13 @@ addressing_same s ls vars fits (addressings.Getvarpartiref h l) m = ap (scalar_a
 access_same : (s : Scope) (ls : Locals) (vars : List Value) → ScopeFits s ls → (a : Access) → AllMet (access_demands (tables_in s) ls a) →
     memory_act s vars a ≡ access_at s.bundle vars (access_code (tables_in s) ls a)
 access_same s ls vars fits (accesses.Load o t l e) m =
-    ap (load_act (memory_order o.order)) (value_same s ls vars fits l (iref_named (tables_in s) t) m.1.1)
+    ap (load_act o.order) (value_same s ls vars fits l (iref_named (tables_in s) t) m.1.1)
 access_same s ls vars fits (accesses.Store o t l a e) m =
-    ap₂ (store_act (memory_order o.order)) (value_same s ls vars fits l (iref_named (tables_in s) t) m.1.1.0) (typed_same s ls vars fits a t m.1.1.1)
+    ap₂ (store_act o.order) (value_same s ls vars fits l (iref_named (tables_in s) t) m.1.1.0) (typed_same s ls vars fits a t m.1.1.1)
 access_same s ls vars fits (accesses.Cmpxchg w o f t l a b e) m =
     rw (value_same s ls vars fits l (iref_named (tables_in s) t) m.1.1.1.0, typed_same s ls vars fits a t m.1.1.1.1.0, typed_same s ls vars fits b t m.1.1.1.1.1) refl
 access_same s ls vars fits (accesses.Atomicrmw o op t l a e) m =
-    ap₂ (atomicrmw_act (memory_order o.order) (update_op op)) (value_same s ls vars fits l (iref_named (tables_in s) t) m.1.1.0) (typed_same s ls vars fits a t m.1.1.1)
+    ap₂ (atomicrmw_act o.order op) (value_same s ls vars fits l (iref_named (tables_in s) t) m.1.1.0) (typed_same s ls vars fits a t m.1.1.1)
 access_same s ls vars fits (accesses.Fence o) m = refl
 
 trapping_same : (s : Scope) (ls : Locals) (vars : List Value) → ScopeFits s ls → (t : Trapping) → AllMet (trapping_demands (tables_in s) (body s) ls t) →

@@ -6,7 +6,7 @@ use Rattle.ir_lex.specs.declared.name.Numeral.{Numeral}
 use Rattle.ir_tree.specs.declared.definitions.TypeForm.TheVariants as types
 use Rattle.ir_tree.specs.declared.definitions.Literal.TheVariants as literals
 use Rattle.ir_tree.specs.declared.operands.Operand.TheVariants.{Local, Global}
-use Rattle.ir_tree.specs.declared.operators.BinaryOp.TheVariants.{Add}
+use Rattle.mu_base.specs.declared.operators.BinaryOp.TheVariants.{Add}
 use Rattle.ir_tree.specs.declared.computing.Computation.TheVariants.{Binary}
 use Rattle.ir_tree.specs.declared.flow.ControlFlow.TheVariants.{Ret}
 use Rattle.ir_tree.specs.declared.code.Op.TheVariants as ops

@@ -30,7 +30,7 @@ use Rattle.mu_model.specs.Operands.{global_value}
 use Rattle.mu_model.specs.ComputationForms.{binary_act, compare_act, convert_act, refcast_act, select_act, extractvalue_act, insertvalue_act}
 use Rattle.mu_model.specs.ControlForms.{Arm, branch_act, branch2_act, switch_act, call_act, tailcall_act, ret_act, throw_act}
 use Rattle.mu_model.specs.ObjectForms.{new_act, newhybrid_act, alloca_act, getiref_act, getfieldiref_act, getelemiref_act, shiftiref_act, getvarpartiref_act}
-use Rattle.mu_model.specs.AccessForms.{update_op, load_act, store_act, cmpxchg_act, atomicrmw_act, fence_act}
+use Rattle.mu_model.specs.AccessForms.{load_act, store_act, cmpxchg_act, atomicrmw_act, fence_act}
 use Rattle.mu_model.specs.TrappingForms.{trap_act, watchpoint_act, wpbranch_act}
 use Rattle.mu_model.specs.StackForms.{swap_returning_act, swap_killing_act, newthread_act, new_stack_act, kill_stack_act, thread_exit_act, current_stack_act, set_threadlocal_act, get_threadlocal_act, futex_wait_act, futex_wake_act, futex_wait_timeout_act}
 use Rattle.model_numbers.specs.Sources.{value_at, values_at, classes_at, goal_at, entering_at}
@@ -73,7 +73,7 @@ abbrev pub access_at : List Item → List Value → AccessForm → Option Act
 access_at bundle vars (accessing.Load o c l) = load_act o (value_at bundle vars l)
 access_at bundle vars (accessing.Store o c l a) = store_act o (value_at bundle vars l) (value_at bundle vars a)
 access_at bundle vars (accessing.Cmpxchg w o f c l a b) = cmpxchg_act w o f (value_at bundle vars l) (value_at bundle vars a) (value_at bundle vars b)
-access_at bundle vars (accessing.Atomicrmw o op c l a) = atomicrmw_act o (update_op op) (value_at bundle vars l) (value_at bundle vars a)
+access_at bundle vars (accessing.Atomicrmw o op c l a) = atomicrmw_act o op (value_at bundle vars l) (value_at bundle vars a)
 access_at bundle vars (accessing.Fence o) = fence_act o
 
 abbrev pub trapping_at : List Item → List Value → TrappingForm → Option Act

@@ -1,16 +1,12 @@
 -- To believe: instructions that read and write memory.
 use Rattle.std.specs.Prelude.{Bool, List, Option, Some, None}
 use Rattle.mu_base.specs.declared.order.Order.{Order}
-use Rattle.ir_tree.specs.declared.operators.UpdateOp.{UpdateOp as UpdateWord}
-use Rattle.ir_tree.specs.declared.operators.UpdateOp.TheVariants as words
+use Rattle.mu_base.specs.declared.operators.UpdateOp.{UpdateOp}
 use Rattle.ir_tree.specs.declared.accessing.Access.{Access as Instruction}
 use Rattle.ir_tree.specs.declared.accessing.Access.TheVariants as accesses
 use Rattle.mu_values.specs.declared.scalars.Scalar.{Scalar}
 use Rattle.mu_values.specs.declared.scalars.Scalar.TheVariants.{Null, Place}
-use Rattle.mu_values.specs.declared.operators.UpdateOp.{UpdateOp}
-use Rattle.mu_values.specs.declared.operators.UpdateOp.TheVariants as updates
 use Rattle.heap_cells.specs.declared.cells.CellId.{CellId}
-use Rattle.code_check.specs.Accesses.{memory_order}
 use Rattle.typed_heap.specs.Places.{with_some}
 use Rattle.frames.specs.Activations.{Value}
 use Rattle.mu_model.specs.declared.endings.Case.TheVariants as cases
@@ -38,29 +34,15 @@ cmpxchg_act w o f l a b = access_act l (with_some (scalar_in a) (λ v. with_some
 abbrev pub atomicrmw_act : Order → UpdateOp → Option Value → Option Value → Option Act
 atomicrmw_act o op l a = access_act l (with_some (scalar_in a) (λ v. Some (Updates o op v)))
 
--- the operation that a word of ATOMICRMW stands for
-abbrev pub update_op : UpdateWord → UpdateOp
-update_op words.Xchg = updates.Xchg
-update_op words.Add = updates.Add
-update_op words.Sub = updates.Sub
-update_op words.And = updates.And
-update_op words.Nand = updates.Nand
-update_op words.Or = updates.Or
-update_op words.Xor = updates.Xor
-update_op words.Max = updates.Max
-update_op words.Min = updates.Min
-update_op words.Umax = updates.Umax
-update_op words.Umin = updates.Umin
-
 abbrev pub fence_act : Order → Option Act
 fence_act o = Some (Fences o)
 
 -- ---- by name
 
 abbrev pub memory_act : Scope → List Value → Instruction → Option Act
-memory_act s vars (accesses.Load o t l e) = load_act (memory_order o.order) (value_named s vars l)
-memory_act s vars (accesses.Store o t l a e) = store_act (memory_order o.order) (value_named s vars l) (value_named s vars a)
+memory_act s vars (accesses.Load o t l e) = load_act o.order (value_named s vars l)
+memory_act s vars (accesses.Store o t l a e) = store_act o.order (value_named s vars l) (value_named s vars a)
 memory_act s vars (accesses.Cmpxchg w o f t l a b e) =
-    cmpxchg_act w (memory_order o.order) (memory_order f.order) (value_named s vars l) (value_named s vars a) (value_named s vars b)
-memory_act s vars (accesses.Atomicrmw o op t l a e) = atomicrmw_act (memory_order o.order) (update_op op) (value_named s vars l) (value_named s vars a)
-memory_act s vars (accesses.Fence o) = fence_act (memory_order o.order)
+    cmpxchg_act w o.order f.order (value_named s vars l) (value_named s vars a) (value_named s vars b)
+memory_act s vars (accesses.Atomicrmw o op t l a e) = atomicrmw_act o.order op (value_named s vars l) (value_named s vars a)
+memory_act s vars (accesses.Fence o) = fence_act o.order

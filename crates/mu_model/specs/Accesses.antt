@@ -2,8 +2,8 @@
 use Rattle.std.specs.Prelude.{ℕ, suc, List, [], ◌∷◌, Option, Some, None, map, option_map, length, slice_get, nat_eq, ◌&&◌, if◌then◌else◌}
 use Rattle.mu_values.specs.declared.scalars.Scalar.{Scalar}
 use Rattle.mu_values.specs.declared.scalars.Scalar.TheVariants.{Int}
-use Rattle.mu_values.specs.declared.operators.UpdateOp.{UpdateOp}
-use Rattle.mu_values.specs.declared.operators.UpdateOp.TheVariants as updates
+use Rattle.mu_base.specs.declared.operators.UpdateOp.{UpdateOp}
+use Rattle.mu_base.specs.declared.operators.UpdateOp.TheVariants as updates
 use Rattle.mu_values.specs.Updates.{updated_bits}
 use Rattle.heap_cells.specs.declared.cells.CellId.{CellId}
 use Rattle.typed_heap.specs.Objects.{HeapObject}

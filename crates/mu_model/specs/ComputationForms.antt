@@ -5,14 +5,13 @@ use Rattle.ir_tree.specs.declared.computing.Computation.{Computation}
 use Rattle.ir_tree.specs.declared.computing.Computation.TheVariants as computations
 use Rattle.mu_values.specs.declared.scalars.Scalar.{Scalar}
 use Rattle.mu_values.specs.declared.scalars.Scalar.TheVariants.{Int}
-use Rattle.mu_values.specs.declared.operators.BinOp.{BinOp}
-use Rattle.mu_values.specs.declared.operators.CmpOp.{CmpOp}
-use Rattle.mu_values.specs.declared.operators.ConvOp.{ConvOp}
+use Rattle.mu_base.specs.declared.operators.BinaryOp.{BinaryOp}
+use Rattle.mu_base.specs.declared.operators.CompareOp.{CompareOp}
+use Rattle.mu_base.specs.declared.operators.ConvertOp.{ConvertOp}
 use Rattle.mu_values.specs.Integers.{binary_value, converted, is_conversion}
 use Rattle.mu_values.specs.Comparisons.{compared}
 use Rattle.check_tables.specs.declared.tables.Tables.{Tables}
 use Rattle.check_tables.specs.TypeTests.{fields_of}
-use Rattle.code_check.specs.Computations.{binary_op, compare_op, convert_op}
 use Rattle.typed_heap.specs.Objects.{leaf_classes}
 use Rattle.typed_heap.specs.Places.{with_some, leaves_together}
 use Rattle.frames.specs.Activations.{Value}
@@ -27,7 +26,7 @@ abbrev pub result_or_fault : ℕ → Option ℕ → Act
 result_or_fault w None = Faults cases.DivideByZero
 result_or_fault w (Some n) = Gives ((Int w n ∷ []) ∷ [])
 
-abbrev pub binary_act : Tables → BinOp → ℕ → Option Value → Option Value → Option Act
+abbrev pub binary_act : Tables → BinaryOp → ℕ → Option Value → Option Value → Option Act
 binary_act p op c a b =
     with_some (class_width p c) (λ w. with_some (bits_in (Some w) a) (λ x. with_some (bits_in (Some w) b) (λ y. Some (result_or_fault w (binary_value op w x y)))))
 
@@ -42,17 +41,17 @@ abbrev pub are_comparable : Scalar → Scalar → Bool
 are_comparable (Int w m) (Int v n) = nat_eq w v && is_integer w m && is_integer v n
 are_comparable _ _ = true
 
-abbrev pub compare_act : CmpOp → Option Value → Option Value → Option Act
+abbrev pub compare_act : CompareOp → Option Value → Option Value → Option Act
 compare_act op a b =
     with_some (scalar_in a) (λ x. with_some (scalar_in b) (λ y. if are_comparable x y then Some (Gives ((Int 1 (bit (compared op x y)) ∷ []) ∷ [])) else None))
 
 -- ---- TRUNC, ZEXT, SEXT
 
 -- to an int of 1 to 128 bits, of a width that `is_conversion` allows
-abbrev pub leads_to : ConvOp → ℕ → ℕ → Bool
+abbrev pub leads_to : ConvertOp → ℕ → ℕ → Bool
 leads_to op from to = is_width to && is_conversion op from to
 
-abbrev pub convert_act : Tables → ConvOp → ℕ → ℕ → Option Value → Option Act
+abbrev pub convert_act : Tables → ConvertOp → ℕ → ℕ → Option Value → Option Act
 convert_act p op c d a =
     with_some (class_width p c) (λ w. with_some (class_width p d) (λ v. with_some (bits_in (Some w) a) (λ n.
     if leads_to op w v then Some (Gives ((Int v (converted op w v n) ∷ []) ∷ [])) else None)))
@@ -95,9 +94,9 @@ insertvalue_act p c n a b =
 -- ---- by name
 
 abbrev pub computation_act : Scope → List Value → Computation → Option Act
-computation_act s vars (computations.Binary op t a b e) = binary_act (tables_in s) (binary_op op) (class s t) (value_named s vars a) (value_named s vars b)
-computation_act s vars (computations.Compare op t a b) = compare_act (compare_op op) (value_named s vars a) (value_named s vars b)
-computation_act s vars (computations.Convert op t u a) = convert_act (tables_in s) (convert_op op) (class s t) (class s u) (value_named s vars a)
+computation_act s vars (computations.Binary op t a b e) = binary_act (tables_in s) op (class s t) (value_named s vars a) (value_named s vars b)
+computation_act s vars (computations.Compare op t a b) = compare_act op (value_named s vars a) (value_named s vars b)
+computation_act s vars (computations.Convert op t u a) = convert_act (tables_in s) op (class s t) (class s u) (value_named s vars a)
 computation_act s vars (computations.Refcast t u a) = refcast_act (class s u) (value_named s vars a)
 computation_act s vars (computations.Select t u c a b) = select_act (value_named s vars c) (value_named s vars a) (value_named s vars b)
 computation_act s vars (computations.Extractvalue t n a) = extractvalue_act (tables_in s) (class s t) n.number.magnitude (value_named s vars a)

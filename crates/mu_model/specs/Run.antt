@@ -73,6 +73,7 @@ pub record Setting : Type 0 where
   pub budget : ℕ
   pub rule : Rule
 
+-- the cells of the objects besides those of the globals, which are the first
 abbrev pub cells_taken : Tables → List HeapObject → ℕ
 cells_taken p os = sum_by (λ (o : HeapObject). length o.leaves) (drop (length p.global_cells) os)
 

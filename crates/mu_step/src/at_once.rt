@@ -8,7 +8,6 @@ ghost use Rattle.model_numbers.specs.Forms.{act_at};
 ghost use Rattle.model_numbers.specs.Numbered.{numbered};
 ghost use Rattle.step_forms.specs.Asked.{asked, lists_of};
 ghost use Rattle.step_forms.specs.AtOnce.{decided};
-ghost use Rattle.step_forms.specs.CaseRows.{cases_of, cases_at};
 ghost use Rattle.thread_acts.specs.Held.{configuration};
 ghost use Rattle.thread_acts.specs.Outcome.{outcome_of};
 ghost use Rattle.thread_acts.specs.Acting.{answers, acting, stepping, told};
@@ -29,17 +28,23 @@ use thread_acts::state::State;
 fn asks_at_once<M: Memory, C: Determined>(
     state: &State<M, C>,
     code: &Checked,
+    rows: &mut CaseRows,
     values: &mut Slots,
 ) -> AtOnce
+    requires code { rows.old ≡ code.now }
     requires waits { GoesOn state.now }
     requires there { stepping code.now state.now ≢ Stuck }
-    ensures { IfSome (decided result values.new.values) (λ act. stepping code.now state.now ≡ acting code.now state.now act) }
+    ensures same { rows.new ≡ rows.old }
+    ensures act { IfSome (decided result values.new.values) (λ act. stepping code.now state.now ≡ acting code.now state.now act) }
 {
     let top = state.frames.top();
     let block = code.block(top.block);
     let form = &block.code.as_slice()[top.at as usize].form;
     decide_at_once(
         code,
+        rows,
+        top.block,
+        top.at,
         block.classes.as_slice(),
         &Variables::of(&top.slots),
         form,
@@ -47,23 +52,16 @@ fn asks_at_once<M: Memory, C: Determined>(
     )
 }
 
-/// What the instruction at this place does, where it is a call, a return or a SWITCH, with values and classes in the room. None comes
-/// for other instructions, and where no memory is found.
-fn decide_with_room(
+/// What a call or a return does, with values and classes in the room. None comes for other instructions, and where no memory is found.
+fn decide_crossing(
     code: &Checked,
-    rows: &mut CaseRows,
-    block: u32,
-    at: u32,
     types: &[u32],
     vars: &Variables,
     form: &Form,
     room: &mut Room,
 ) -> Option<Act>
-    requires code { rows.old ≡ code.now }
-    requires place { cases_of form.now ≡ cases_at code.now block at }
-    requires there { IsSome (act_at code.now types.now vars.now form.now) }
-    ensures act { IfSome result (λ act. act_at code.now types.now vars.now form.now ≡ Some (asked act (lists_of room.new))) }
-    ensures same { rows.new ≡ rows.old }
+    requires { IsSome (act_at code.now types.now vars.now form.now) }
+    ensures { IfSome result (λ act. act_at code.now types.now vars.now form.now ≡ Some (asked act (lists_of room.new))) }
 {
     match form {
         Form::Control(
@@ -76,53 +74,26 @@ fn decide_with_room(
         Form::Control(ControlForm::Ret { values }) => {
             ret(code, types, vars, values.as_slice(), room).ok()
         }
-        Form::Control(
-            ControlForm::Switch {
-                operand,
-                default,
-                cases,
-                ..
-            },
-        ) => {
-            let values = &mut room.values;
-            let block = rows.arrive(
-                code,
-                block,
-                at,
-                vars,
-                *operand,
-                default,
-                cases.as_slice(),
-                values,
-            )?;
-            Some(Act::Goes { block })
-        }
         _ => None,
     }
 }
 
-/// What the thread's next instruction asks, where that is a call, a return or a SWITCH.
+/// What the thread's next instruction asks, where that is a call or a return.
 #[tactic(auto, using(thread_acts::specs::StepLaws::running))]
-fn asks_with_room<M: Memory, C: Determined>(
+fn asks_crossing<M: Memory, C: Determined>(
     state: &State<M, C>,
     code: &Checked,
-    rows: &mut CaseRows,
     room: &mut Room,
 ) -> Option<Act>
-    requires code { rows.old ≡ code.now }
     requires waits { GoesOn state.now }
     requires there { stepping code.now state.now ≢ Stuck }
-    ensures act { IfSome result (λ act. stepping code.now state.now ≡ acting code.now state.now (asked act (lists_of room.new))) }
-    ensures same { rows.new ≡ rows.old }
+    ensures { IfSome result (λ act. stepping code.now state.now ≡ acting code.now state.now (asked act (lists_of room.new))) }
 {
     let top = state.frames.top();
     let block = code.block(top.block);
     let form = &block.code.as_slice()[top.at as usize].form;
-    decide_with_room(
+    decide_crossing(
         code,
-        rows,
-        top.block,
-        top.at,
         block.classes.as_slice(),
         &Variables::of(&top.slots),
         form,
@@ -130,32 +101,25 @@ fn asks_with_room<M: Memory, C: Determined>(
     )
 }
 
-/// The thread calls a function, returns from one or does a SWITCH at once, or nothing changes.
-#[tactic(auto, using(crate::proofs::AtOnce::acting_at_once, thread_acts::specs::ActLaws::goes_is))]
-fn make_with_room<M: Memory, C: Determined>(
+/// The thread calls a function or returns from one at once, or nothing changes.
+#[tactic(auto, using(crate::proofs::AtOnce::acting_at_once))]
+fn cross_at_once<M: Memory, C: Determined>(
     state: &mut State<M, C>,
     alloc: Global,
     code: &Checked,
-    rows: &mut CaseRows,
     room: &mut Room,
     out: &mut Slots,
 ) -> bool
-    requires code { rows.old ≡ code.now }
     requires left { state.old.left ≡ true }
     requires room { state.old.steps < state.old.budget }
     requires waits { GoesOn state.old }
     requires there { stepping code.now state.old ≢ Stuck }
     ensures made { result ≡ true → answers (Went []) state.new ≡ stepping code.now state.old }
     ensures left { result ≡ false → state.new ≡ state.old }
-    ensures same { rows.new ≡ rows.old }
 {
-    match asks_with_room(state, code, rows, room) {
+    match asks_crossing(state, code, room) {
         Some(Act::Calls { function }) => state.call_at_once(alloc, code, function, room),
         Some(Act::Returns) => state.return_at_once(code, room, out),
-        Some(Act::Goes { block }) => {
-            state.go_at_once(block, &mut room.values);
-            true
-        }
         _ => false,
     }
 }
@@ -179,13 +143,13 @@ fn run_at_once<M: Memory, C: Determined>(
     ensures left { result ≡ false → state.new ≡ state.old }
     ensures same { rows.new ≡ rows.old }
 {
-    match asks_at_once(state, code, &mut room.values) {
+    match asks_at_once(state, code, rows, &mut room.values) {
         AtOnce::Gives(scalar) => state.give_at_once(code, scalar),
         AtOnce::Goes { block } => {
             state.go_at_once(block, &mut room.values);
             true
         }
-        AtOnce::Other => make_with_room(state, alloc, code, rows, room, out),
+        AtOnce::Other => cross_at_once(state, alloc, code, room, out),
     }
 }
 

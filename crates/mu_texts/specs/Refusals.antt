@@ -1,9 +1,7 @@
 -- To believe: how faults are named in refusals.
 use Rattle.std.specs.Prelude.{ℕ, List, codes}
-use Rattle.ir_lex.specs.declared.token.LexKind.{LexKind}
-use Rattle.ir_lex.specs.declared.token.LexKind.TheVariants.{BadByte, BadName, NumberTooLarge, TooLong}
-use Rattle.ir_text.specs.declared.fault.TextKind.{TextKind}
-use Rattle.ir_text.specs.declared.fault.TextKind.TheVariants as text_kinds
+use Rattle.text_forms.specs.declared.fault.FaultKind.{FaultKind}
+use Rattle.text_forms.specs.declared.fault.FaultKind.TheVariants as kinds
 use Rattle.mu_types.specs.declared.faults.TypeKind.{TypeKind}
 use Rattle.mu_types.specs.declared.faults.TypeKind.TheVariants as type_kinds
 use Rattle.mu_values.specs.declared.literals.ConstKind.{ConstKind}
@@ -23,17 +21,14 @@ use Rattle.client_script.specs.declared.fault.ScriptKind.TheVariants as script_k
 use Rattle.mu_threads.specs.declared.reading.ScheduleKind.{ScheduleKind}
 use Rattle.mu_threads.specs.declared.reading.ScheduleKind.TheVariants as schedule_kinds
 
-abbrev pub lex_fault_name : LexKind → List ℕ
-lex_fault_name BadByte = codes "BadByte"
-lex_fault_name BadName = codes "BadName"
-lex_fault_name NumberTooLarge = codes "NumberTooLarge"
-lex_fault_name TooLong = codes "TooLong"
-
-abbrev pub text_fault_name : TextKind → List ℕ
-text_fault_name (text_kinds.Lex kind) = lex_fault_name kind
-text_fault_name text_kinds.Unexpected = codes "Unexpected"
-text_fault_name text_kinds.NotInProfile = codes "NotInProfile"
-text_fault_name text_kinds.TooMany = codes "TooMany"
+abbrev pub text_fault_name : FaultKind → List ℕ
+text_fault_name kinds.BadByte = codes "BadByte"
+text_fault_name kinds.BadName = codes "BadName"
+text_fault_name kinds.NumberTooLarge = codes "NumberTooLarge"
+text_fault_name kinds.TooLong = codes "TooLong"
+text_fault_name kinds.Unexpected = codes "Unexpected"
+text_fault_name kinds.NotInProfile = codes "NotInProfile"
+text_fault_name kinds.TooMany = codes "TooMany"
 
 abbrev pub name_fault_name : NameKind → List ℕ
 name_fault_name name_kinds.Duplicate = codes "Duplicate"
@@ -73,8 +68,7 @@ entry_fault_name entry_faults.NoBody = codes "NoBody"
 
 -- what is wrong with the text of a script that fills the heap, and with a command of it
 abbrev pub hail_fault_name : HailKind → List ℕ
-hail_fault_name (hail_kinds.Lex kind) = lex_fault_name kind
-hail_fault_name hail_kinds.Unexpected = codes "Unexpected"
+hail_fault_name (hail_kinds.Text kind) = text_fault_name kind
 hail_fault_name hail_kinds.Unknown = codes "Unknown"
 hail_fault_name hail_kinds.Duplicate = codes "Duplicate"
 
@@ -85,8 +79,7 @@ load_fault_name load_kinds.HeapFull = codes "HeapFull"
 
 -- what is wrong with the text of a client's script
 abbrev pub script_fault_name : ScriptKind → List ℕ
-script_fault_name (script_kinds.Lex kind) = lex_fault_name kind
-script_fault_name script_kinds.Unexpected = codes "Unexpected"
+script_fault_name (script_kinds.Text kind) = text_fault_name kind
 script_fault_name script_kinds.Unknown = codes "Unknown"
 
 abbrev pub schedule_fault_name : ScheduleKind → List ℕ

@@ -1,7 +1,7 @@
 // The lines of refusals.
 ghost use Rattle.std.specs.Prelude.{◌≡◌, ◌++◌, IfOk, codes, decimal};
 ghost use Rattle.mu_texts.specs.What.{name_of};
-ghost use Rattle.mu_texts.specs.Refusals.{lex_fault_name, text_fault_name, name_fault_name, type_fault_name, const_fault_name, check_fault_name, entry_fault_name, hail_fault_name, load_fault_name, script_fault_name, schedule_fault_name};
+ghost use Rattle.mu_texts.specs.Refusals.{text_fault_name, name_fault_name, type_fault_name, const_fault_name, check_fault_name, entry_fault_name, hail_fault_name, load_fault_name, script_fault_name, schedule_fault_name};
 
 use crate::what::What;
 use bundle_check::EntryFault;
@@ -9,35 +9,25 @@ use bundle_names::NameKind;
 use check_tables::CheckKind;
 use client_script::ScriptKind;
 use hail_load::{HailKind, LoadKind};
-use ir_lex::LexKind;
-use ir_text::TextKind;
 use itoa::Buffer;
 use mu_threads::ScheduleKind;
 use mu_types::TypeKind;
 use mu_values::ConstKind;
 use std::alloc::{AllocError, Global};
-
-// The name of a lexical fault in refusals.
-fn lex_fault_name(kind: LexKind) -> &'static str
-    ensures { result.now ≡ lex_fault_name kind }
-{
-    match kind {
-        LexKind::BadByte => "BadByte",
-        LexKind::BadName => "BadName",
-        LexKind::NumberTooLarge => "NumberTooLarge",
-        LexKind::TooLong => "TooLong",
-    }
-}
+use text_forms::FaultKind;
 
 /// The name of a text's fault in refusals.
-pub fn text_fault_name(kind: TextKind) -> &'static str
+pub fn text_fault_name(kind: FaultKind) -> &'static str
     ensures { result.now ≡ text_fault_name kind }
 {
     match kind {
-        TextKind::Lex(kind) => lex_fault_name(kind),
-        TextKind::Unexpected => "Unexpected",
-        TextKind::NotInProfile => "NotInProfile",
-        TextKind::TooMany => "TooMany",
+        FaultKind::BadByte => "BadByte",
+        FaultKind::BadName => "BadName",
+        FaultKind::NumberTooLarge => "NumberTooLarge",
+        FaultKind::TooLong => "TooLong",
+        FaultKind::Unexpected => "Unexpected",
+        FaultKind::NotInProfile => "NotInProfile",
+        FaultKind::TooMany => "TooMany",
     }
 }
 
@@ -110,8 +100,7 @@ pub fn hail_fault_name(kind: HailKind) -> &'static str
     ensures { result.now ≡ hail_fault_name kind }
 {
     match kind {
-        HailKind::Lex(kind) => lex_fault_name(kind),
-        HailKind::Unexpected => "Unexpected",
+        HailKind::Text(kind) => text_fault_name(kind),
         HailKind::Unknown => "Unknown",
         HailKind::Duplicate => "Duplicate",
     }
@@ -133,8 +122,7 @@ pub fn script_fault_name(kind: ScriptKind) -> &'static str
     ensures { result.now ≡ script_fault_name kind }
 {
     match kind {
-        ScriptKind::Lex(kind) => lex_fault_name(kind),
-        ScriptKind::Unexpected => "Unexpected",
+        ScriptKind::Text(kind) => text_fault_name(kind),
         ScriptKind::Unknown => "Unknown",
     }
 }

@@ -3,12 +3,12 @@ use Rattle.std.proofs.Common.{◌≡◌, ℕ, ◌/◌, ◌%◌, ◌^◌, ◌<◌
 use Rattle.std.specs.Prelude.{ℤ, pos, negsuc, nat_eq, nat_lt, int_lt, bit_and}
 use Rattle.std.proofs.lemmas.Nat.{pow_pos, mod_below, and_le_l, or_lt, xor_lt}
 use Rattle.std.proofs.Math.Nat.{mod-le, div-le_self}
-use Rattle.mu_values.specs.declared.operators.BinOp.{BinOp}
-use Rattle.mu_values.specs.declared.operators.BinOp.TheVariants as binaries
-use Rattle.mu_values.specs.declared.operators.ConvOp.{ConvOp}
-use Rattle.mu_values.specs.declared.operators.ConvOp.TheVariants as conversions
-use Rattle.mu_values.specs.declared.operators.UpdateOp.{UpdateOp}
-use Rattle.mu_values.specs.declared.operators.UpdateOp.TheVariants as updates
+use Rattle.mu_base.specs.declared.operators.BinaryOp.{BinaryOp}
+use Rattle.mu_base.specs.declared.operators.BinaryOp.TheVariants as binaries
+use Rattle.mu_base.specs.declared.operators.ConvertOp.{ConvertOp}
+use Rattle.mu_base.specs.declared.operators.ConvertOp.TheVariants as conversions
+use Rattle.mu_base.specs.declared.operators.UpdateOp.{UpdateOp}
+use Rattle.mu_base.specs.declared.operators.UpdateOp.TheVariants as updates
 use Rattle.mu_values.specs.Integers.{signed, bits_of, shift, binary_value, converted, IsConversion}
 use Rattle.mu_values.specs.Updates.{updated_bits}
 use Rattle.mu_values.proofs.Signed.{pow_up}
@@ -25,7 +25,7 @@ divided_told : (zero_divisor : Bool) (m n k : ℕ) → m < k → (if zero_diviso
 divided_told true m n k l e = cc
 divided_told false m n k l e = told m n k l e
 
-pub binary_below : (op : BinOp) (w a b n : ℕ) → a < 2 ^ w → b < 2 ^ w → binary_value op w a b ≡ Some n → n < 2 ^ w
+pub binary_below : (op : BinaryOp) (w a b n : ℕ) → a < 2 ^ w → b < 2 ^ w → binary_value op w a b ≡ Some n → n < 2 ^ w
 binary_below binaries.Add w a b n la lb e = told _ n (2 ^ w) (mod_below _ (2 ^ w) (pow_pos w)) e
 binary_below binaries.Sub w a b n la lb e = told _ n (2 ^ w) (bits_below w _) e
 binary_below binaries.Mul w a b n la lb e = told _ n (2 ^ w) (mod_below _ (2 ^ w) (pow_pos w)) e
@@ -40,7 +40,7 @@ binary_below binaries.And w a b n la lb e = told (bit_and a b) n (2 ^ w) (let lo
 binary_below binaries.Or w a b n la lb e = told _ n (2 ^ w) (or_lt w a b la lb) e
 binary_below binaries.Xor w a b n la lb e = told _ n (2 ^ w) (xor_lt w a b la lb) e
 
-pub converted_below : (op : ConvOp) (from to n : ℕ) → IsConversion op from to → n < 2 ^ from → converted op from to n < 2 ^ to
+pub converted_below : (op : ConvertOp) (from to n : ℕ) → IsConversion op from to → n < 2 ^ from → converted op from to n < 2 ^ to
 converted_below conversions.Trunc from to n fits l = mod_below n (2 ^ to) (pow_pos to)
 converted_below conversions.Zext from to n fits l = let more = pow_up from to fits in omega (arith, more, l)
 converted_below conversions.Sext from to n fits l = bits_below to (signed from n)

@@ -1,6 +1,6 @@
 -- Worked examples. Comparisons, at each width and edge.
 use Rattle.std.specs.Prelude.{◌≡◌, refl, true, false}
-use Rattle.mu_values.specs.declared.operators.CmpOp.TheVariants as comparisons
+use Rattle.mu_base.specs.declared.operators.CompareOp.TheVariants as comparisons
 use Rattle.mu_values.specs.declared.scalars.Scalar.TheVariants.{Int, Null, Object, Place, Func, Stack, Thread}
 use Rattle.mu_values.specs.Comparisons.{compared}
 

@@ -1,7 +1,7 @@
 -- Comparisons of two scalars of one type.
 use Rattle.std.specs.Prelude.{◌≡◌, ℕ, Bool, false, not, nat_lt, nat_le, int_lt, int_le}
-use Rattle.mu_values.specs.declared.operators.CmpOp.{CmpOp}
-use Rattle.mu_values.specs.declared.operators.CmpOp.TheVariants as comparisons
+use Rattle.mu_base.specs.declared.operators.CompareOp.{CompareOp}
+use Rattle.mu_base.specs.declared.operators.CompareOp.TheVariants as comparisons
 use Rattle.mu_values.specs.declared.scalars.Scalar.{Scalar}
 use Rattle.mu_values.specs.declared.scalars.Scalar.TheVariants.{Int}
 use Rattle.mu_values.specs.SameScalar.{same_scalar}
@@ -18,7 +18,7 @@ ordered before (Int w a) (Int w' b) = before w a b
 ordered before _ _ = false
 
 -- S is signed, U unsigned
-abbrev pub compared : CmpOp → Scalar → Scalar → Bool
+abbrev pub compared : CompareOp → Scalar → Scalar → Bool
 compared comparisons.Eq a b = same_scalar a b
 compared comparisons.Ne a b = not (same_scalar a b)
 compared comparisons.Slt a b = ordered (λ w m n. int_lt (signed w m) (signed w n)) a b

@@ -1,7 +1,7 @@
 -- Worked examples. What is computed with integers, at each width and edge.
 use Rattle.std.specs.Prelude.{◌≡◌, refl, Some, None}
-use Rattle.mu_values.specs.declared.operators.BinOp.TheVariants as binaries
-use Rattle.mu_values.specs.declared.operators.ConvOp.TheVariants as conversions
+use Rattle.mu_base.specs.declared.operators.BinaryOp.TheVariants as binaries
+use Rattle.mu_base.specs.declared.operators.ConvertOp.TheVariants as conversions
 use Rattle.mu_values.specs.Integers.{binary_value, converted}
 
 sums_wrap :

@@ -1,6 +1,6 @@
 -- Worked examples. What updates leave in a cell.
 use Rattle.std.specs.Prelude.{◌≡◌, refl}
-use Rattle.mu_values.specs.declared.operators.UpdateOp.TheVariants as updates
+use Rattle.mu_base.specs.declared.operators.UpdateOp.TheVariants as updates
 use Rattle.mu_values.specs.Updates.{updated_bits}
 
 sums_and_differences_wrap : (updated_bits updates.Add 8 255 1 ≡ 0) × (updated_bits updates.Sub 8 0 1 ≡ 255)

@@ -1,7 +1,7 @@
 -- Updates of cells that hold integers of w bits: what stands in the cell after an update by b, where a stood before.
 use Rattle.std.specs.Prelude.{ℕ, pos, ◌+◌, ◌-◌, ◌%◌, ◌^◌, ◌-ℤ◌, nat_lt, int_lt, bit_and, bit_or, bit_xor, if◌then◌else◌}
-use Rattle.mu_values.specs.declared.operators.UpdateOp.{UpdateOp}
-use Rattle.mu_values.specs.declared.operators.UpdateOp.TheVariants as updates
+use Rattle.mu_base.specs.declared.operators.UpdateOp.{UpdateOp}
+use Rattle.mu_base.specs.declared.operators.UpdateOp.TheVariants as updates
 use Rattle.mu_values.specs.Integers.{signed, bits_of}
 
 -- Sums and differences wrap. NAND is the complement of AND. MAX and MIN are signed, UMAX and UMIN unsigned.

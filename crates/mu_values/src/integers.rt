@@ -3,7 +3,7 @@ ghost use Rattle.std.specs.Prelude.{◌≡◌, ◌+◌, ◌-◌, ◌*◌, ◌/�
 ghost use Rattle.std.specs.Int.Signed.{shr_z};
 ghost use Rattle.mu_values.specs.Integers.{IsInteger, signed, bits_of, shift, binary_value, converted, IsConversion, is_conversion};
 
-use crate::operators::{BinOp, ConvOp};
+use mu_base::{BinaryOp, ConvertOp};
 
 /// The integer whose bits are all 1.
 #[tactic(auto, using(crate::proofs::Masks::all_ones))]
@@ -162,57 +162,58 @@ fn shift_signed(width: u32, a: u128, b: u128) -> u128
 
 /// What the operation makes of two integers of that many bits, 1 to 128. None comes exactly where a divisor is 0. The least
 /// integer divided by -1 is itself, with remainder 0. It takes constant time and no memory.
-pub fn binary(op: BinOp, width: u32, a: u128, b: u128) -> Option<u128>
+pub fn binary(op: BinaryOp, width: u32, a: u128, b: u128) -> Option<u128>
     requires a { IsInteger width a }
     requires b { IsInteger width b }
     ensures { result ≡ binary_value op width a b }
 {
     match op {
-        BinOp::Add => Some(add(width, a, b)),
-        BinOp::Sub => Some(subtract(width, a, b)),
-        BinOp::Mul => Some(multiply(width, a, b)),
-        BinOp::Sdiv => if b == 0 {
+        BinaryOp::Add => Some(add(width, a, b)),
+        BinaryOp::Sub => Some(subtract(width, a, b)),
+        BinaryOp::Mul => Some(multiply(width, a, b)),
+        BinaryOp::Sdiv => if b == 0 {
             None
         } else {
             Some(signed_quotient(width, a, b))
         },
-        BinOp::Srem => if b == 0 {
+        BinaryOp::Srem => if b == 0 {
             None
         } else {
             Some(signed_remainder(width, a, b))
         },
-        BinOp::Udiv => if b == 0 { None } else { Some(a / b) },
-        BinOp::Urem => if b == 0 { None } else { Some(a % b) },
-        BinOp::Shl => Some(shift_left(width, a, b)),
-        BinOp::Lshr => Some(shift_right(width, a, b)),
-        BinOp::Ashr => Some(shift_signed(width, a, b)),
-        BinOp::And => Some(a & b),
-        BinOp::Or => Some(a | b),
-        BinOp::Xor => Some(a ^ b),
+        BinaryOp::Udiv => if b == 0 { None } else { Some(a / b) },
+        BinaryOp::Urem => if b == 0 { None } else { Some(a % b) },
+        BinaryOp::Shl => Some(shift_left(width, a, b)),
+        BinaryOp::Lshr => Some(shift_right(width, a, b)),
+        BinaryOp::Ashr => Some(shift_signed(width, a, b)),
+        BinaryOp::And => Some(a & b),
+        BinaryOp::Or => Some(a | b),
+        BinaryOp::Xor => Some(a ^ b),
     }
 }
 
-/// Whether the conversion leads from one width to another: `Trunc` makes no integer wider, `Zext` and `Sext` none narrower.
-pub fn is_conversion(op: ConvOp, from: u128, to: u128) -> bool
+/// Whether the conversion leads from one width to another: `Trunc` makes no integer wider, `Zext` and `Sext` none narrower. The widths may
+/// be any; it takes constant time and no memory.
+pub fn is_conversion(op: ConvertOp, from: u128, to: u128) -> bool
     ensures { result ≡ is_conversion op from to }
 {
     match op {
-        ConvOp::Trunc => to <= from,
-        ConvOp::Zext | ConvOp::Sext => from <= to,
+        ConvertOp::Trunc => to <= from,
+        ConvertOp::Zext | ConvertOp::Sext => from <= to,
     }
 }
 
 /// What the integer of width `from` is at width `to`. It takes constant time and no memory.
-pub fn convert(op: ConvOp, from: u32, to: u32, bits: u128) -> u128
+pub fn convert(op: ConvertOp, from: u32, to: u32, bits: u128) -> u128
     requires bits { IsInteger from bits }
     requires to { (1 ≤ to) × (to ≤ 128) }
     requires fits { IsConversion op from to }
     ensures { result ≡ converted op from to bits }
 {
     match op {
-        ConvOp::Trunc => low_bits(to, bits),
-        ConvOp::Zext => bits,
-        ConvOp::Sext => extend(from, to, bits),
+        ConvertOp::Trunc => low_bits(to, bits),
+        ConvertOp::Zext => bits,
+        ConvertOp::Sext => extend(from, to, bits),
     }
 }
 

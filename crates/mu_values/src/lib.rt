@@ -7,7 +7,6 @@ mod integers;
 mod laws;
 mod literals;
 mod made;
-mod operators;
 mod scalars;
 mod slots;
 mod updates;
@@ -21,7 +20,6 @@ pub use laws::{
 };
 pub use literals::{ConstFault, ConstKind, Literal, LiteralKind};
 pub use made::{Made, make_const};
-pub use operators::{BinOp, CmpOp, ConvOp, UpdateOp};
 pub use scalars::{Scalar, Value};
 pub use slots::{Passed, Slots};
 pub use updates::updated;

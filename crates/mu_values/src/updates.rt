@@ -4,7 +4,7 @@ ghost use Rattle.mu_values.specs.Integers.{IsInteger};
 ghost use Rattle.mu_values.specs.Updates.{updated_bits};
 
 use crate::integers::{add, is_less, ones, subtract};
-use crate::operators::UpdateOp;
+use mu_base::UpdateOp;
 
 /// The complement of the bits that both have.
 fn nand(width: u32, a: u128, b: u128) -> u128

@@ -4,7 +4,7 @@ use Rattle.std.proofs.Common.{◌⊎◌, inl, inr}
 use Rattle.mu_base.specs.declared.order.Order.{Order}
 use Rattle.mu_values.specs.declared.scalars.Scalar.{Scalar}
 use Rattle.mu_values.specs.declared.scalars.Scalar.TheVariants.{Int, Null, Object, Place, Func, Stack, Thread}
-use Rattle.mu_values.specs.declared.operators.UpdateOp.{UpdateOp}
+use Rattle.mu_base.specs.declared.operators.UpdateOp.{UpdateOp}
 use Rattle.heap_cells.specs.declared.cells.CellId.{CellId}
 use Rattle.typed_heap.specs.Places.{with_some}
 use Rattle.frames.specs.Activations.{Value}

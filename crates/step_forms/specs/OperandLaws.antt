@@ -7,8 +7,8 @@ use Rattle.std.proofs.lemmas.Option.{slice_get_within, get_or_from_slice_get}
 use Rattle.type_laws.specs.declared.definition.TypeDef.{TypeDef}
 use Rattle.mu_values.specs.declared.scalars.Scalar.{Scalar}
 use Rattle.mu_values.specs.declared.scalars.Scalar.TheVariants.{Int, Null, Object, Place, Func, Stack, Thread}
-use Rattle.mu_values.specs.declared.operators.ConvOp.{ConvOp}
-use Rattle.mu_values.specs.declared.operators.ConvOp.TheVariants as conversions
+use Rattle.mu_base.specs.declared.operators.ConvertOp.{ConvertOp}
+use Rattle.mu_base.specs.declared.operators.ConvertOp.TheVariants as conversions
 use Rattle.mu_values.specs.Integers.{IsInteger, IsConversion}
 use Rattle.mu_values.specs.SameScalar.{same_scalar}
 use Rattle.mu_values.specs.ScalarLaws.{same_scalar-iff}
@@ -115,7 +115,7 @@ some_comparison (Int w m) (Int v n) act h = grind (arith, nat_tests)
 some_comparison _ _ act h = (tt, refl)
 
 -- the width after a conversion
-pub some_conversion : (op : ConvOp) (w v n : ℕ) (act : Act) → IsInteger w n → IsSome (if leads_to op w v then Some act else None) → (1 ≤ v) × (v ≤ 128) × IsConversion op w v × (leads_to op w v ≡ true)
+pub some_conversion : (op : ConvertOp) (w v n : ℕ) (act : Act) → IsInteger w n → IsSome (if leads_to op w v then Some act else None) → (1 ≤ v) × (v ≤ 128) × IsConversion op w v × (leads_to op w v ≡ true)
 some_conversion conversions.Trunc w v n act i h = grind (arith, nat_tests)
 some_conversion conversions.Zext w v n act i h = grind (arith, nat_tests)
 some_conversion conversions.Sext w v n act i h = grind (arith, nat_tests)

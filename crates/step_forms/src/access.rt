@@ -1,6 +1,6 @@
 // Accesses of cells.
-use mu_base::Order;
-use mu_values::{Scalar, UpdateOp};
+use mu_base::{Order, UpdateOp};
+use mu_values::Scalar;
 
 /// What is done with a cell.
 #[derive(Clone, Copy, Debug, PartialEq, Eq)]

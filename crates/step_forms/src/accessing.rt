@@ -1,7 +1,7 @@
 // Instructions that read and write memory.
 ghost use Rattle.std.specs.Prelude.{◌≡◌, Some, IsSome};
 ghost use Rattle.mu_model.specs.Acts as acts;
-ghost use Rattle.mu_model.specs.AccessForms.{cell_act, load_act, store_act, cmpxchg_act, atomicrmw_act, update_op};
+ghost use Rattle.mu_model.specs.AccessForms.{cell_act, load_act, store_act, cmpxchg_act, atomicrmw_act};
 ghost use Rattle.model_numbers.specs.Sources.{value_at};
 ghost use Rattle.step_forms.specs.Asked.{asked, Lists, access_of};
 
@@ -12,10 +12,9 @@ use crate::variables::Variables;
 use bundle_check::Checked;
 use code_check::Source;
 use heap_cells::CellId;
-use ir_tree::UpdateOp as UpdateWord;
-use mu_base::Order;
+use mu_base::{Order, UpdateOp};
 use mu_model::Case;
-use mu_values::{Scalar, UpdateOp};
+use mu_values::Scalar;
 
 /// What is done with the cell at a place.
 #[tactic(auto, using(crate::specs::AccessLaws::cells))]
@@ -30,25 +29,6 @@ fn at_place(place: Scalar, access: Access) -> Act
         },
         Scalar::Null => Act::Faults(Case::NullAccess),
         _ => unreachable!(),
-    }
-}
-
-/// The operation that a word of ATOMICRMW stands for.
-fn update_op(word: UpdateWord) -> UpdateOp
-    ensures { result ≡ update_op word }
-{
-    match word {
-        UpdateWord::Xchg => UpdateOp::Xchg,
-        UpdateWord::Add => UpdateOp::Add,
-        UpdateWord::Sub => UpdateOp::Sub,
-        UpdateWord::And => UpdateOp::And,
-        UpdateWord::Nand => UpdateOp::Nand,
-        UpdateWord::Or => UpdateOp::Or,
-        UpdateWord::Xor => UpdateOp::Xor,
-        UpdateWord::Max => UpdateOp::Max,
-        UpdateWord::Min => UpdateOp::Min,
-        UpdateWord::Umax => UpdateOp::Umax,
-        UpdateWord::Umin => UpdateOp::Umin,
     }
 }
 
@@ -123,20 +103,16 @@ pub fn atomicrmw(
     code: &Checked,
     vars: &Variables,
     order: Order,
-    word: UpdateWord,
+    op: UpdateOp,
     location: Source,
     operand: Source,
 ) -> Act
-    requires { IsSome (atomicrmw_act order (update_op word) (value_at code.now vars.now location) (value_at code.now vars.now operand)) }
-    ensures { (ls : Lists) → atomicrmw_act order (update_op word) (value_at code.now vars.now location) (value_at code.now vars.now operand) ≡ Some (asked result ls) }
+    requires { IsSome (atomicrmw_act order op (value_at code.now vars.now location) (value_at code.now vars.now operand)) }
+    ensures { (ls : Lists) → atomicrmw_act order op (value_at code.now vars.now location) (value_at code.now vars.now operand) ≡ Some (asked result ls) }
 {
     let operand = scalar(code, vars, operand);
     at_place(
         scalar(code, vars, location),
-        Access::Updates {
-            order,
-            op: update_op(word),
-            operand,
-        },
+        Access::Updates { order, op, operand },
     )
 }

@@ -2,9 +2,12 @@
 // inlined, so that a scalar is not copied on its way from one to the next.
 ghost use Rattle.std.specs.Prelude.{◌≡◌, [], ◌∷◌, Some, IsSome, IfSome};
 ghost use Rattle.mu_model.specs.Acts as acts;
+ghost use Rattle.code_check.specs.declared.code.Form.TheVariants.{Control};
 ghost use Rattle.model_numbers.specs.Forms.{computation_at, control_at, act_at};
 ghost use Rattle.step_forms.specs.AtOnce.{decided};
+ghost use Rattle.step_forms.specs.CaseRows.{cases_of, cases_at};
 
+use crate::case_rows::CaseRows;
 use crate::computing::{binary_scalar, compare_scalar, convert_scalar};
 use crate::control::{arrive, arrive_at_one};
 use crate::variables::Variables;
@@ -53,17 +56,23 @@ fn computed(code: &Checked, vars: &Variables, form: &ComputationForm) -> Option<
     }
 }
 
-/// The block that an instruction goes to, where that is all that it does, with the values for it in the list.
+/// The block that the instruction at a place goes to, where that is all that it does, with the values for it in the list.
 #[inline(always)]
 fn gone(
     code: &Checked,
+    rows: &mut CaseRows,
+    block: u32,
+    at: u32,
     types: &[u32],
     vars: &Variables,
     form: &ControlForm,
     values: &mut Slots,
 ) -> Option<u32>
-    requires { IsSome (control_at code.now types.now vars.now form.now) }
-    ensures { IfSome result (λ block. control_at code.now types.now vars.now form.now ≡ Some (acts.Goes (record { block = block; values = values.new.values }))) }
+    requires code { rows.old ≡ code.now }
+    requires place { cases_of (Control form.now) ≡ cases_at code.now block at }
+    requires there { IsSome (control_at code.now types.now vars.now form.now) }
+    ensures same { rows.new ≡ rows.old }
+    ensures goes { IfSome result (λ block. control_at code.now types.now vars.now form.now ≡ Some (acts.Goes (record { block = block; values = values.new.values }))) }
 {
     match form {
         ControlForm::Branch { target } => arrive(code, vars, target, values),
@@ -72,28 +81,44 @@ fn gone(
             if_one,
             if_zero,
         } => arrive_at_one(code, vars, *condition, if_one, if_zero, values),
+        ControlForm::Switch {
+            operand,
+            default,
+            cases,
+            ..
+        } => {
+            let cases = cases.as_slice();
+            rows.arrive(code, block, at, vars, *operand, default, cases, values)
+        }
         _ => None,
     }
 }
 
-/// What an instruction does, as `decide` tells it, where that is decided at once. The list is changed even where nothing is decided.
+/// What the instruction at a place does, as `decide` tells it, where that is decided at once. The list is changed even where nothing is
+/// decided.
 #[inline(always)]
 pub fn decide_at_once(
     code: &Checked,
+    rows: &mut CaseRows,
+    block: u32,
+    at: u32,
     types: &[u32],
     vars: &Variables,
     form: &Form,
     values: &mut Slots,
 ) -> AtOnce
-    requires { IsSome (act_at code.now types.now vars.now form.now) }
-    ensures { IfSome (decided result values.new.values) (λ act. act_at code.now types.now vars.now form.now ≡ Some act) }
+    requires code { rows.old ≡ code.now }
+    requires place { cases_of form.now ≡ cases_at code.now block at }
+    requires there { IsSome (act_at code.now types.now vars.now form.now) }
+    ensures same { rows.new ≡ rows.old }
+    ensures act { IfSome (decided result values.new.values) (λ act. act_at code.now types.now vars.now form.now ≡ Some act) }
 {
     match form {
         Form::Computation(form) => match computed(code, vars, form) {
             Some(scalar) => AtOnce::Gives(scalar),
             None => AtOnce::Other,
         },
-        Form::Control(form) => match gone(code, types, vars, form, values) {
+        Form::Control(form) => match gone(code, rows, block, at, types, vars, form, values) {
             Some(block) => AtOnce::Goes { block },
             None => AtOnce::Other,
         },

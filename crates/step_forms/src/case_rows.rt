@@ -206,7 +206,7 @@ impl<'a> CaseRows<'a> {
     }
 
     /// The block that the SWITCH at a place goes to, with the values for it in the list. None comes only where no memory is found.
-    pub fn arrive(
+    pub(crate) fn arrive(
         &mut self,
         code: &Checked,
         block: u32,

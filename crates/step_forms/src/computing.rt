@@ -16,9 +16,10 @@ use crate::room::Room;
 use crate::variables::Variables;
 use bundle_check::Checked;
 use code_check::Source;
+use mu_base::{BinaryOp, CompareOp, ConvertOp};
 use mu_model::Case;
 use mu_types::TypeDef;
-use mu_values::{BinOp, CmpOp, ConvOp, Scalar};
+use mu_values::Scalar;
 use std::alloc::AllocError;
 
 /// The integer with these bits, where any were computed.
@@ -37,7 +38,7 @@ fn integer(width: u32, computed: Option<u128>) -> Option<Scalar>
 pub(crate) fn binary_scalar(
     code: &Checked,
     vars: &Variables,
-    op: BinOp,
+    op: BinaryOp,
     class: u32,
     left: Source,
     right: Source,
@@ -69,7 +70,7 @@ fn given_or_fault(computed: Option<Scalar>) -> Act
 pub fn binary(
     code: &Checked,
     vars: &Variables,
-    op: BinOp,
+    op: BinaryOp,
     class: u32,
     left: Source,
     right: Source,
@@ -92,7 +93,7 @@ fn bit(holds: bool) -> u128
 pub(crate) fn compare_scalar(
     code: &Checked,
     vars: &Variables,
-    op: CmpOp,
+    op: CompareOp,
     left: Source,
     right: Source,
 ) -> Scalar
@@ -106,7 +107,7 @@ pub(crate) fn compare_scalar(
 }
 
 /// EQ and its like.
-pub fn compare(code: &Checked, vars: &Variables, op: CmpOp, left: Source, right: Source) -> Act
+pub fn compare(code: &Checked, vars: &Variables, op: CompareOp, left: Source, right: Source) -> Act
     requires { IsSome (compare_act op (value_at code.now vars.now left) (value_at code.now vars.now right)) }
     ensures { (ls : Lists) → compare_act op (value_at code.now vars.now left) (value_at code.now vars.now right) ≡ Some (asked result ls) }
 {
@@ -131,7 +132,7 @@ fn width(code: &Checked, class: u32) -> u32
 pub(crate) fn convert_scalar(
     code: &Checked,
     vars: &Variables,
-    op: ConvOp,
+    op: ConvertOp,
     from: u32,
     to: u32,
     operand: Source,
@@ -158,7 +159,7 @@ pub(crate) fn convert_scalar(
 pub fn convert(
     code: &Checked,
     vars: &Variables,
-    op: ConvOp,
+    op: ConvertOp,
     from: u32,
     to: u32,
     operand: Source,

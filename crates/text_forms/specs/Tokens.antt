@@ -15,7 +15,7 @@ pub record Tok : Type 0 where
   pub place : ℕ
   pub spelling : List ℕ
 
--- the two are one symbol
+-- the two are one symbol: their tags are equal
 abbrev pub same : Symbol → Symbol → Bool
 same = sameb the_type
 

@@ -1,7 +1,7 @@
 //! What a token is to the grammars.
 
 ghost use Rattle.std.specs.Prelude.{◌≡◌};
-ghost use Rattle.text_forms.specs.Tokens.{is_last, kind_of, same};
+ghost use Rattle.text_forms.specs.Tokens.{is_last, kind_of};
 
 use crate::fault::FaultKind;
 
@@ -409,13 +409,6 @@ pub enum Symbol {
 }
 
 impl Symbol {
-    /// Whether the two are one symbol.
-    pub fn is(self, other: Symbol) -> bool
-        ensures { result ≡ same self other }
-    {
-        self == other
-    }
-
     /// Whether nothing stands behind this one: it is the end, or a lexical fault.
     pub fn is_last(self) -> bool
         ensures { result ≡ is_last self }

@@ -7,8 +7,8 @@ use Rattle.ir_tree.specs.declared.items.Item.{Item}
 use Rattle.mu_base.specs.declared.order.Order.{Order}
 use Rattle.mu_values.specs.declared.scalars.Scalar.{Scalar}
 use Rattle.mu_values.specs.declared.scalars.Scalar.TheVariants.{Int, Place}
-use Rattle.mu_values.specs.declared.operators.UpdateOp.{UpdateOp}
-use Rattle.mu_values.specs.declared.operators.UpdateOp.TheVariants as updates
+use Rattle.mu_base.specs.declared.operators.UpdateOp.{UpdateOp}
+use Rattle.mu_base.specs.declared.operators.UpdateOp.TheVariants as updates
 use Rattle.mu_values.specs.Integers.{IsInteger}
 use Rattle.mu_values.specs.Updates.{updated_bits}
 use Rattle.heap_cells.specs.declared.cells.CellId.{CellId}

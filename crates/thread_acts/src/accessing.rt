@@ -30,10 +30,10 @@ use client_hooks::Determined;
 use frames::Frames;
 use heap_cells::CellId;
 use mem_axioms::{Chosen, Event, Kind, Memory, Mode, Race, Wanted};
-use mu_base::{Order, Steps};
+use mu_base::{Order, Steps, UpdateOp};
 use mu_model::{Case, Ending, Line, Lines, Raced, StepEnd};
 use mu_threads::Schedule;
-use mu_values::{Scalar, Slots, UpdateOp};
+use mu_values::{Scalar, Slots};
 use std::alloc::{AllocError, Global};
 use std::marker::Brand;
 use std::sync::ledger::{Blank, Ledger};
@@ -278,7 +278,7 @@ fn take_picks(picks: &mut Schedule, skip: &mut u32, options: u32)
 }
 
 impl<M: Memory, C: Determined> State<M, C> {
-    /// The thread accesses a cell.
+    /// The thread accesses a cell. Where no memory is found the state is as before; the lists may have changed.
     #[tactic(auto, using(crate::specs::AccessLaws::accessing))]
     pub fn access(
         &mut self,
@@ -369,7 +369,8 @@ impl<M: Memory, C: Determined> State<M, C> {
     }
 
     /// The thread's event is logged, and it goes on at a place, with the values in the list for its variables; a pick among so many
-    /// options is taken. Where the event races that is the ending.
+    /// options is taken. Where the event races that is the ending. Where no memory is found the state is as before; the list may have
+    /// changed.
     pub(crate) fn log(
         &mut self,
         alloc: Global,

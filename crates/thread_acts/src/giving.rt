@@ -38,28 +38,6 @@ impl<M: Memory, C: Determined> State<M, C> {
         Ok(self.went(alloc))
     }
 
-    /// The thread's instruction has one result, of one scalar, which is given by way of the lists. Where no memory is found the state is
-    /// as before; the lists may have changed.
-    fn give_one(
-        &mut self,
-        alloc: Global,
-        code: &Checked,
-        scalar: Scalar,
-        values: &mut Slots,
-        out: &mut Slots,
-    ) -> Result<StepEnd, AllocError>
-        requires left { self.old.left ≡ true }
-        requires room { self.old.steps < self.old.budget }
-        requires there { acting code.now self.old (acts.Gives ((scalar ∷ []) ∷ [])) ≢ Stuck }
-        ensures ok { IfOk result (λ end. answers end self.new ≡ acting code.now self.old (acts.Gives ((scalar ∷ []) ∷ []))) }
-        ensures err { OnErr result (self.new ≡ self.old) }
-        ensures stays { IfOk result (λ end. (s t : Held) → Stays end s t) }
-    {
-        values.clear();
-        values.push_scalar(scalar)?;
-        self.give(alloc, code, values, out)
-    }
-
     /// The thread's instruction has one result, of one scalar. Where no memory is found the state is as before; the lists may have
     /// changed.
     pub fn give_scalar(
@@ -80,7 +58,9 @@ impl<M: Memory, C: Determined> State<M, C> {
         if self.give_at_once(code, scalar) {
             return Ok(StepEnd::Went(Lines::new(alloc)));
         }
-        self.give_one(alloc, code, scalar, values, out)
+        values.clear();
+        values.push_scalar(scalar)?;
+        self.give(alloc, code, values, out)
     }
 
     /// The thread's instruction has one result, of one scalar, and goes on at the next place, where memory is found. Else nothing

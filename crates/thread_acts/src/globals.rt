@@ -98,7 +98,8 @@ fn first_block(code: &Checked, function: u32) -> u32
 }
 
 impl<M: Memory + Drop, C: Determined + Drop> State<M, C> {
-    /// Thread 0 on stack 0, in that function, with the objects of a heap, of which the memory is told.
+    /// Thread 0 on stack 0, in that function, with the objects of a heap, of which the memory is told. Where no memory is found nothing is
+    /// left of them.
     #[tactic(auto, using(crate::specs::Starting::starts, crate::specs::Starting::first_sound))]
     pub fn start(
         alloc: Global,

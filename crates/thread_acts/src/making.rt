@@ -266,7 +266,7 @@ impl<M: Memory, C: Determined> State<M, C> {
         )
     }
 
-    /// The thread makes an object.
+    /// The thread makes an object. Where no memory is found the state is as before; the lists may have changed.
     pub fn make(
         &mut self,
         alloc: Global,

@@ -6,11 +6,11 @@ use Rattle.type_laws.specs.declared.definition.TypeDef.{TypeDef}
 use Rattle.type_laws.specs.declared.definition.TypeDef.TheVariants as types
 use Rattle.mu_values.specs.declared.scalars.Scalar.{Scalar}
 use Rattle.mu_values.specs.declared.scalars.Scalar.TheVariants.{Int}
-use Rattle.mu_values.specs.declared.operators.BinOp.{BinOp}
-use Rattle.mu_values.specs.declared.operators.CmpOp.{CmpOp}
-use Rattle.mu_values.specs.declared.operators.CmpOp.TheVariants as comparisons
-use Rattle.mu_values.specs.declared.operators.ConvOp.{ConvOp}
-use Rattle.mu_values.specs.declared.operators.ConvOp.TheVariants as conversions
+use Rattle.mu_base.specs.declared.operators.BinaryOp.{BinaryOp}
+use Rattle.mu_base.specs.declared.operators.CompareOp.{CompareOp}
+use Rattle.mu_base.specs.declared.operators.CompareOp.TheVariants as comparisons
+use Rattle.mu_base.specs.declared.operators.ConvertOp.{ConvertOp}
+use Rattle.mu_base.specs.declared.operators.ConvertOp.TheVariants as conversions
 use Rattle.mu_values.specs.Constants.{width_of}
 use Rattle.mu_values.specs.Integers.{binary_value, converted, lesser_first, IsConversion}
 use Rattle.mu_values.specs.Comparisons.{compared}
@@ -71,7 +71,7 @@ comparable graph w (types.Int v) (Int x m) (Int y n) h k allowed =
 comparable graph w d (Int x m) (Int y n) h k allowed = absurd h
 comparable graph w d x y h k allowed = refl
 
-compares_scalars : (op : CmpOp) (d : Option TypeDef) → compares op d ≡ true → is_scalar d ≡ true
+compares_scalars : (op : CompareOp) (d : Option TypeDef) → compares op d ≡ true → is_scalar d ≡ true
 compares_scalars comparisons.Eq d h = h
 compares_scalars comparisons.Ne d h = h
 compares_scalars op (Some (types.Int v)) h = refl
@@ -86,18 +86,18 @@ bit_below false = omega arith
 at_most : (m n : ℕ) → nat_le m n ≡ true → m ≤ n
 at_most m n h = grind (arith, nat_tests)
 
-converted_int : (op : ConvOp) (o : Option TypeDef) (w : ℕ) → converts op (Some (types.Int w)) o ≡ true → (v : ℕ) × (o ≡ Some (types.Int v)) × IsConversion op w v
+converted_int : (op : ConvertOp) (o : Option TypeDef) (w : ℕ) → converts op (Some (types.Int w)) o ≡ true → (v : ℕ) × (o ≡ Some (types.Int v)) × IsConversion op w v
 converted_int op (Some (types.Int v)) w h = (v, refl, at_most (lesser_first op w v).0 (lesser_first op w v).1 h)
 converted_int op _ w h = cc
 
-leads : (op : ConvOp) (w v : ℕ) → IsConversion op w v → 1 ≤ v → v ≤ 128 → leads_to op w v ≡ true
+leads : (op : ConvertOp) (w v : ℕ) → IsConversion op w v → 1 ≤ v → v ≤ 128 → leads_to op w v ≡ true
 leads conversions.Trunc w v h least most = grind (arith, nat_tests)
 leads conversions.Zext w v h least most = grind (arith, nat_tests)
 leads conversions.Sext w v h least most = grind (arith, nat_tests)
 
 module _ (bundle : List Item) (r : Moment bundle) (block at : ℕ) where
   -- the result of an operation, or a zero divisor
-  pub binary_fits : (op : BinOp) (c : ℕ) (a b : Source) (gs : List ℕ) → ComputationFits (bundle_tables bundle) r.classes (computing.Binary op c a b) gs → GivesAt bundle block at gs →
+  pub binary_fits : (op : BinaryOp) (c : ℕ) (a b : Source) (gs : List ℕ) → ComputationFits (bundle_tables bundle) r.classes (computing.Binary op c a b) gs → GivesAt bundle block at gs →
       DoesFit bundle r.world block at (binary_act (bundle_tables bundle) op c (value_at bundle r.values a) (value_at bundle r.values b))
   binary_fits op c a b gs h gives =
       let k = int_class bundle r.names r.checked c h.0 in
@@ -110,7 +110,7 @@ module _ (bundle : List Item) (r : Moment bundle) (block at : ℕ) where
       result width k None low = tt
       result width k (Some x) low = gives_one bundle r.world block at c (types.Int width) (Int width x) gs k (refl, low x refl) h.3 gives
 
-  pub compare_fits : (op : CmpOp) (c : ℕ) (a b : Source) (gs : List ℕ) → ComputationFits (bundle_tables bundle) r.classes (computing.Compare op c a b) gs → GivesAt bundle block at gs →
+  pub compare_fits : (op : CompareOp) (c : ℕ) (a b : Source) (gs : List ℕ) → ComputationFits (bundle_tables bundle) r.classes (computing.Compare op c a b) gs → GivesAt bundle block at gs →
       DoesFit bundle r.world block at (compare_act op (value_at bundle r.values a) (value_at bundle r.values b))
   compare_fits op c a b gs h gives =
       let k = scalar_class bundle r.names r.checked c (record { number = h.0.number; class = h.0.class; passes = compares_scalars op _ h.0.passes }) in
@@ -120,7 +120,7 @@ module _ (bundle : List Item) (r : Moment bundle) (block at : ℕ) where
       rw test (gives_one bundle r.world block at (int1 (bundle_tables bundle).types) (types.Int 1) (Int 1 (bit (compared op x y))) gs (facts.types_are_there bundle r.names r.checked).int1
       (refl, bit_below (compared op x y)) h.3 gives)))
 
-  pub convert_fits : (op : ConvOp) (c d : ℕ) (a : Source) (gs : List ℕ) → ComputationFits (bundle_tables bundle) r.classes (computing.Convert op c d a) gs → GivesAt bundle block at gs →
+  pub convert_fits : (op : ConvertOp) (c d : ℕ) (a : Source) (gs : List ℕ) → ComputationFits (bundle_tables bundle) r.classes (computing.Convert op c d a) gs → GivesAt bundle block at gs →
       DoesFit bundle r.world block at (convert_act (bundle_tables bundle) op c d (value_at bundle r.values a))
   convert_fits op c d a gs h gives =
       let k = int_class bundle r.names r.checked c h.0 in

@@ -3,15 +3,13 @@ use Rattle.std.proofs.Common.{◌≡◌, ◌<◌, ◌≤◌, ◌^◌, ◌==◌, 
 use Rattle.std.proofs.lemmas.Bool.{and_parts}
 use Rattle.std.proofs.lemmas.Bool.Decides.{eqb_tells, nat_tests}
 use Rattle.ir_tree.specs.declared.items.Item.{Item}
-use Rattle.ir_tree.specs.declared.operators.UpdateOp.{UpdateOp as UpdateWord}
-use Rattle.ir_tree.specs.declared.operators.UpdateOp.TheVariants as words
 use Rattle.type_laws.specs.declared.definition.TypeDef.{TypeDef}
 use Rattle.type_laws.specs.declared.definition.TypeDef.TheVariants as types
 use Rattle.type_laws.specs.Class.{class_of}
 use Rattle.mu_values.specs.declared.scalars.Scalar.{Scalar}
 use Rattle.mu_values.specs.declared.scalars.Scalar.TheVariants.{Int, Null, Place}
-use Rattle.mu_values.specs.declared.operators.UpdateOp.{UpdateOp}
-use Rattle.mu_values.specs.declared.operators.UpdateOp.TheVariants as updates
+use Rattle.mu_base.specs.declared.operators.UpdateOp.{UpdateOp}
+use Rattle.mu_base.specs.declared.operators.UpdateOp.TheVariants as updates
 use Rattle.mu_values.specs.Updates.{updated_bits}
 use Rattle.mu_values.proofs.Widths.{updated_below}
 use Rattle.heap_cells.specs.declared.cells.CellId.{CellId}
@@ -28,7 +26,7 @@ use Rattle.typed_heap.specs.Fits.{World, DefinitionFits, ScalarFits, begins, fit
 use Rattle.mu_model.specs.Acts as acts
 use Rattle.mu_model.specs.Acts.{Act, Access}
 use Rattle.mu_model.specs.Accesses.{updated}
-use Rattle.mu_model.specs.AccessForms.{cell_act, access_act, update_op}
+use Rattle.mu_model.specs.AccessForms.{cell_act, access_act}
 use Rattle.mu_model.specs.StackForms.{futex_wait_act, futex_wait_timeout_act, futex_wake_act}
 use Rattle.mu_model.specs.Operands.{scalar_in, is_integer, bits_in}
 use Rattle.model_laws.specs.Places.{IsScalarClass}
@@ -98,23 +96,23 @@ module _ (bundle : List Item) (r : Moment bundle) where
       (y : Scalar) → ScalarFits (graph_of bundle) r.world c y → (x : Scalar) → ScalarFits (graph_of bundle) r.world c x → IsSomeAnd (updated op x y) (ScalarFits (graph_of bundle) r.world c)
   ints_updated op c h e y hy x hx = let k = int_class bundle r.names r.checked c h in integers_updated op c k.width k.wide.class k.wide.least k.wide.most e y x hy hx
 
-  updates_fit : (op : UpdateWord) (c : ℕ) → HasType (bundle_tables bundle) (updates_type op) c → (y : Scalar) → ScalarFits (graph_of bundle) r.world c y →
-      (x : Scalar) → ScalarFits (graph_of bundle) r.world c x → IsSomeAnd (updated (update_op op) x y) (ScalarFits (graph_of bundle) r.world c)
-  updates_fit words.Xchg c h y hy x hx = hy
-  updates_fit words.Add c h y hy x hx = ints_updated updates.Add c h (λ w a v b. refl) y hy x hx
-  updates_fit words.Sub c h y hy x hx = ints_updated updates.Sub c h (λ w a v b. refl) y hy x hx
-  updates_fit words.And c h y hy x hx = ints_updated updates.And c h (λ w a v b. refl) y hy x hx
-  updates_fit words.Nand c h y hy x hx = ints_updated updates.Nand c h (λ w a v b. refl) y hy x hx
-  updates_fit words.Or c h y hy x hx = ints_updated updates.Or c h (λ w a v b. refl) y hy x hx
-  updates_fit words.Xor c h y hy x hx = ints_updated updates.Xor c h (λ w a v b. refl) y hy x hx
-  updates_fit words.Max c h y hy x hx = ints_updated updates.Max c h (λ w a v b. refl) y hy x hx
-  updates_fit words.Min c h y hy x hx = ints_updated updates.Min c h (λ w a v b. refl) y hy x hx
-  updates_fit words.Umax c h y hy x hx = ints_updated updates.Umax c h (λ w a v b. refl) y hy x hx
-  updates_fit words.Umin c h y hy x hx = ints_updated updates.Umin c h (λ w a v b. refl) y hy x hx
+  updates_fit : (op : UpdateOp) (c : ℕ) → HasType (bundle_tables bundle) (updates_type op) c → (y : Scalar) → ScalarFits (graph_of bundle) r.world c y →
+      (x : Scalar) → ScalarFits (graph_of bundle) r.world c x → IsSomeAnd (updated op x y) (ScalarFits (graph_of bundle) r.world c)
+  updates_fit updates.Xchg c h y hy x hx = hy
+  updates_fit updates.Add c h y hy x hx = ints_updated updates.Add c h (λ w a v b. refl) y hy x hx
+  updates_fit updates.Sub c h y hy x hx = ints_updated updates.Sub c h (λ w a v b. refl) y hy x hx
+  updates_fit updates.And c h y hy x hx = ints_updated updates.And c h (λ w a v b. refl) y hy x hx
+  updates_fit updates.Nand c h y hy x hx = ints_updated updates.Nand c h (λ w a v b. refl) y hy x hx
+  updates_fit updates.Or c h y hy x hx = ints_updated updates.Or c h (λ w a v b. refl) y hy x hx
+  updates_fit updates.Xor c h y hy x hx = ints_updated updates.Xor c h (λ w a v b. refl) y hy x hx
+  updates_fit updates.Max c h y hy x hx = ints_updated updates.Max c h (λ w a v b. refl) y hy x hx
+  updates_fit updates.Min c h y hy x hx = ints_updated updates.Min c h (λ w a v b. refl) y hy x hx
+  updates_fit updates.Umax c h y hy x hx = ints_updated updates.Umax c h (λ w a v b. refl) y hy x hx
+  updates_fit updates.Umin c h y hy x hx = ints_updated updates.Umin c h (λ w a v b. refl) y hy x hx
 
   -- what an operator updates is a scalar
-  updates_scalars : (op : UpdateWord) (d : Option TypeDef) → updates_type op d ≡ true → is_scalar d ≡ true
-  updates_scalars words.Xchg d h = h
+  updates_scalars : (op : UpdateOp) (d : Option TypeDef) → updates_type op d ≡ true → is_scalar d ≡ true
+  updates_scalars updates.Xchg d h = h
   updates_scalars op (Some (types.Int w)) h = refl
   updates_scalars op _ h = cc
 

@@ -8,7 +8,7 @@ use Rattle.ir_tree.specs.declared.definitions.Literal.TheVariants as literals
 use Rattle.ir_tree.specs.declared.operands.Operand.{Operand}
 use Rattle.ir_tree.specs.declared.operands.Operand.TheVariants.{Local, Global}
 use Rattle.ir_tree.specs.declared.operands.Destination.{Destination}
-use Rattle.ir_tree.specs.declared.operators.BinaryOp.TheVariants.{Udiv}
+use Rattle.mu_base.specs.declared.operators.BinaryOp.TheVariants.{Udiv}
 use Rattle.ir_tree.specs.declared.computing.Computation.TheVariants.{Binary}
 use Rattle.ir_tree.specs.declared.flow.ControlFlow.TheVariants.{Ret}
 use Rattle.ir_tree.specs.declared.code.Op.TheVariants as ops

@@ -326,9 +326,12 @@ fn has_classes(known: &Known, alike: &[bool]) -> bool {
     true
 }
 
-// whether the last of so many definitions is the iref of void, which stands behind the written ones
+/// A class is written as a number below this.
+const MOST_CLASSES: usize = 65536;
+
+// whether the last of so many definitions is the iref of the void that stands behind the written ones
 fn ends_at_void(known: &Known, many: usize, written: usize) -> bool {
-    if many == 0 || many > known.count() || many > 65536 {
+    if many == 0 || many > known.count() || many > MOST_CLASSES {
         return false;
     }
     let last = known.classes().definition((many - 1) as u32);

@@ -3,11 +3,11 @@ ghost use Rattle.type_laws.specs.declared.definition.TypeDef.TheVariants as type
 ghost use Rattle.mu_values.specs.declared.literals.LiteralKind.TheVariants as literals;
 ghost use Rattle.mu_values.specs.Integers.{IsInteger};
 
-use mu_base::Types;
+use mu_base::{BinaryOp, CompareOp, ConvertOp, Types, UpdateOp};
 use mu_types::{Classes, TypeDef, TypeFault, TypeGraph, classes};
 use mu_values::{
-    BinOp, CmpOp, ConstFault, ConstKind, ConvOp, Literal, LiteralKind, Made, Passed, Scalar, Slots,
-    UpdateOp, Value, binary, compare, convert, judge_const, make_const, updated,
+    ConstFault, ConstKind, Literal, LiteralKind, Made, Passed, Scalar, Slots, Value, binary,
+    compare, convert, judge_const, make_const, updated,
 };
 use std::alloc::{AllocError, Global};
 use std::process::Abort;
@@ -21,247 +21,247 @@ fn is_integer(width: u32, n: u128) -> bool
 }
 
 /// An operation on two integers of a width, and what it makes of them.
-type Row = (BinOp, u32, u128, u128, Option<u128>);
+type Row = (BinaryOp, u32, u128, u128, Option<u128>);
 
 const ROWS: [Row; 82] = [
-    (BinOp::Add, 8, 255, 1, Some(0)),
-    (BinOp::Add, 8, 127, 1, Some(128)),
-    (BinOp::Add, 8, 128, 128, Some(0)),
-    (BinOp::Add, 64, 18446744073709551615, 1, Some(0)),
+    (BinaryOp::Add, 8, 255, 1, Some(0)),
+    (BinaryOp::Add, 8, 127, 1, Some(128)),
+    (BinaryOp::Add, 8, 128, 128, Some(0)),
+    (BinaryOp::Add, 64, 18446744073709551615, 1, Some(0)),
     (
-        BinOp::Add,
+        BinaryOp::Add,
         64,
         9223372036854775807,
         1,
         Some(9223372036854775808),
     ),
     (
-        BinOp::Add,
+        BinaryOp::Add,
         64,
         9223372036854775808,
         9223372036854775808,
         Some(0),
     ),
-    (BinOp::Sub, 8, 0, 1, Some(255)),
-    (BinOp::Sub, 8, 128, 1, Some(127)),
-    (BinOp::Sub, 8, 0, 128, Some(128)),
-    (BinOp::Sub, 64, 0, 1, Some(18446744073709551615)),
+    (BinaryOp::Sub, 8, 0, 1, Some(255)),
+    (BinaryOp::Sub, 8, 128, 1, Some(127)),
+    (BinaryOp::Sub, 8, 0, 128, Some(128)),
+    (BinaryOp::Sub, 64, 0, 1, Some(18446744073709551615)),
     (
-        BinOp::Sub,
+        BinaryOp::Sub,
         64,
         9223372036854775808,
         1,
         Some(9223372036854775807),
     ),
     (
-        BinOp::Sub,
+        BinaryOp::Sub,
         64,
         0,
         9223372036854775808,
         Some(9223372036854775808),
     ),
-    (BinOp::Mul, 8, 255, 255, Some(1)),
-    (BinOp::Mul, 8, 128, 2, Some(0)),
-    (BinOp::Mul, 8, 127, 127, Some(1)),
+    (BinaryOp::Mul, 8, 255, 255, Some(1)),
+    (BinaryOp::Mul, 8, 128, 2, Some(0)),
+    (BinaryOp::Mul, 8, 127, 127, Some(1)),
     (
-        BinOp::Mul,
+        BinaryOp::Mul,
         64,
         18446744073709551615,
         18446744073709551615,
         Some(1),
     ),
-    (BinOp::Mul, 64, 9223372036854775808, 2, Some(0)),
+    (BinaryOp::Mul, 64, 9223372036854775808, 2, Some(0)),
     (
-        BinOp::Mul,
+        BinaryOp::Mul,
         64,
         9223372036854775807,
         9223372036854775807,
         Some(1),
     ),
-    (BinOp::Sdiv, 8, 128, 255, Some(128)),
-    (BinOp::Sdiv, 8, 128, 1, Some(128)),
-    (BinOp::Sdiv, 8, 249, 2, Some(253)),
+    (BinaryOp::Sdiv, 8, 128, 255, Some(128)),
+    (BinaryOp::Sdiv, 8, 128, 1, Some(128)),
+    (BinaryOp::Sdiv, 8, 249, 2, Some(253)),
     (
-        BinOp::Sdiv,
+        BinaryOp::Sdiv,
         64,
         9223372036854775808,
         18446744073709551615,
         Some(9223372036854775808),
     ),
     (
-        BinOp::Sdiv,
+        BinaryOp::Sdiv,
         64,
         9223372036854775808,
         1,
         Some(9223372036854775808),
     ),
     (
-        BinOp::Sdiv,
+        BinaryOp::Sdiv,
         64,
         18446744073709551609,
         2,
         Some(18446744073709551613),
     ),
-    (BinOp::Srem, 8, 128, 255, Some(0)),
-    (BinOp::Srem, 8, 249, 2, Some(255)),
-    (BinOp::Srem, 8, 7, 254, Some(1)),
+    (BinaryOp::Srem, 8, 128, 255, Some(0)),
+    (BinaryOp::Srem, 8, 249, 2, Some(255)),
+    (BinaryOp::Srem, 8, 7, 254, Some(1)),
     (
-        BinOp::Srem,
+        BinaryOp::Srem,
         64,
         9223372036854775808,
         18446744073709551615,
         Some(0),
     ),
     (
-        BinOp::Srem,
+        BinaryOp::Srem,
         64,
         18446744073709551609,
         2,
         Some(18446744073709551615),
     ),
-    (BinOp::Srem, 64, 7, 18446744073709551614, Some(1)),
-    (BinOp::Udiv, 8, 255, 2, Some(127)),
-    (BinOp::Udiv, 8, 128, 255, Some(0)),
-    (BinOp::Udiv, 8, 255, 128, Some(1)),
+    (BinaryOp::Srem, 64, 7, 18446744073709551614, Some(1)),
+    (BinaryOp::Udiv, 8, 255, 2, Some(127)),
+    (BinaryOp::Udiv, 8, 128, 255, Some(0)),
+    (BinaryOp::Udiv, 8, 255, 128, Some(1)),
     (
-        BinOp::Udiv,
+        BinaryOp::Udiv,
         64,
         18446744073709551615,
         2,
         Some(9223372036854775807),
     ),
     (
-        BinOp::Udiv,
+        BinaryOp::Udiv,
         64,
         9223372036854775808,
         18446744073709551615,
         Some(0),
     ),
     (
-        BinOp::Udiv,
+        BinaryOp::Udiv,
         64,
         18446744073709551615,
         9223372036854775808,
         Some(1),
     ),
-    (BinOp::Urem, 8, 255, 2, Some(1)),
-    (BinOp::Urem, 8, 128, 255, Some(128)),
-    (BinOp::Urem, 8, 255, 128, Some(127)),
-    (BinOp::Urem, 64, 18446744073709551615, 2, Some(1)),
+    (BinaryOp::Urem, 8, 255, 2, Some(1)),
+    (BinaryOp::Urem, 8, 128, 255, Some(128)),
+    (BinaryOp::Urem, 8, 255, 128, Some(127)),
+    (BinaryOp::Urem, 64, 18446744073709551615, 2, Some(1)),
     (
-        BinOp::Urem,
+        BinaryOp::Urem,
         64,
         9223372036854775808,
         18446744073709551615,
         Some(9223372036854775808),
     ),
     (
-        BinOp::Urem,
+        BinaryOp::Urem,
         64,
         18446744073709551615,
         9223372036854775808,
         Some(9223372036854775807),
     ),
-    (BinOp::Shl, 8, 255, 8, Some(255)),
-    (BinOp::Shl, 8, 1, 7, Some(128)),
-    (BinOp::Shl, 8, 255, 9, Some(254)),
+    (BinaryOp::Shl, 8, 255, 8, Some(255)),
+    (BinaryOp::Shl, 8, 1, 7, Some(128)),
+    (BinaryOp::Shl, 8, 255, 9, Some(254)),
     (
-        BinOp::Shl,
+        BinaryOp::Shl,
         64,
         18446744073709551615,
         64,
         Some(18446744073709551615),
     ),
-    (BinOp::Shl, 64, 1, 63, Some(9223372036854775808)),
+    (BinaryOp::Shl, 64, 1, 63, Some(9223372036854775808)),
     (
-        BinOp::Shl,
+        BinaryOp::Shl,
         64,
         18446744073709551615,
         65,
         Some(18446744073709551614),
     ),
-    (BinOp::Lshr, 8, 255, 8, Some(255)),
-    (BinOp::Lshr, 8, 255, 7, Some(1)),
-    (BinOp::Lshr, 8, 128, 9, Some(64)),
+    (BinaryOp::Lshr, 8, 255, 8, Some(255)),
+    (BinaryOp::Lshr, 8, 255, 7, Some(1)),
+    (BinaryOp::Lshr, 8, 128, 9, Some(64)),
     (
-        BinOp::Lshr,
+        BinaryOp::Lshr,
         64,
         18446744073709551615,
         64,
         Some(18446744073709551615),
     ),
-    (BinOp::Lshr, 64, 18446744073709551615, 63, Some(1)),
+    (BinaryOp::Lshr, 64, 18446744073709551615, 63, Some(1)),
     (
-        BinOp::Lshr,
+        BinaryOp::Lshr,
         64,
         9223372036854775808,
         65,
         Some(4611686018427387904),
     ),
-    (BinOp::Ashr, 8, 128, 8, Some(128)),
-    (BinOp::Ashr, 8, 128, 7, Some(255)),
-    (BinOp::Ashr, 8, 127, 1, Some(63)),
+    (BinaryOp::Ashr, 8, 128, 8, Some(128)),
+    (BinaryOp::Ashr, 8, 128, 7, Some(255)),
+    (BinaryOp::Ashr, 8, 127, 1, Some(63)),
     (
-        BinOp::Ashr,
+        BinaryOp::Ashr,
         64,
         9223372036854775808,
         64,
         Some(9223372036854775808),
     ),
     (
-        BinOp::Ashr,
+        BinaryOp::Ashr,
         64,
         9223372036854775808,
         63,
         Some(18446744073709551615),
     ),
     (
-        BinOp::Ashr,
+        BinaryOp::Ashr,
         64,
         9223372036854775807,
         1,
         Some(4611686018427387903),
     ),
-    (BinOp::And, 8, 255, 128, Some(128)),
-    (BinOp::And, 8, 90, 60, Some(24)),
+    (BinaryOp::And, 8, 255, 128, Some(128)),
+    (BinaryOp::And, 8, 90, 60, Some(24)),
     (
-        BinOp::And,
+        BinaryOp::And,
         64,
         18446744073709551615,
         9223372036854775808,
         Some(9223372036854775808),
     ),
-    (BinOp::And, 64, 90, 60, Some(24)),
-    (BinOp::Or, 8, 127, 128, Some(255)),
-    (BinOp::Or, 8, 90, 60, Some(126)),
+    (BinaryOp::And, 64, 90, 60, Some(24)),
+    (BinaryOp::Or, 8, 127, 128, Some(255)),
+    (BinaryOp::Or, 8, 90, 60, Some(126)),
     (
-        BinOp::Or,
+        BinaryOp::Or,
         64,
         9223372036854775807,
         9223372036854775808,
         Some(18446744073709551615),
     ),
-    (BinOp::Or, 64, 90, 60, Some(126)),
-    (BinOp::Xor, 8, 255, 128, Some(127)),
-    (BinOp::Xor, 8, 90, 60, Some(102)),
+    (BinaryOp::Or, 64, 90, 60, Some(126)),
+    (BinaryOp::Xor, 8, 255, 128, Some(127)),
+    (BinaryOp::Xor, 8, 90, 60, Some(102)),
     (
-        BinOp::Xor,
+        BinaryOp::Xor,
         64,
         18446744073709551615,
         9223372036854775808,
         Some(9223372036854775807),
     ),
-    (BinOp::Xor, 64, 90, 60, Some(102)),
-    (BinOp::Sdiv, 1, 1, 1, Some(1)),
-    (BinOp::Sdiv, 1, 1, 0, None),
-    (BinOp::Srem, 1, 1, 1, Some(0)),
-    (BinOp::Srem, 1, 1, 0, None),
-    (BinOp::Srem, 1, 0, 0, None),
-    (BinOp::Ashr, 1, 1, 1, Some(1)),
-    (BinOp::Ashr, 1, 1, 0, Some(1)),
-    (BinOp::Ashr, 1, 0, 1, Some(0)),
-    (BinOp::Shl, 1, 1, 1, Some(1)),
-    (BinOp::Shl, 1, 1, 0, Some(1)),
+    (BinaryOp::Xor, 64, 90, 60, Some(102)),
+    (BinaryOp::Sdiv, 1, 1, 1, Some(1)),
+    (BinaryOp::Sdiv, 1, 1, 0, None),
+    (BinaryOp::Srem, 1, 1, 1, Some(0)),
+    (BinaryOp::Srem, 1, 1, 0, None),
+    (BinaryOp::Srem, 1, 0, 0, None),
+    (BinaryOp::Ashr, 1, 1, 1, Some(1)),
+    (BinaryOp::Ashr, 1, 1, 0, Some(1)),
+    (BinaryOp::Ashr, 1, 0, 1, Some(0)),
+    (BinaryOp::Shl, 1, 1, 1, Some(1)),
+    (BinaryOp::Shl, 1, 1, 0, Some(1)),
 ];
 
 fn computes(rt: &impl Abort, rows: &[Row]) {
@@ -288,41 +288,41 @@ const ONES: u128 = u128::MAX;
 const LEAST: u128 = 170141183460469231731687303715884105728;
 
 /// An operation on two integers of 128 bits, and the integer that it makes of them.
-type Widest = (BinOp, u128, u128, u128);
+type Widest = (BinaryOp, u128, u128, u128);
 
 const WIDEST: [Widest; 26] = [
-    (BinOp::Add, ONES, 1, 0),
-    (BinOp::Add, LEAST, LEAST, 0),
-    (BinOp::Add, LEAST - 1, 1, LEAST),
-    (BinOp::Sub, 0, 1, ONES),
-    (BinOp::Sub, LEAST, 1, LEAST - 1),
-    (BinOp::Mul, ONES, ONES, 1),
-    (BinOp::Mul, LEAST, 2, 0),
+    (BinaryOp::Add, ONES, 1, 0),
+    (BinaryOp::Add, LEAST, LEAST, 0),
+    (BinaryOp::Add, LEAST - 1, 1, LEAST),
+    (BinaryOp::Sub, 0, 1, ONES),
+    (BinaryOp::Sub, LEAST, 1, LEAST - 1),
+    (BinaryOp::Mul, ONES, ONES, 1),
+    (BinaryOp::Mul, LEAST, 2, 0),
     (
-        BinOp::Mul,
+        BinaryOp::Mul,
         1512366075204170947332355369683137040,
         338770000845734292516042252062085074415,
         250830954792862432417646302229912718576,
     ),
-    (BinOp::Mul, LEAST - 1, LEAST - 1, 1),
-    (BinOp::Sdiv, LEAST, ONES, LEAST),
-    (BinOp::Sdiv, LEAST, 1, LEAST),
-    (BinOp::Sdiv, ONES - 6, 2, ONES - 2),
-    (BinOp::Srem, LEAST, ONES, 0),
-    (BinOp::Srem, ONES - 6, 2, ONES),
-    (BinOp::Srem, 7, ONES - 1, 1),
-    (BinOp::Udiv, ONES, 2, LEAST - 1),
-    (BinOp::Udiv, ONES, LEAST, 1),
-    (BinOp::Urem, ONES, LEAST, LEAST - 1),
-    (BinOp::Shl, 1, 127, LEAST),
-    (BinOp::Shl, ONES, 128, ONES),
-    (BinOp::Shl, 1512366075204170947332355369683137040, 127, 0),
-    (BinOp::Lshr, ONES, 127, 1),
-    (BinOp::Lshr, ONES, 128, ONES),
-    (BinOp::Ashr, LEAST, 127, ONES),
-    (BinOp::Ashr, LEAST, 128, LEAST),
+    (BinaryOp::Mul, LEAST - 1, LEAST - 1, 1),
+    (BinaryOp::Sdiv, LEAST, ONES, LEAST),
+    (BinaryOp::Sdiv, LEAST, 1, LEAST),
+    (BinaryOp::Sdiv, ONES - 6, 2, ONES - 2),
+    (BinaryOp::Srem, LEAST, ONES, 0),
+    (BinaryOp::Srem, ONES - 6, 2, ONES),
+    (BinaryOp::Srem, 7, ONES - 1, 1),
+    (BinaryOp::Udiv, ONES, 2, LEAST - 1),
+    (BinaryOp::Udiv, ONES, LEAST, 1),
+    (BinaryOp::Urem, ONES, LEAST, LEAST - 1),
+    (BinaryOp::Shl, 1, 127, LEAST),
+    (BinaryOp::Shl, ONES, 128, ONES),
+    (BinaryOp::Shl, 1512366075204170947332355369683137040, 127, 0),
+    (BinaryOp::Lshr, ONES, 127, 1),
+    (BinaryOp::Lshr, ONES, 128, ONES),
+    (BinaryOp::Ashr, LEAST, 127, ONES),
+    (BinaryOp::Ashr, LEAST, 128, LEAST),
     (
-        BinOp::Ashr,
+        BinaryOp::Ashr,
         LEAST - 1,
         1,
         85070591730234615865843651857942052863,
@@ -352,19 +352,19 @@ fn converts_the_widest_integers(rt: HostRuntime) -> Result<(), Fail> {
         width: 128,
         bits: 1,
     };
-    assert!(rt; compare(CmpOp::Slt, &least, &one));
-    assert!(rt; compare(CmpOp::Ugt, &least, &one));
-    assert_eq!(rt; convert(ConvOp::Trunc, 128, 64, LEAST + 5), 5);
-    assert_eq!(rt; convert(ConvOp::Trunc, 128, 128, ONES), ONES);
+    assert!(rt; compare(CompareOp::Slt, &least, &one));
+    assert!(rt; compare(CompareOp::Ugt, &least, &one));
+    assert_eq!(rt; convert(ConvertOp::Trunc, 128, 64, LEAST + 5), 5);
+    assert_eq!(rt; convert(ConvertOp::Trunc, 128, 128, ONES), ONES);
     assert_eq!(rt;
-        convert(ConvOp::Zext, 64, 128, 9223372036854775808),
+        convert(ConvertOp::Zext, 64, 128, 9223372036854775808),
         9223372036854775808
     );
     assert_eq!(rt;
-        convert(ConvOp::Sext, 64, 128, 9223372036854775808),
+        convert(ConvertOp::Sext, 64, 128, 9223372036854775808),
         ONES - 9223372036854775807
     );
-    assert_eq!(rt; convert(ConvOp::Sext, 1, 128, 1), ONES);
+    assert_eq!(rt; convert(ConvertOp::Sext, 1, 128, 1), ONES);
     Ok(())
 }
 
@@ -384,14 +384,14 @@ fn compares_and_converts(rt: HostRuntime) -> Result<(), Fail> {
         bits: 128,
     };
     let one = Scalar::Int { width: 8, bits: 1 };
-    assert!(rt; compare(CmpOp::Slt, &least, &one));
-    assert!(rt; !compare(CmpOp::Ult, &least, &one));
-    assert!(rt; compare(CmpOp::Uge, &least, &one));
-    assert!(rt; compare(CmpOp::Eq, &Scalar::Null, &Scalar::Null));
-    assert!(rt; compare(CmpOp::Ne, &Scalar::Null, &Scalar::Object(0)));
-    assert_eq!(rt; convert(ConvOp::Trunc, 64, 8, 511), 255);
-    assert_eq!(rt; convert(ConvOp::Zext, 8, 64, 128), 128);
-    assert_eq!(rt; convert(ConvOp::Sext, 8, 16, 128), 65408);
+    assert!(rt; compare(CompareOp::Slt, &least, &one));
+    assert!(rt; !compare(CompareOp::Ult, &least, &one));
+    assert!(rt; compare(CompareOp::Uge, &least, &one));
+    assert!(rt; compare(CompareOp::Eq, &Scalar::Null, &Scalar::Null));
+    assert!(rt; compare(CompareOp::Ne, &Scalar::Null, &Scalar::Object(0)));
+    assert_eq!(rt; convert(ConvertOp::Trunc, 64, 8, 511), 255);
+    assert_eq!(rt; convert(ConvertOp::Zext, 8, 64, 128), 128);
+    assert_eq!(rt; convert(ConvertOp::Sext, 8, 16, 128), 65408);
     Ok(())
 }
 

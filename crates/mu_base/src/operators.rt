@@ -1,8 +1,8 @@
-// Operations on integers.
+// Operators, which the text, the checker and the machine share.
 
 /// An operation on two integers of one width.
 #[derive(Clone, Copy, Debug, PartialEq, Eq)]
-pub enum BinOp {
+pub enum BinaryOp {
     Add,
     Sub,
     Mul,
@@ -24,7 +24,7 @@ pub enum BinOp {
 
 /// A comparison. `S` is signed, `U` unsigned.
 #[derive(Clone, Copy, Debug, PartialEq, Eq)]
-pub enum CmpOp {
+pub enum CompareOp {
     Eq,
     Ne,
     Slt,
@@ -39,7 +39,7 @@ pub enum CmpOp {
 
 /// A change of an integer's width.
 #[derive(Clone, Copy, Debug, PartialEq, Eq)]
-pub enum ConvOp {
+pub enum ConvertOp {
     /// The low bits.
     Trunc,
     /// Zeros in front.
@@ -48,7 +48,7 @@ pub enum ConvOp {
     Sext,
 }
 
-/// An update of a cell that holds an integer.
+/// An update of a cell. All but `Xchg` are of integers.
 #[derive(Clone, Copy, Debug, PartialEq, Eq)]
 pub enum UpdateOp {
     /// What is given takes the place of what was there.
