@@ -8,6 +8,5 @@ pub mod Judging
 pub mod Nexts
 pub mod Lists
 pub mod Worked
-pub mod WordLemmas
 pub mod Cursors
 pub mod SeenWorked

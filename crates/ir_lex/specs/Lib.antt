@@ -8,7 +8,6 @@ pub mod Printed
 pub mod Laws
 pub mod WordTable
 pub mod Seen
-pub mod WordGroups
 pub mod Scanner
 pub mod Walk
 pub mod TokenForms
