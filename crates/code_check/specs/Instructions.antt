@@ -104,6 +104,7 @@ abbrev pub trapping_exc : Trapping → Option ExceptionClause
 trapping_exc (trappings.Trap ts e k) = e
 trapping_exc _ = None
 
+-- the EXC of an instruction
 abbrev pub exc_of : Op → Option ExceptionClause
 exc_of (ops.Computation c) = computation_exc c
 exc_of (ops.ControlFlow c) = control_exc c

@@ -1,7 +1,6 @@
 // What stands behind instructions, and which of them end their block.
 ghost use Rattle.std.specs.Prelude.{◌≡◌, option_copied};
-ghost use Rattle.ir_tree.specs.declared.code.Op.TheVariants as ops;
-ghost use Rattle.code_check.specs.Instructions.{computation_exc, control_exc, allocation_exc, access_exc, switch_exc, normal_of_exc, exceptional_of_exc, normal_of, exceptional_of, control_keepalive, trapping_keepalive, switch_keepalive, keepalive_of, control_ends, trapping_ends, switch_ends, common_ends, is_ending};
+ghost use Rattle.code_check.specs.Instructions.{computation_exc, control_exc, allocation_exc, access_exc, switch_exc, trapping_exc, exc_of, normal_of_exc, exceptional_of_exc, normal_of, exceptional_of, control_keepalive, trapping_keepalive, switch_keepalive, keepalive_of, control_ends, trapping_ends, switch_ends, common_ends, is_ending};
 
 use ir_lex::Name;
 use ir_tree::{
@@ -62,6 +61,30 @@ fn switch_exc(switch: &StackSwitch) -> Option<&ExceptionClause>
     }
 }
 
+fn trapping_exc(trapping: &Trapping) -> Option<&ExceptionClause>
+    ensures { option_copied result ≡ trapping_exc trapping.now }
+{
+    match trapping {
+        Trapping::Trap { exception, .. } => exception.as_ref(),
+        _ => None,
+    }
+}
+
+/// The EXC of an instruction.
+fn exc_of(op: &Op) -> Option<&ExceptionClause>
+    ensures { option_copied result ≡ exc_of op.now }
+{
+    match op {
+        Op::Computation(computation) => computation_exc(computation),
+        Op::ControlFlow(control) => control_exc(control),
+        Op::Allocation(allocation) => allocation_exc(allocation),
+        Op::Access(access) => access_exc(access),
+        Op::Trapping(trapping) => trapping_exc(trapping),
+        Op::StackSwitch(switch) => switch_exc(switch),
+        Op::Addressing(_) | Op::Common(_) => None,
+    }
+}
+
 // ---- where instructions go on
 
 fn normal_of_exc(clause: Option<&ExceptionClause>) -> Option<&Destination>
@@ -82,38 +105,13 @@ fn exceptional_of_exc(clause: Option<&ExceptionClause>) -> Option<&Destination>
     }
 }
 
-fn trapping_normal(trapping: &Trapping) -> Option<&Destination>
-    ensures { option_copied result ≡ normal_of (ops.Trapping trapping.now) }
-{
-    match trapping {
-        Trapping::Trap { exception, .. } => normal_of_exc(exception.as_ref()),
-        Trapping::Watchpoint { enabled, .. } => Some(enabled),
-        Trapping::Wpbranch { .. } => None,
-    }
-}
-
 /// The destination that may use the instruction's own results.
 pub fn normal_of(op: &Op) -> Option<&Destination>
     ensures { option_copied result ≡ normal_of op.now }
 {
     match op {
-        Op::Computation(computation) => normal_of_exc(computation_exc(computation)),
-        Op::ControlFlow(control) => normal_of_exc(control_exc(control)),
-        Op::Allocation(allocation) => normal_of_exc(allocation_exc(allocation)),
-        Op::Access(access) => normal_of_exc(access_exc(access)),
-        Op::Trapping(trapping) => trapping_normal(trapping),
-        Op::StackSwitch(switch) => normal_of_exc(switch_exc(switch)),
-        Op::Addressing(_) | Op::Common(_) => None,
-    }
-}
-
-fn trapping_exceptional(trapping: &Trapping) -> Option<&Destination>
-    ensures { option_copied result ≡ exceptional_of (ops.Trapping trapping.now) }
-{
-    match trapping {
-        Trapping::Trap { exception, .. } => exceptional_of_exc(exception.as_ref()),
-        Trapping::Watchpoint { exceptional, .. } => exceptional.as_ref(),
-        Trapping::Wpbranch { .. } => None,
+        Op::Trapping(Trapping::Watchpoint { enabled, .. }) => Some(enabled),
+        _ => normal_of_exc(exc_of(op)),
     }
 }
 
@@ -122,13 +120,8 @@ pub fn exceptional_of(op: &Op) -> Option<&Destination>
     ensures { option_copied result ≡ exceptional_of op.now }
 {
     match op {
-        Op::Computation(computation) => exceptional_of_exc(computation_exc(computation)),
-        Op::ControlFlow(control) => exceptional_of_exc(control_exc(control)),
-        Op::Allocation(allocation) => exceptional_of_exc(allocation_exc(allocation)),
-        Op::Access(access) => exceptional_of_exc(access_exc(access)),
-        Op::Trapping(trapping) => trapping_exceptional(trapping),
-        Op::StackSwitch(switch) => exceptional_of_exc(switch_exc(switch)),
-        Op::Addressing(_) | Op::Common(_) => None,
+        Op::Trapping(Trapping::Watchpoint { exceptional, .. }) => exceptional.as_ref(),
+        _ => exceptional_of_exc(exc_of(op)),
     }
 }
 
@@ -216,13 +209,10 @@ pub fn is_ending(op: &Op) -> bool
     ensures { result ≡ is_ending op.now }
 {
     match op {
-        Op::Computation(computation) => computation_exc(computation).is_some(),
         Op::ControlFlow(control) => control_ends(control),
-        Op::Allocation(allocation) => allocation_exc(allocation).is_some(),
-        Op::Addressing(_) => false,
-        Op::Access(access) => access_exc(access).is_some(),
         Op::Trapping(trapping) => trapping_ends(trapping),
         Op::StackSwitch(switch) => switch_ends(switch),
         Op::Common(common) => common_ends(common),
+        _ => exc_of(op).is_some(),
     }
 }
