@@ -1,3 +1,8 @@
+ghost use Rattle.std.specs.Prelude.{◌≡◌, ◌++◌};
+ghost use Rattle.mu_values.specs.Rooms.{HasRoomFor};
+ghost use Rattle.frames.specs.Chains.{stands};
+ghost use Rattle.frames.specs.FrameOf.{frame_of};
+
 use mu_base::{Ids, Types};
 use mu_values::{Passed, Slots};
 
@@ -28,4 +33,26 @@ pub struct Frame {
     pub kept: Passed,
     /// The objects that end with it.
     pub cells: Ids,
+}
+
+impl Frame {
+    /// It stands at a place of its block, with its variables, and waits for nothing.
+    pub fn stand_at(&mut self, at: u32)
+        ensures { frame_of self.new ≡ stands (frame_of self.old) self.old.block at self.old.slots.values }
+    {
+        self.at = at;
+        self.fresh = false;
+        self.waits.clear();
+        self.handler = None;
+        self.kept.clear();
+    }
+
+    /// The same, with these results behind its variables. Its list has room for them.
+    pub fn stand_behind(&mut self, at: u32, results: &Slots)
+        requires { HasRoomFor self.old.slots results.now.values }
+        ensures { frame_of self.new ≡ stands (frame_of self.old) self.old.block at (self.old.slots.values ++ results.now.values) }
+    {
+        self.slots.append_reserved(results);
+        self.stand_at(at);
+    }
 }

@@ -1,13 +1,14 @@
 // The frames of a stack.
-ghost use Rattle.std.specs.Prelude.{◌≡◌, ◌<◌, [], ◌∷◌, None, Some, is_some, length, reverse, position, slice_get, option_map, option_copied, IfSome, IfNone, OnSome, OnOk, OnErr, IfOk, IfErr};
+ghost use Rattle.std.specs.Prelude.{◌≡◌, ◌<◌, [], ◌∷◌, ◌++◌, None, Some, is_some, length, drop, reverse, position, slice_get, option_map, option_copied, IfSome, IfNone, OnSome, OnOk, OnErr, IfOk, IfErr};
 ghost use Rattle.std.specs.Borrow.{sem};
-ghost use Rattle.frames.specs.Chains.{frames_of, stands};
+ghost use Rattle.frames.specs.Chains.{frames_of, nothing_kept, stands};
 ghost use Rattle.frames.specs.FrameOf.{frame_of};
 ghost use Rattle.frames.specs.Handlers.{first_handler, caught_below};
 ghost use Rattle.frames.specs.Lending.{LendsTop};
 
 use crate::frame::Frame;
 use crate::unwound::Unwound;
+use mu_base::{Ids, Types};
 use mu_values::{Passed, Slots};
 use std::alloc::{AllocError, Global};
 use std::marker::Model;
@@ -81,6 +82,55 @@ impl Frames {
         let under = mem::replace(&mut self.top, frame);
         self.below.push_reserved(under);
         Ok(())
+    }
+
+    /// Puts a frame on top. The one that was there waits for values of these classes then; it has no exceptional destination, and
+    /// keeps nothing for a client. The list of what it waited for before comes in exchange. It is refused for want of memory alone,
+    /// also where there would be 2^32 frames; then the frames are as they were.
+    #[tactic(auto, using(crate::proofs::Places::pushed))]
+    pub fn enter_above(&mut self, frame: Frame, waits: &mut Types) -> Result<(), AllocError>
+        ensures top { OnOk result (self.new.top ≡ frame_of frame) }
+        ensures below { OnOk result (self.new.below ≡ record self.old.top { waits = waits.old.members; handler = None; kept = nothing_kept } ∷ self.old.below) }
+        ensures same { OnErr result (self.new ≡ self.old) }
+    {
+        if self.below.len() == MOST_BELOW {
+            return Err(AllocError);
+        }
+        self.below.reserve(1)?;
+        let mut under = mem::replace(&mut self.top, frame);
+        mem::swap(&mut under.waits, waits);
+        under.handler = None;
+        under.kept.clear();
+        self.below.push_reserved(under);
+        Ok(())
+    }
+
+    /// The top frame ends, and the one below it goes on at a place of its block, with these results behind its variables. The objects
+    /// of the frame that ended come back; its values, with their room, come in exchange. Where no memory is found nothing changes.
+    #[tactic(auto, using(crate::proofs::Places::pushed))]
+    pub fn leave_to(
+        &mut self,
+        at: u32,
+        results: &Slots,
+        slots: &mut Slots,
+    ) -> Result<Ids, AllocError>
+        requires { 0 < length self.old.below }
+        ensures objects { IfOk result (λ ids. ids.members ≡ self.old.top.objects) }
+        ensures top { OnOk result (IfSome (slice_get self.old.below 0) (λ f. self.new.top ≡ stands f f.block at (f.vars ++ results.now.values))) }
+        ensures below { OnOk result (self.new.below ≡ drop 1 self.old.below) }
+        ensures same { OnErr result (self.new ≡ self.old) }
+    {
+        let Some(mut under) = self.below.pop() else {
+            unreachable!();
+        };
+        if under.slots.reserve_for(results).is_err() {
+            self.below.push_reserved(under);
+            return Err(AllocError);
+        }
+        under.stand_behind(at, results);
+        let mut ended = mem::replace(&mut self.top, under);
+        mem::swap(&mut ended.slots, slots);
+        Ok(ended.cells)
     }
 
     /// Takes the top frame away. None comes exactly where it is the only one; then nothing changes.

@@ -26,13 +26,6 @@ asked_at_once bundle s f b i j cs vs (Some a) at same classes vars h =
     at.acts a (ap (λ cs. act_at bundle cs f.vars i.form) (sym classes) ∙ ap (λ vs. act_at bundle cs vs i.form) (sym vars) ∙ ap (λ (i : Code). act_at bundle cs vs i.form) same ∙ h)
 asked_at_once bundle s f b i j cs vs None at same classes vars h = tt
 
--- and so is what is decided of a call or a return
-pub asked_crossing : {A : Type 0} (bundle : List Item) (s : Held) (f : Activation) (b : BlockCode) (i j : Code) (cs : List ℕ) (vs : List Value) (o : Option A) (act : A → Act) → AsksAt bundle s f b i → i ≡ j → cs ≡ b.classes → vs ≡ f.vars
-    → IfSome o (λ a. act_at bundle cs vs j.form ≡ Some (act a)) → IfSome o (λ a. stepping bundle s ≡ acting bundle s (act a))
-asked_crossing bundle s f b i j cs vs (Some a) act at same classes vars h =
-    at.acts (act a) (ap (λ cs. act_at bundle cs f.vars i.form) (sym classes) ∙ ap (λ vs. act_at bundle cs vs i.form) (sym vars) ∙ ap (λ (i : Code). act_at bundle cs vs i.form) same ∙ h)
-asked_crossing bundle s f b i j cs vs None act at same classes vars h = tt
-
 -- the cases of what stands at a place
 pub cases_stand : (bundle : List Item) (s : Held) (f : Activation) (b : BlockCode) (i j : Code) → AsksAt bundle s f b i → i ≡ j → slice_get (bundle_blocks bundle) f.block ≡ Some b → cases_of j.form ≡ cases_at bundle f.block f.at
 cases_stand bundle s f b i j at same there = sym (ap cases_in (code_is bundle f.block f.at b i there at.there) ∙ ap (λ (i : Code). cases_of i.form) same)

@@ -1,12 +1,11 @@
 // Steps that are made at once: those of the frequent instructions, which write nothing and give no ending. So nothing is handed on
 // of them but that they were made.
-ghost use Rattle.std.specs.Prelude.{◌≡◌, ◌≢◌, ◌<◌, [], Some, IsSome, IfSome, true, false};
+ghost use Rattle.std.specs.Prelude.{◌≡◌, ◌≢◌, ◌<◌, [], IfSome, true, false};
 ghost use Rattle.mu_model.specs.declared.endings.StepEnd.TheVariants.{Went};
 ghost use Rattle.mu_model.specs.Outcomes.{Stuck};
 ghost use Rattle.mu_model.specs.Step.{step};
-ghost use Rattle.model_numbers.specs.Forms.{act_at};
 ghost use Rattle.model_numbers.specs.Numbered.{numbered};
-ghost use Rattle.step_forms.specs.Asked.{asked, lists_of};
+ghost use Rattle.step_forms.specs.Asked.{lists_of};
 ghost use Rattle.step_forms.specs.AtOnce.{decided};
 ghost use Rattle.thread_acts.specs.Held.{configuration};
 ghost use Rattle.thread_acts.specs.Outcome.{outcome_of};
@@ -16,26 +15,25 @@ ghost use Rattle.thread_acts.specs.StepLaws.{GoesOn};
 use crate::step::{pick_thread, settle};
 use bundle_check::Checked;
 use client_hooks::Determined;
-use code_check::{ControlForm, Form};
 use mem_axioms::Memory;
 use mu_values::Slots;
 use std::alloc::Global;
-use step_forms::{Act, AtOnce, CaseRows, Room, Variables, call, decide_at_once, ret};
+use step_forms::{AtOnce, CaseRows, Room, Variables, decide_at_once};
 use thread_acts::state::State;
 
-/// What the thread's next instruction asks, where that is decided at once, with values in the list.
+/// What the thread's next instruction asks, where that is decided at once, with values and classes in the room.
 #[tactic(auto, using(thread_acts::specs::StepLaws::running))]
 fn asks_at_once<M: Memory, C: Determined>(
     state: &State<M, C>,
     code: &Checked,
     rows: &mut CaseRows,
-    values: &mut Slots,
+    room: &mut Room,
 ) -> AtOnce
     requires code { rows.old ≡ code.now }
     requires waits { GoesOn state.now }
     requires there { stepping code.now state.now ≢ Stuck }
     ensures same { rows.new ≡ rows.old }
-    ensures act { IfSome (decided result values.new.values) (λ act. stepping code.now state.now ≡ acting code.now state.now act) }
+    ensures act { IfSome (decided result (lists_of room.new)) (λ act. stepping code.now state.now ≡ acting code.now state.now act) }
 {
     let top = state.frames.top();
     let block = code.block(top.block);
@@ -48,80 +46,8 @@ fn asks_at_once<M: Memory, C: Determined>(
         block.classes.as_slice(),
         &Variables::of(&top.slots),
         form,
-        values,
-    )
-}
-
-/// What a call or a return does, with values and classes in the room. None comes for other instructions, and where no memory is found.
-fn decide_crossing(
-    code: &Checked,
-    types: &[u32],
-    vars: &Variables,
-    form: &Form,
-    room: &mut Room,
-) -> Option<Act>
-    requires { IsSome (act_at code.now types.now vars.now form.now) }
-    ensures { IfSome result (λ act. act_at code.now types.now vars.now form.now ≡ Some (asked act (lists_of room.new))) }
-{
-    match form {
-        Form::Control(
-            ControlForm::Call {
-                callee,
-                arguments,
-                ..
-            },
-        ) => call(code, vars, *callee, arguments.as_slice(), room).ok(),
-        Form::Control(ControlForm::Ret { values }) => {
-            ret(code, types, vars, values.as_slice(), room).ok()
-        }
-        _ => None,
-    }
-}
-
-/// What the thread's next instruction asks, where that is a call or a return.
-#[tactic(auto, using(thread_acts::specs::StepLaws::running))]
-fn asks_crossing<M: Memory, C: Determined>(
-    state: &State<M, C>,
-    code: &Checked,
-    room: &mut Room,
-) -> Option<Act>
-    requires waits { GoesOn state.now }
-    requires there { stepping code.now state.now ≢ Stuck }
-    ensures { IfSome result (λ act. stepping code.now state.now ≡ acting code.now state.now (asked act (lists_of room.new))) }
-{
-    let top = state.frames.top();
-    let block = code.block(top.block);
-    let form = &block.code.as_slice()[top.at as usize].form;
-    decide_crossing(
-        code,
-        block.classes.as_slice(),
-        &Variables::of(&top.slots),
-        form,
         room,
     )
-}
-
-/// The thread calls a function or returns from one at once, or nothing changes.
-#[tactic(auto, using(crate::proofs::AtOnce::acting_at_once))]
-fn cross_at_once<M: Memory, C: Determined>(
-    state: &mut State<M, C>,
-    alloc: Global,
-    code: &Checked,
-    room: &mut Room,
-    out: &mut Slots,
-) -> bool
-    requires left { state.old.left ≡ true }
-    requires room { state.old.steps < state.old.budget }
-    requires waits { GoesOn state.old }
-    requires there { stepping code.now state.old ≢ Stuck }
-    ensures made { result ≡ true → answers (Went []) state.new ≡ stepping code.now state.old }
-    ensures left { result ≡ false → state.new ≡ state.old }
-{
-    match asks_crossing(state, code, room) {
-        Some(Act::Calls { function }) => state.call_at_once(alloc, code, function, room),
-        Some(Act::Returns) => state.return_at_once(code, room, out),
-        _ => false,
-    }
 }
 
 /// The thread does its next instruction at once, or nothing changes.
@@ -143,13 +69,15 @@ fn run_at_once<M: Memory, C: Determined>(
     ensures left { result ≡ false → state.new ≡ state.old }
     ensures same { rows.new ≡ rows.old }
 {
-    match asks_at_once(state, code, rows, &mut room.values) {
+    match asks_at_once(state, code, rows, room) {
         AtOnce::Gives(scalar) => state.give_at_once(code, scalar),
         AtOnce::Goes { block } => {
             state.go_at_once(block, &mut room.values);
             true
         }
-        AtOnce::Other => cross_at_once(state, alloc, code, room, out),
+        AtOnce::Calls { function } => state.call_at_once(alloc, code, function, room),
+        AtOnce::Returns => state.return_at_once(code, room, out),
+        AtOnce::Other => false,
     }
 }
 

@@ -3,3 +3,4 @@ pub mod Cuts
 pub mod Members
 pub mod Masks
 pub mod Widths
+pub mod Appending

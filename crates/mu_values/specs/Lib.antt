@@ -5,6 +5,7 @@ pub mod Updates
 pub mod Comparisons
 pub mod Constants
 pub mod Slots
+pub mod Rooms
 pub mod IntegerExamples
 pub mod UpdateExamples
 pub mod ComparisonExamples

@@ -1,5 +1,6 @@
 // Lists of values.
 ghost use Rattle.std.specs.Prelude.{◌≡◌, ◌+◌, ◌<◌, ◌≤◌, [], ◌∷◌, ◌++◌, Some, length, slice_get, slice_range, OnOk, OnErr, ◌⊎◌};
+ghost use Rattle.mu_values.specs.Rooms.{scalars_in, HasRoomFor};
 ghost use Rattle.mu_values.specs.Slots.{cut, IsCut, begin};
 
 use crate::scalars::{Scalar, Value};
@@ -51,6 +52,13 @@ impl Slots {
     {
         let (begin, end) = bounds(&self.scalars, &self.ends, n);
         &self.scalars[begin..end]
+    }
+
+    /// How many scalars all values have.
+    fn scalar_count(&self) -> usize
+        ensures { result ≡ scalars_in self.now.values }
+    {
+        self.scalars.len()
     }
 
     /// Makes room for that many further values with so many scalars in all. A refusal leaves the values as they were.
@@ -122,6 +130,37 @@ impl Slots {
         let end = self.scalars.len() + member.len();
         self.ends.push(end)?;
         self.scalars.extend_from_slice(member)?;
+        Ok(())
+    }
+
+    /// Makes room for the values of another list. A refusal leaves the values as they were.
+    pub fn reserve_for(&mut self, more: &Slots) -> Result<(), AllocError>
+        ensures values { self.new.values ≡ self.old.values }
+        ensures room { OnOk result (HasRoomFor self.new more.now.values) }
+    {
+        self.reserve(more.len(), more.scalar_count())
+    }
+
+    /// Adds the values of another list, for which there is room, behind its own.
+    pub fn append_reserved(&mut self, more: &Slots)
+        requires { HasRoomFor self.old more.now.values }
+        ensures { self.new.values ≡ self.old.values ++ more.now.values }
+    {
+        for n in 0..more.len() {
+            match self.push_slice(more.at(n)) {
+                Ok(()) => {}
+                Err(_) => unreachable!(),
+            }
+        }
+    }
+
+    /// Adds the values of another list behind its own. A refusal leaves the values as they were.
+    pub fn append(&mut self, more: &Slots) -> Result<(), AllocError>
+        ensures ok { OnOk result (self.new.values ≡ self.old.values ++ more.now.values) }
+        ensures err { OnErr result (self.new.values ≡ self.old.values) }
+    {
+        self.reserve_for(more)?;
+        self.append_reserved(more);
         Ok(())
     }
 

@@ -1,15 +1,17 @@
-// Instructions that are decided at once: the frequent ones, which come to one scalar or to a block. The functions that decide them are
-// inlined, so that a scalar is not copied on its way from one to the next.
+// Instructions that are decided at once: the frequent ones, which come to one scalar, to a block, to a call or to a return. The functions
+// that decide the first two are inlined, so that a scalar is not copied on its way from one to the next.
 ghost use Rattle.std.specs.Prelude.{◌≡◌, [], ◌∷◌, Some, IsSome, IfSome};
 ghost use Rattle.mu_model.specs.Acts as acts;
 ghost use Rattle.code_check.specs.declared.code.Form.TheVariants.{Control};
 ghost use Rattle.model_numbers.specs.Forms.{computation_at, control_at, act_at};
+ghost use Rattle.step_forms.specs.Asked.{lists_of};
 ghost use Rattle.step_forms.specs.AtOnce.{decided};
 ghost use Rattle.step_forms.specs.CaseRows.{cases_of, cases_at};
 
 use crate::case_rows::CaseRows;
 use crate::computing::{binary_scalar, compare_scalar, convert_scalar};
-use crate::control::{arrive, arrive_at_one};
+use crate::control::{arrive, arrive_at_one, called, returned};
+use crate::room::Room;
 use crate::variables::Variables;
 use bundle_check::Checked;
 use code_check::{ComputationForm, ControlForm, Form};
@@ -20,8 +22,12 @@ use mu_values::{Scalar, Slots};
 pub enum AtOnce {
     /// It gives its one result this value of one scalar.
     Gives(Scalar),
-    /// Another block of the function, whose parameters are the values in the list.
+    /// Another block of the function, whose parameters are the values in the room.
     Goes { block: u32 },
+    /// Another function in a frame above, with the values in the room.
+    Calls { function: u32 },
+    /// Back from the function, with the values in the room and their classes there.
+    Returns,
     /// Nothing was decided.
     Other,
 }
@@ -94,7 +100,38 @@ fn gone(
     }
 }
 
-/// What the instruction at a place does, as `decide` tells it, where that is decided at once. The list is changed even where nothing is
+/// What a CALL or a RET does, with what it hands on in the room. It stays out of the way of the other instructions.
+#[inline(never)]
+fn crossing(
+    code: &Checked,
+    types: &[u32],
+    vars: &Variables,
+    form: &ControlForm,
+    room: &mut Room,
+) -> AtOnce
+    requires { IsSome (control_at code.now types.now vars.now form.now) }
+    ensures { IfSome (decided result (lists_of room.new)) (λ act. control_at code.now types.now vars.now form.now ≡ Some act) }
+{
+    match form {
+        ControlForm::Call {
+            callee,
+            arguments,
+            ..
+        } => match called(code, vars, *callee, arguments.as_slice(), &mut room.values) {
+            Ok(Some(function)) => AtOnce::Calls { function },
+            _ => AtOnce::Other,
+        },
+        ControlForm::Ret { values } => {
+            match returned(code, types, vars, values.as_slice(), room) {
+                Ok(()) => AtOnce::Returns,
+                Err(_) => AtOnce::Other,
+            }
+        }
+        _ => AtOnce::Other,
+    }
+}
+
+/// What the instruction at a place does, as `decide` tells it, where that is decided at once. The room is changed even where nothing is
 /// decided.
 #[inline(always)]
 pub fn decide_at_once(
@@ -105,23 +142,26 @@ pub fn decide_at_once(
     types: &[u32],
     vars: &Variables,
     form: &Form,
-    values: &mut Slots,
+    room: &mut Room,
 ) -> AtOnce
     requires code { rows.old ≡ code.now }
     requires place { cases_of form.now ≡ cases_at code.now block at }
     requires there { IsSome (act_at code.now types.now vars.now form.now) }
     ensures same { rows.new ≡ rows.old }
-    ensures act { IfSome (decided result values.new.values) (λ act. act_at code.now types.now vars.now form.now ≡ Some act) }
+    ensures act { IfSome (decided result (lists_of room.new)) (λ act. act_at code.now types.now vars.now form.now ≡ Some act) }
 {
     match form {
         Form::Computation(form) => match computed(code, vars, form) {
             Some(scalar) => AtOnce::Gives(scalar),
             None => AtOnce::Other,
         },
-        Form::Control(form) => match gone(code, rows, block, at, types, vars, form, values) {
-            Some(block) => AtOnce::Goes { block },
-            None => AtOnce::Other,
-        },
+        Form::Control(form) => {
+            let values = &mut room.values;
+            match gone(code, rows, block, at, types, vars, form, values) {
+                Some(block) => AtOnce::Goes { block },
+                None => crossing(code, types, vars, form, room),
+            }
+        }
         _ => AtOnce::Other,
     }
 }

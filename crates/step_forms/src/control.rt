@@ -1,5 +1,5 @@
 // Instructions that say where the function goes on, or that enter or leave one.
-ghost use Rattle.std.specs.Prelude.{◌≡◌, map, Some, IsSome, IfSome, IfOk};
+ghost use Rattle.std.specs.Prelude.{◌≡◌, map, Some, IsSome, IfSome, IfOk, OnOk};
 ghost use Rattle.mu_values.specs.SameScalar.{same_scalar};
 ghost use Rattle.bundle_check.specs.Checking.{bundle_tables};
 ghost use Rattle.typed_heap.specs.Places.{with_some};
@@ -8,6 +8,7 @@ ghost use Rattle.mu_model.specs.ControlForms.{branch_act, branch2_act, switch_ac
 ghost use Rattle.model_numbers.specs.Sources.{value_at, values_at, classes_at, goal_at};
 ghost use Rattle.model_numbers.specs.Forms.{arm_at};
 ghost use Rattle.step_forms.specs.Asked.{asked, lists_of, Lists};
+ghost use Rattle.step_forms.specs.AtOnce.{call_of};
 
 use crate::act::Act;
 use crate::operands::{constant, is_one, lent, read_classes, read_goal, read_values, scalar};
@@ -127,9 +128,28 @@ pub fn switch(
     branch(code, vars, default, room)
 }
 
-/// CALL
+/// The function that a CALL calls, with the values of its arguments in the list. None comes where the callee is NULL.
 #[tactic(auto, using(crate::specs::OperandLaws::functions))]
-pub fn call(
+pub(crate) fn called(
+    code: &Checked,
+    vars: &Variables,
+    callee: Source,
+    arguments: &[Source],
+    values: &mut Slots,
+) -> Result<Option<u32>, AllocError>
+    requires { IsSome (call_act (value_at code.now vars.now callee) (values_at code.now vars.now arguments.now)) }
+    ensures { IfOk result (λ function. call_act (value_at code.now vars.now callee) (values_at code.now vars.now arguments.now) ≡ Some (call_of function values.new.values)) }
+{
+    read_values(code, vars, arguments, values)?;
+    match scalar(code, vars, callee) {
+        Scalar::Func(function) => Ok(Some(function)),
+        Scalar::Null => Ok(None),
+        _ => unreachable!(),
+    }
+}
+
+/// CALL
+pub(crate) fn call(
     code: &Checked,
     vars: &Variables,
     callee: Source,
@@ -139,11 +159,9 @@ pub fn call(
     requires { IsSome (call_act (value_at code.now vars.now callee) (values_at code.now vars.now arguments.now)) }
     ensures { IfOk result (λ act. call_act (value_at code.now vars.now callee) (values_at code.now vars.now arguments.now) ≡ Some (asked act (lists_of room.new))) }
 {
-    read_values(code, vars, arguments, &mut room.values)?;
-    match scalar(code, vars, callee) {
-        Scalar::Func(function) => Ok(Act::Calls { function }),
-        Scalar::Null => Ok(Act::Faults(Case::NullCall)),
-        _ => unreachable!(),
+    match called(code, vars, callee, arguments, &mut room.values)? {
+        Some(function) => Ok(Act::Calls { function }),
+        None => Ok(Act::Faults(Case::NullCall)),
     }
 }
 
@@ -167,9 +185,24 @@ pub fn tailcall(
     }
 }
 
-/// RET
+/// The values that a RET returns, and their classes, in the room.
 #[tactic(auto, using(crate::specs::OperandLaws::operands))]
-pub fn ret(
+pub(crate) fn returned(
+    code: &Checked,
+    types: &[u32],
+    vars: &Variables,
+    values: &[Source],
+    room: &mut Room,
+) -> Result<(), AllocError>
+    requires { IsSome (with_some (classes_at (bundle_tables code.now) types.now values.now) (λ cs. ret_act cs (values_at code.now vars.now values.now))) }
+    ensures { OnOk result (with_some (classes_at (bundle_tables code.now) types.now values.now) (λ cs. ret_act cs (values_at code.now vars.now values.now)) ≡ Some (acts.Returns (record { types = room.new.types.members; values = room.new.values.values }))) }
+{
+    read_classes(code, types, values, &mut room.types)?;
+    read_values(code, vars, values, &mut room.values)
+}
+
+/// RET
+pub(crate) fn ret(
     code: &Checked,
     types: &[u32],
     vars: &Variables,
@@ -179,8 +212,7 @@ pub fn ret(
     requires { IsSome (with_some (classes_at (bundle_tables code.now) types.now values.now) (λ cs. ret_act cs (values_at code.now vars.now values.now))) }
     ensures { IfOk result (λ act. with_some (classes_at (bundle_tables code.now) types.now values.now) (λ cs. ret_act cs (values_at code.now vars.now values.now)) ≡ Some (asked act (lists_of room.new))) }
 {
-    read_classes(code, types, values, &mut room.types)?;
-    read_values(code, vars, values, &mut room.values)?;
+    returned(code, types, vars, values, room)?;
     Ok(Act::Returns)
 }
 

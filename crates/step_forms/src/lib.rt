@@ -26,11 +26,12 @@ pub use access::Access;
 pub use act::Act;
 pub use at_once::{AtOnce, decide_at_once};
 pub use case_rows::CaseRows;
-pub use control::{call, ret};
 pub use deciding::decide;
 pub use entering::Entering;
 pub use laws::forms_are_there;
-pub use operands::{push_value, read_classes, read_goal, read_kept, read_values, scalar};
+pub use operands::{
+    copy_classes, push_value, read_classes, read_goal, read_kept, read_values, scalar,
+};
 pub use room::Room;
 pub use variables::Variables;
 pub use way::Way;

@@ -228,7 +228,7 @@ pub fn read_classes(
 
 /// These classes, in place of what the list held. Where no memory is found some may be missing.
 #[tactic(auto, using(crate::specs::OperandLists::copies))]
-pub(crate) fn copy_classes(classes: &[u32], out: &mut Types) -> Result<(), AllocError>
+pub fn copy_classes(classes: &[u32], out: &mut Types) -> Result<(), AllocError>
     ensures { OnOk result (out.new.members ≡ classes.now) }
 {
     out.clear();

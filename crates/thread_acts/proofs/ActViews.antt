@@ -1,6 +1,8 @@
 -- Lemmas of acts, over the view of a state and its parts.
-use Rattle.std.proofs.Common.{◌≡◌, ◌≢◌, ℕ, zero, suc, ◌+◌, ◌<◌, List, [], ◌∷◌, Some, IsSome, Result, Ok, Err, IfOk, IfSome, IsSomeAnd, length, slice_get, slice_index_or, take, drop, sym, ◌∙◌, ap, subst, arith}
+use Rattle.std.proofs.Common.{◌≡◌, ◌≢◌, refl, Bool, true, ℕ, zero, suc, ◌+◌, ◌<◌, List, [], ◌∷◌, ◌++◌, None, Some, IsSome, Result, Ok, Err, IfOk, IfSome, IsSomeAnd, length, slice_get, slice_index_or, take, drop, sym, ◌∙◌, ap, subst, arith}
 use Rattle.std.specs.List.{flat_map}
+use Rattle.std.specs.Prelude.{◌==◌}
+use Rattle.std.proofs.lemmas.Bool.{eqb-true}
 use Rattle.ir_tree.specs.declared.items.Item.{Item}
 use Rattle.mu_values.specs.declared.scalars.Scalar.{Scalar}
 use Rattle.mu_values.specs.declared.scalars.Scalar.TheVariants.{Null}
@@ -13,7 +15,7 @@ use Rattle.bundle_check.specs.Checking.{bundle_blocks, bundle_functions}
 use Rattle.bundle_check.specs.Answers.{code_at}
 use Rattle.typed_heap.specs.Objects.{HeapObject}
 use Rattle.frames.specs.Activations.{Value, Goal, Activation}
-use Rattle.frames.specs.Chains.{Chain, frames_of, stands}
+use Rattle.frames.specs.Chains.{Chain, frames_of, nothing_kept, stands}
 use Rattle.frames.specs.FrameOf.{frame_of, goal_of}
 use Rattle.frames.specs.Handlers.{first_handler}
 use Rattle.frames.specs.declared.frame.Frame.{Frame}
@@ -29,7 +31,7 @@ use Rattle.mu_model.specs.declared.lines.Note.TheVariants.{Returned}
 use Rattle.mu_model.specs.declared.endings.StepEnd.TheVariants.{Went}
 use Rattle.thread_acts.specs.Held.{Held}
 use Rattle.thread_acts.specs.Acting.{answers, went_on, acting, faulting, goes_on, gets, entered, awaits, awaited, entered_above, objects_end, thread_ended}
-use Rattle.thread_acts.specs.ActLaws.{given_there, given_is, fault_gets, fault_goes, gets_there, call_so, awaited_there, return_there, return_is, throw_is, drop_at, return_finishes}
+use Rattle.thread_acts.specs.ActLaws.{given_there, given_is, fault_gets, fault_goes, gets_there, call_so, awaited_there, return_there, return_is, return_next, throw_is, drop_at, return_finishes}
 use Rattle.thread_acts.proofs.Passing.{handled}
 
 -- ---- results
@@ -52,6 +54,23 @@ pub called_so : {E : Type 0} (bundle : List Item) (s t : Held) (f block : ℕ) (
     → IfOk r (λ end. answers end t ≡ acting bundle s (Calls f vs))
 called_so bundle s t f block vs function (Ok end) h e first so = call_so bundle s f block vs function (answers end t) h e first so
 called_so bundle s t f block vs function (Err e') h e first so = tt
+
+no_number : (ns : List ℕ) → length ns ≡ 0 → ns ≡ []
+no_number [] e = refl
+no_number (n ∷ ns) e = absurd (omega (arith, e))
+
+pub none_listed : (ks ns : List ℕ) (empty : Bool) → ks ≡ ns → empty ≡ (length ks == 0) → empty ≡ true → ns ≡ []
+none_listed ks ns empty listed is e = sym listed ∙ no_number ks (eqb-true (length ks) 0 (sym is ∙ e))
+
+-- a frame stands above the one that was there, which waits for values
+pub entered_so : (s v : Held) (fr : Chain) (f g : Activation) (ws cs : List ℕ) (o : Outcome) → v ≡ s → fr.top ≡ f → fr.below ≡ record v.frames.top { waits = ws; handler = None; kept = nothing_kept } ∷ v.frames.below → ws ≡ cs → f ≡ g
+    → o ≡ went_on (record v { frames = fr }) → o ≡ went_on (record s { frames = entered_above s.frames g (record { waits = cs; handler = None; kept = nothing_kept }) })
+entered_so s v fr f g ws cs o view top below classes frame is =
+    let main : o ≡ went_on (record v { frames = entered_above v.frames g (record { waits = cs; handler = None; kept = nothing_kept }) }) =
+    is ∙ ap (λ t. went_on (record v { frames = record { top = t; below = fr.below } })) (top ∙ frame)
+    ∙ ap (λ bs. went_on (record v { frames = record { top = g; below = bs } })) below
+    ∙ ap (λ ws. went_on (record v { frames = entered_above v.frames g (record { waits = ws; handler = None; kept = nothing_kept }) })) classes in
+    subst (λ (s : Held). o ≡ went_on (record s { frames = entered_above s.frames g (record { waits = cs; handler = None; kept = nothing_kept }) })) view main
 
 -- ---- places that are known by an index
 
@@ -126,6 +145,17 @@ returned_so bundle s v vs out f block at left fr os cs ns o view h second way re
     ∙ ap (λ n. went_on (record v { frames = record left { top = stands left.top block at out }; objects = objects_end v.objects v.frames.top.objects; cells = n })) cells
     ∙ sym (return_is bundle v vs left (stands left.top block at out) k rest on) in
     subst (λ s. acting bundle s (Returns vs) ≢ Stuck → o ≡ acting bundle s (Returns vs)) view main h
+
+-- a return to a frame that goes on at the next place
+pub returned_next : (bundle : List Item) (s v : Held) (vs : TypedValues) (f : Activation) (at : ℕ) (o : Outcome) → v ≡ s → acting bundle s (Returns vs) ≢ Stuck → slice_get (frames_of v.frames) 1 ≡ Some f
+    → goes_on bundle f vs.values ≡ Some (stands f f.block at (f.vars ++ vs.values))
+    → IfSome (slice_get s.frames.below 0) (λ f. o ≡ went_on (record s { frames = record { top = stands f f.block at (f.vars ++ vs.values); below = drop 1 s.frames.below }; objects = objects_end s.objects s.frames.top.objects }))
+    → o ≡ acting bundle s (Returns vs)
+returned_next bundle s v vs f at o view h second way told =
+    let there : slice_get s.frames.below 0 ≡ Some f = ap (λ (x : Held). slice_get x.frames.below 0) (sym view) ∙ second in
+    let is : o ≡ went_on (record s { frames = record { top = stands f f.block at (f.vars ++ vs.values); below = drop 1 s.frames.below }; objects = objects_end s.objects s.frames.top.objects }) =
+    subst (λ x. IfSome x (λ f. o ≡ went_on (record s { frames = record { top = stands f f.block at (f.vars ++ vs.values); below = drop 1 s.frames.below }; objects = objects_end s.objects s.frames.top.objects }))) there told in
+    is ∙ sym (return_next bundle s vs f (stands f f.block at (f.vars ++ vs.values)) h there way)
 
 -- the bottom frame returns
 pub returned_last : (bundle : List Item) (s v w u : Held) (vs ws : TypedValues) (ls : List Line) → v ≡ s → w ≡ u → u ≡ thread_ended s u.frames → ls ≡ lines.Note (Returned v.thread ws) ∷ [] → ws ≡ vs

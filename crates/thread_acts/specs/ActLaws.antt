@@ -15,7 +15,7 @@ use Rattle.bundle_check.specs.Answers.{code_at}
 use Rattle.typed_heap.specs.Objects.{HeapObject, killed}
 use Rattle.typed_heap.specs.Places.{with_some}
 use Rattle.frames.specs.Activations.{Value, Goal, Activation}
-use Rattle.frames.specs.Chains.{Chain, frames_of, stands}
+use Rattle.frames.specs.Chains.{Chain, frames_of, nothing_kept, stands}
 use Rattle.frames.specs.Handlers.{first_handler}
 use Rattle.mu_model.specs.declared.lines.Line.{Line}
 use Rattle.mu_model.specs.declared.lines.Line.TheVariants as lines
@@ -462,6 +462,20 @@ awaited_waits bundle f cs w h =
 
 pub ruleset awaiting = (awaited_there, awaited_is)
 
+pub awaited_code : (bundle : List Item) (f : Activation) (cs : List ℕ) → IsSome (awaits bundle f cs) → IsSome (code_at bundle f.block f.at)
+awaited_code bundle f cs h =
+    let r = awaited_there bundle f cs h in
+    some_there (code_at bundle f.block f.at) r.2 (code_is bundle f.block f.at r.0 r.2 r.1 r.3)
+
+-- a frame whose instruction has no exceptional destination, and keeps nothing, waits for values alone
+pub awaits_values : (bundle : List Item) (f : Activation) (i : Code) → code_at bundle f.block f.at ≡ Some i → i.exceptional ≡ None → i.keepalive ≡ []
+    → (cs : List ℕ) → awaits bundle f cs ≡ Some (record { waits = cs; handler = None; kept = nothing_kept })
+awaits_values bundle f i code plain none cs =
+    let b = code_there bundle f.block f.at i code in
+    awaited_is bundle f cs b.0 i (record { waits = cs; handler = None; kept = nothing_kept }) b.1 b.2 refl (ap (optional_goal_at bundle f.vars) plain) (ap (kept_at b.0.classes f.vars) none)
+
+pub ruleset plain = (awaited_code, awaits_values)
+
 -- ---- objects that end
 
 top_ends : (f : Activation) (os : List HeapObject) → fold (λ os n. changed killed n os) os (flat_map (λ (f : Activation). f.objects) (f ∷ [])) ≡ objects_end os f.objects
@@ -564,6 +578,15 @@ pub second_is : (s : Held) (c : Chain) (f : Activation) → frames_of c ≡ s.fr
 second_is s c f e h = let there : slice_get (frames_of c) 0 ≡ Some f = ap (λ bs. slice_get bs 0) e ∙ h in cc
 
 pub ruleset returning = (return_there, return_is, second_is)
+
+-- a return to a frame that goes on so
+pub return_next : (bundle : List Item) (s : Held) (vs : TypedValues) (f g : Activation) → acting bundle s (Returns vs) ≢ Stuck → slice_get s.frames.below 0 ≡ Some f → goes_on bundle f vs.values ≡ Some g
+    → acting bundle s (Returns vs) ≡ went_on (record s { frames = record { top = g; below = drop 1 s.frames.below }; objects = objects_end s.objects s.frames.top.objects })
+return_next bundle s vs f g h there way =
+    let q = second_by s.frames.below f there in
+    let rest : drop 1 s.frames.below ≡ q.0 = ap (drop 1) q.1 in
+    return_is bundle s vs (record { top = f; below = q.0 }) g h (sym q.1) way
+    ∙ ap (λ (bs : List Activation). went_on (record s { frames = record { top = g; below = bs }; objects = objects_end s.objects s.frames.top.objects })) (sym rest)
 
 pub one_frame : (c : Chain) → length (frames_of c) ≡ 1 → c.below ≡ []
 one_frame c e = none_by c.below (omega (arith, e))

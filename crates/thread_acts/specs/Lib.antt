@@ -11,7 +11,6 @@ pub mod Making
 pub mod ObjectLaws
 pub mod Outcome
 pub mod Remembering
-pub mod Rooms
 pub mod StackLaws
 pub mod Starting
 pub mod StepLaws

@@ -5,7 +5,7 @@ use Rattle.std.proofs.lemmas.List.{append-nil}
 use Rattle.std.proofs.Math.Seq.{take-suc}
 use Rattle.std.proofs.Common.{length-drop}
 use Rattle.typed_heap.specs.Objects.{HeapObject, killed}
-use Rattle.frames.specs.Activations.{Value, Activation}
+use Rattle.frames.specs.Activations.{Activation}
 use Rattle.frames.specs.Chains.{Chain, frames_of}
 use Rattle.mu_model.specs.Changes.{changed}
 use Rattle.thread_acts.specs.Acting.{objects_end}
@@ -23,11 +23,6 @@ get_there : {A : Type 0} (xs : List A) (n : ℕ) → n < length xs → (x : A) �
 get_there [] n h = absurd (omega arith)
 get_there (y ∷ ys) zero h = (y, refl)
 get_there (y ∷ ys) (suc n) h = get_there ys n (omega arith)
-
--- the values once one more is added
-pub append_next : (from start before after : List Value) (n : ℕ) (x : Value) → before ≡ start ++ take n from → slice_get from n ≡ Some x → after ≡ before ++ x ∷ [] → after ≡ start ++ take (n + 1) from
-append_next from start before after n x was there is =
-    is ∙ ap (λ vs. vs ++ x ∷ []) was ∙ append_assoc start (take n from) (x ∷ []) ∙ ap (λ vs. start ++ vs) (sym (take_next from n x there))
 
 -- ---- objects that end one by one
 

@@ -23,7 +23,7 @@ ghost use Rattle.thread_acts.specs.Remembering.{initials};
 ghost use Rattle.thread_acts.specs.Accessing.{picking, race_at, logs};
 
 use crate::finding::case_of;
-use crate::flow::{Place, next_place, passing, reserve_for, stand, stand_behind};
+use crate::flow::{Place, next_place, passing, stand};
 use crate::state::{State, ended};
 use bundle_check::Checked;
 use client_hooks::Determined;
@@ -258,10 +258,10 @@ fn commit_next<M: Memory, L: Ledger>(
     ensures same_rule { M.rule memory.new ≡ M.rule memory.old }
 {
     let frame = frames.top_mut();
-    reserve_for(&mut frame.slots, results)?;
+    frame.slots.reserve_for(results)?;
     let found = commit::<M, L>(memory, event, blank);
     if found.is_none() {
-        stand_behind(frame, at, results);
+        frame.stand_behind(at, results);
     }
     Ok(found)
 }

@@ -1,15 +1,20 @@
 // Calls.
-ghost use Rattle.std.specs.Prelude.{◌≡◌, ◌≢◌, ◌<◌, [], IsSome, Some, IfOk, IfSome, OnErr, true, false};
+ghost use Rattle.std.specs.Prelude.{◌≡◌, ◌≢◌, ◌<◌, [], IsSome, None, Some, IfOk, IfSome, OnErr, true, false};
+ghost use Rattle.bundle_check.specs.Checking.{bundle_tables};
+ghost use Rattle.frames.specs.Chains.{nothing_kept};
 ghost use Rattle.mu_model.specs.declared.endings.StepEnd.TheVariants.{Went};
 ghost use Rattle.mu_model.specs.Outcomes.{Stuck};
 ghost use Rattle.mu_model.specs.Acts as acts;
+ghost use Rattle.mu_model.specs.Types.{classes_given};
 ghost use Rattle.thread_acts.specs.Held.{Held};
 ghost use Rattle.thread_acts.specs.Outcome.{Stays};
 ghost use Rattle.thread_acts.specs.Acting.{answers, went_on, acting, awaited, entered, entered_above, objects_end};
 
 use crate::objects::end_objects;
 use crate::state::State;
-use crate::waiting::{enter, enter_for, entered, waiting, waiting_in};
+use crate::waiting::{
+    enter, enter_for, entered, read_classes_given, waiting, waiting_in, waits_for_values,
+};
 use bundle_check::Checked;
 use client_hooks::Determined;
 use frames::Frames;
@@ -84,6 +89,7 @@ impl<M: Memory, C: Determined> State<M, C> {
     /// The thread calls a function, with the values in the room, where that has a body and memory is found. Else the thread is as
     /// before; the room may have changed.
     #[tactic(auto, using(crate::specs::ActLaws::calling))]
+    #[inline(never)]
     pub fn call_at_once(
         &mut self,
         alloc: Global,
@@ -105,7 +111,56 @@ impl<M: Memory, C: Determined> State<M, C> {
 
     /// The thread calls a function with that first block, where memory is found. Else the thread is as before; the room may have
     /// changed.
+    #[tactic(auto, using(crate::specs::ActLaws::plain))]
     fn enter_at_once(
+        &mut self,
+        alloc: Global,
+        code: &Checked,
+        function: u32,
+        block: u32,
+        room: &mut Room,
+    ) -> bool
+        requires left { self.old.left ≡ true }
+        requires room { self.old.steps < self.old.budget }
+        requires there { IsSome (awaited code.now self.old.frames.top function) }
+        ensures made { result ≡ true → IfSome (awaited code.now self.old.frames.top function) (λ w. answers (Went []) self.new ≡ went_on (record self.old { frames = entered_above self.old.frames (entered block room.old.values.values) w })) }
+        ensures left { result ≡ false → self.new ≡ self.old }
+    {
+        if waits_for_values(code, self.frames.top()) {
+            self.enter_for_values(alloc, code, function, block, room)
+        } else {
+            self.enter_waiting(alloc, code, function, block, room)
+        }
+    }
+
+    /// The same, where the frame that calls waits for values alone.
+    fn enter_for_values(
+        &mut self,
+        alloc: Global,
+        code: &Checked,
+        function: u32,
+        block: u32,
+        room: &mut Room,
+    ) -> bool
+        requires left { self.old.left ≡ true }
+        requires room { self.old.steps < self.old.budget }
+        ensures made { result ≡ true → answers (Went []) self.new ≡ went_on (record self.old { frames = entered_above self.old.frames (entered block room.old.values.values) (record { waits = classes_given (bundle_tables code.now) function; handler = None; kept = nothing_kept }) }) }
+        ensures left { result ≡ false → self.new ≡ self.old }
+    {
+        let values = values_out(alloc, room);
+        let Ok(()) = read_classes_given(code, function, &mut room.waits) else {
+            return false;
+        };
+        let frame = entered(alloc, block, values);
+        let Ok(()) = self.frames.enter_above(frame, &mut room.waits) else {
+            return false;
+        };
+        self.count();
+        true
+    }
+
+    /// The same, whatever it waits for.
+    fn enter_waiting(
         &mut self,
         alloc: Global,
         code: &Checked,

@@ -6,7 +6,6 @@ ghost use Rattle.frames.specs.Chains.{stands};
 ghost use Rattle.frames.specs.FrameOf.{frame_of};
 ghost use Rattle.model_numbers.specs.Sources.{goal_at};
 ghost use Rattle.thread_acts.specs.Acting.{goes_on};
-ghost use Rattle.thread_acts.specs.Rooms.{scalars_in, HasRoomFor};
 
 use bundle_check::Checked;
 use code_check::Target;
@@ -22,23 +21,12 @@ pub struct Place {
     pub at: u32,
 }
 
-/// Adds values at the end of a list.
-#[tactic(auto, using(crate::specs::Lists::append_next))]
-fn append(from: &Slots, to: &mut Slots) -> Result<(), AllocError>
-    ensures { OnOk result (to.new.values ≡ to.old.values ++ from.now.values) }
-{
-    for n in 0..from.len() {
-        to.push_slice(from.at(n))?;
-    }
-    Ok(())
-}
-
 /// Makes a list the values of another.
 pub(crate) fn copy(from: &Slots, to: &mut Slots) -> Result<(), AllocError>
     ensures { OnOk result (to.new.values ≡ from.now.values) }
 {
     to.clear();
-    append(from, to)
+    to.append(from)
 }
 
 /// At the next place, with these results behind the frame's own variables.
@@ -51,7 +39,7 @@ fn onward(frame: &Frame, results: &Slots, out: &mut Slots) -> Result<Place, Allo
         return Err(AllocError);
     };
     copy(&frame.slots, out)?;
-    append(results, out)?;
+    out.append(results)?;
     Ok(Place {
         block: frame.block,
         at,
@@ -110,17 +98,6 @@ pub fn stand(frames: &mut Frames, place: Place, values: &mut Slots)
     frames.top_mut().at = place.at;
 }
 
-/// The frame stands at a place of its block, with its variables, and waits for nothing.
-fn stand_at(frame: &mut Frame, at: u32)
-    ensures { frame_of frame.new ≡ stands (frame_of frame.old) frame.old.block at frame.old.slots.values }
-{
-    frame.at = at;
-    frame.fresh = false;
-    frame.waits.clear();
-    frame.handler = None;
-    frame.kept.clear();
-}
-
 /// The frame stands at the next place, with one more value of one scalar, and waits for nothing.
 fn push_on(frame: &mut Frame, scalar: Scalar) -> Result<(), AllocError>
     ensures ok { OnOk result (frame_of frame.new ≡ stands (frame_of frame.old) frame.old.block (frame.old.at + 1) (frame.old.slots.values ++ (scalar ∷ []) ∷ [])) }
@@ -130,7 +107,7 @@ fn push_on(frame: &mut Frame, scalar: Scalar) -> Result<(), AllocError>
         return Err(AllocError);
     };
     frame.slots.push_scalar(scalar)?;
-    stand_at(frame, at);
+    frame.stand_at(at);
     Ok(())
 }
 
@@ -161,60 +138,14 @@ pub(crate) fn next_place(code: &Checked, frame: &Frame) -> Option<u32>
     }
 }
 
-/// How many scalars the values of a list have. More than a number tells are refused for want of memory.
-#[tactic(auto, using(crate::specs::Rooms::count_all))]
-fn scalars_in(from: &Slots) -> Result<usize, AllocError>
-    ensures { IfOk result (λ many. many ≡ scalars_in from.now.values) }
-{
-    let mut many: usize = 0;
-    for n in 0..from.len() {
-        let Some(more) = many.checked_add(from.at(n).len()) else {
-            return Err(AllocError);
-        };
-        many = more;
-    }
-    Ok(many)
-}
-
-/// Makes room in a list for the values of another.
-pub(crate) fn reserve_for(to: &mut Slots, from: &Slots) -> Result<(), AllocError>
-    ensures same { to.new.values ≡ to.old.values }
-    ensures room { OnOk result (HasRoomFor to.new from.now.values) }
-{
-    let scalars = scalars_in(from)?;
-    to.reserve(from.len(), scalars)
-}
-
-/// Adds the values of a list behind those of another one, which has room for them.
-fn append_reserved(from: &Slots, to: &mut Slots)
-    requires { HasRoomFor to.old from.now.values }
-    ensures { to.new.values ≡ to.old.values ++ from.now.values }
-{
-    for n in 0..from.len() {
-        match to.push_slice(from.at(n)) {
-            Ok(()) => {}
-            Err(_) => unreachable!(),
-        }
-    }
-}
-
-/// The frame stands at a place of its block, with these results behind its own variables, and waits for nothing.
-pub(crate) fn stand_behind(frame: &mut Frame, at: u32, results: &Slots)
-    requires { HasRoomFor frame.old.slots results.now.values }
-    ensures { frame_of frame.new ≡ stands (frame_of frame.old) frame.old.block at (frame.old.slots.values ++ results.now.values) }
-{
-    append_reserved(results, &mut frame.slots);
-    stand_at(frame, at);
-}
-
 /// The top frame stands at a place of its block, with these results behind its own variables. Where no memory is found nothing changes.
 fn stand_next(frames: &mut Frames, at: u32, results: &Slots) -> Result<(), AllocError>
     ensures ok { OnOk result (frames.new ≡ record frames.old { top = stands frames.old.top frames.old.top.block at (frames.old.top.vars ++ results.now.values) }) }
     ensures err { OnErr result (frames.new ≡ frames.old) }
 {
     let frame = frames.top_mut();
-    reserve_for(&mut frame.slots, results)?;
-    stand_behind(frame, at, results);
+    frame.slots.reserve_for(results)?;
+    frame.stand_behind(at, results);
     Ok(())
 }
 

@@ -11,7 +11,7 @@ ghost use Rattle.thread_acts.specs.Acting.{answers, acting, faulting, goes_on};
 ghost use Rattle.thread_acts.specs.Making.{graph_of, owns, IsFull, act_of, leaves_made, result_made, frame_made};
 ghost use Rattle.thread_acts.specs.Remembering.{initials};
 
-use crate::flow::{next_place, passing, reserve_for, stand, stand_behind};
+use crate::flow::{next_place, passing, stand};
 use crate::objects::MOST_OBJECTS;
 use crate::state::State;
 use bundle_check::Checked;
@@ -190,9 +190,9 @@ fn give_next<M: Memory>(
     ensures rule { M.rule memory.new ≡ M.rule memory.old }
 {
     let frame = frames.top_mut();
-    reserve_for(&mut frame.slots, results)?;
+    frame.slots.reserve_for(results)?;
     tell(alloc, heap, number, making, memory, frame)?;
-    stand_behind(frame, at, results);
+    frame.stand_behind(at, results);
     Ok(())
 }
 

@@ -1,14 +1,15 @@
 // Returns.
-ghost use Rattle.std.specs.Prelude.{◌≡◌, ◌≢◌, ◌<◌, [], ◌∷◌, IsSome, Some, IfOk, OnErr, length, true, false};
+ghost use Rattle.std.specs.Prelude.{◌≡◌, ◌≢◌, ◌<◌, [], ◌∷◌, ◌++◌, IsSome, IfSome, Some, IfOk, OnErr, drop, length, slice_get, true, false};
 ghost use Rattle.mu_values.specs.Slots.{TypedValues};
+ghost use Rattle.frames.specs.Chains.{stands};
 ghost use Rattle.mu_model.specs.declared.lines.Line.TheVariants as noted;
 ghost use Rattle.mu_model.specs.declared.endings.StepEnd.TheVariants.{Went};
 ghost use Rattle.mu_model.specs.Outcomes.{Stuck};
 ghost use Rattle.mu_model.specs.Acts as acts;
 ghost use Rattle.thread_acts.specs.Outcome.{Stays};
-ghost use Rattle.thread_acts.specs.Acting.{answers, acting};
+ghost use Rattle.thread_acts.specs.Acting.{answers, acting, went_on, objects_end};
 
-use crate::flow::{passing, stand};
+use crate::flow::{next_place, passing, stand};
 use crate::objects::{end_objects, leave_for};
 use crate::state::State;
 use bundle_check::Checked;
@@ -116,6 +117,7 @@ impl<M: Memory, C: Determined> State<M, C> {
     /// The thread returns from its function to the frame below it, which goes on with the values in the room, where there is one and memory
     /// is found. Else nothing changes.
     #[tactic(auto, using(crate::specs::ActLaws::only_frame))]
+    #[inline(never)]
     pub fn return_at_once(&mut self, code: &Checked, room: &mut Room, out: &mut Slots) -> bool
         requires left { self.old.left ≡ true }
         requires room { self.old.steps < self.old.budget }
@@ -131,8 +133,42 @@ impl<M: Memory, C: Determined> State<M, C> {
     }
 
     /// The top frame ends, and the one below it goes on with the values in the room, where memory is found. Else nothing changes.
-    #[tactic(auto, using(crate::specs::ActLaws::returning))]
     fn leave_at_once(&mut self, code: &Checked, room: &mut Room, out: &mut Slots) -> bool
+        requires left { self.old.left ≡ true }
+        requires room { self.old.steps < self.old.budget }
+        requires below { 0 < length self.old.frames.below }
+        requires there { acting code.now self.old (acts.Returns (record { types = room.old.types.members; values = room.old.values.values })) ≢ Stuck }
+        ensures made { result ≡ true → answers (Went []) self.new ≡ acting code.now self.old (acts.Returns (record { types = room.old.types.members; values = room.old.values.values })) }
+        ensures left { result ≡ false → self.new ≡ self.old }
+    {
+        match next_place(code, self.frames.frame(1)) {
+            Some(at) => self.leave_next(at, room),
+            None => self.leave_elsewhere(code, room, out),
+        }
+    }
+
+    /// The top frame ends, and the one below it goes on at that place of its block, with the values in the room behind its variables,
+    /// where memory is found. Else nothing changes.
+    fn leave_next(&mut self, at: u32, room: &mut Room) -> bool
+        requires left { self.old.left ≡ true }
+        requires room { self.old.steps < self.old.budget }
+        requires below { 0 < length self.old.frames.below }
+        ensures made { result ≡ true → IfSome (slice_get self.old.frames.below 0) (λ f. answers (Went []) self.new ≡ went_on (record self.old { frames = record { top = stands f f.block at (f.vars ++ room.old.values.values); below = drop 1 self.old.frames.below }; objects = objects_end self.old.objects self.old.frames.top.objects })) }
+        ensures left { result ≡ false → self.new ≡ self.old }
+    {
+        let values = &room.values;
+        let Ok(objects) = self.frames.leave_to(at, values, &mut room.others) else {
+            return false;
+        };
+        end_objects(&mut self.heap, objects.as_slice());
+        self.count();
+        true
+    }
+
+    /// The top frame ends, and the one below it goes on at the destination of its instruction, or begins, with the values in the room,
+    /// where memory is found. Else nothing changes.
+    #[tactic(auto, using(crate::specs::ActLaws::returning))]
+    fn leave_elsewhere(&mut self, code: &Checked, room: &mut Room, out: &mut Slots) -> bool
         requires left { self.old.left ≡ true }
         requires room { self.old.steps < self.old.budget }
         requires below { 0 < length self.old.frames.below }

@@ -1,6 +1,8 @@
 // What a frame waits for while a function that it called stands above it.
-ghost use Rattle.std.specs.Prelude.{◌≡◌, ◌<◌, ◌∷◌, [], IsSome, Some, IfOk, OnOk, OnErr, length, option_map, slice_get};
+ghost use Rattle.std.specs.Prelude.{◌≡◌, ℕ, List, IsSome, None, Some, true, IfOk, OnOk, OnErr, option_map};
+ghost use Rattle.bundle_check.specs.Answers.{code_at};
 ghost use Rattle.bundle_check.specs.Checking.{bundle_tables};
+ghost use Rattle.frames.specs.Chains.{nothing_kept};
 ghost use Rattle.frames.specs.FrameOf.{frame_of, goal_of};
 ghost use Rattle.mu_model.specs.Types.{classes_given};
 ghost use Rattle.model_numbers.specs.Numbered.{optional_goal_at, kept_at};
@@ -14,7 +16,7 @@ use mu_values::{Passed, Slots};
 use std::alloc::{AllocError, Global};
 use std::marker::Model;
 use std::mem;
-use step_forms::{Variables, read_goal, read_kept};
+use step_forms::{Variables, copy_classes, read_goal, read_kept};
 
 /// What a frame waits for: the classes of what it is to be given, where an exception goes that comes, and what a client sees of it.
 #[derive(Drop)]
@@ -48,42 +50,12 @@ impl Wait {
     }
 }
 
-/// The classes of what a function gives.
-fn classes_given(alloc: Global, code: &Checked, function: u32) -> Result<Types, AllocError>
-    ensures { IfOk result (λ classes. classes.members ≡ classes_given (bundle_tables code.now) function) }
-{
-    let tables = code.tables();
-    let Some(number) = tables.functions.as_slice().get(function as usize) else {
-        return Ok(Types::new(alloc));
-    };
-    let Some(signature) = tables.signatures.as_slice().get(*number as usize) else {
-        return Ok(Types::new(alloc));
-    };
-    let classes = Vec::from_slice(alloc, signature.gives.as_slice())?;
-    Ok(Types::from_vec(classes))
-}
-
-fn class_at(classes: &[u32], n: usize) -> u32
-    requires { n < length classes.now }
-    ensures { slice_get classes.now n ≡ Some result }
-{
-    classes[n]
-}
-
-/// These classes, in place of what the list held. Where no memory is found some may be missing.
-#[tactic(auto, using(step_forms::specs::OperandLists::copies))]
-fn copy_classes(classes: &[u32], out: &mut Types) -> Result<(), AllocError>
-    ensures { OnOk result (out.new.members ≡ classes.now) }
-{
-    out.clear();
-    for n in 0..classes.len() {
-        out.push(class_at(classes, n))?;
-    }
-    Ok(())
-}
-
 /// The classes of what a function gives, in place of what the list held. Where no memory is found some may be missing.
-fn read_classes_given(code: &Checked, function: u32, out: &mut Types) -> Result<(), AllocError>
+pub(crate) fn read_classes_given(
+    code: &Checked,
+    function: u32,
+    out: &mut Types,
+) -> Result<(), AllocError>
     ensures { OnOk result (out.new.members ≡ classes_given (bundle_tables code.now) function) }
 {
     out.clear();
@@ -142,8 +114,8 @@ pub(crate) fn waiting(
     requires { IsSome (awaited code.now (frame_of frame.now) function) }
     ensures { IfOk result (λ w. awaited code.now (frame_of frame.now) function ≡ Some w) }
 {
-    let waits = classes_given(alloc, code, function)?;
-    waiting_for(alloc, code, frame, waits)
+    let mut waits = Types::new(alloc);
+    waiting_in(alloc, code, frame, function, &mut waits)
 }
 
 /// The same, with the room of that list for the classes. An empty list takes its place.
@@ -160,6 +132,18 @@ pub(crate) fn waiting_in(
     let mut waits = mem::replace(list, Types::new(alloc));
     read_classes_given(code, function, &mut waits)?;
     waiting_for(alloc, code, frame, waits)
+}
+
+/// Whether a frame that waits does so for values alone: its instruction has no exceptional destination, and keeps nothing for a client.
+pub(crate) fn waits_for_values(code: &Checked, frame: &Frame) -> bool
+    requires { IsSome (code_at code.now frame.now.block frame.now.at) }
+    ensures { result ≡ true → (classes : List ℕ) → awaits code.now (frame_of frame.now) classes ≡ Some (record { waits = classes; handler = None; kept = nothing_kept }) }
+{
+    let instruction = code.code(frame.block, frame.at);
+    match &instruction.exceptional {
+        None => instruction.keepalive.as_slice().is_empty(),
+        Some(_) => false,
+    }
 }
 
 /// What a frame waits for that is to be given values of these classes.

@@ -1,12 +1,11 @@
-use Rattle.std.proofs.Common.{◌∙◌, ap}
-use Rattle.frames.specs.Activations.{Activation}
-use Rattle.thread_acts.proofs.ActViews.{returns_there, returned_so}
+use Rattle.frames.specs.FrameOf.{frame_of}
+use Rattle.thread_acts.specs.ActLaws.{goes_on_there}
+use Rattle.thread_acts.proofs.ActViews.{returns_there, returned_next}
 use Rattle.thread_acts.proofs.state.State.leave_at_once.Goals as goal
 
-pub passing-requires : goal.passing-requires
-passing-requires g c = returns_there _ _ _ _ _ c.self.view_is c.requires.there c.frame.ensures
+pub next_place-requires : goal.next_place-requires
+next_place-requires g c = λ fresh. goes_on_there _ (frame_of c.frame.result.now) _ fresh (returns_there _ _ _ _ _ c.self.view_is c.requires.there c.frame.ensures)
 
-pub returns-clause-made : goal.returns-clause-made
-returns-clause-made g c = λ made.
-    returned_so _ _ _ _ _ _ _ _ _ _ _ _ _ _ c.self.view_is c.requires.there c.frame.ensures c.in-Ok.ensures c.leave_for.ensures c.end_objects.ensures.objects
-    (c.as_slice.ensures ∙ ap (λ (f : Activation). f.objects) c.top.ensures) c.end_objects.ensures.left c.stand.ensures c.count.ensures
+pub returns-in-Some-clause-made : goal.returns-in-Some-clause-made
+returns-in-Some-clause-made g c = λ made.
+    returned_next _ _ _ _ (frame_of c.frame.result.now) c.in-Some.at _ c.self.view_is c.requires.there c.frame.ensures (c.in-Some.ensures c.args.room.now.values.values) (c.leave_next.ensures.made made)
