@@ -36,7 +36,7 @@ pub struct Frame {
 }
 
 impl Frame {
-    /// It stands at a place of its block, with its variables, and waits for nothing.
+    /// It goes to that place of its block, with its variables as they are, and waits for nothing then; its objects stay.
     pub fn stand_at(&mut self, at: u32)
         ensures { frame_of self.new ≡ stands (frame_of self.old) self.old.block at self.old.slots.values }
     {
@@ -47,7 +47,7 @@ impl Frame {
         self.kept.clear();
     }
 
-    /// The same, with these results behind its variables. Its list has room for them.
+    /// The same, with these results behind its variables. Its list must have room for them.
     pub fn stand_behind(&mut self, at: u32, results: &Slots)
         requires { HasRoomFor self.old.slots results.now.values }
         ensures { frame_of self.new ≡ stands (frame_of self.old) self.old.block at (self.old.slots.values ++ results.now.values) }

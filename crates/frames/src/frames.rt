@@ -84,14 +84,16 @@ impl Frames {
         Ok(())
     }
 
-    /// Puts a frame on top. The one that was there waits for values of these classes then; it has no exceptional destination, and
-    /// keeps nothing for a client. The list of what it waited for before comes in exchange. It is refused for want of memory alone,
-    /// also where there would be 2^32 frames; then the frames are as they were.
+    /// Puts a frame on top. The one that was there waits for values of these classes then, has no exceptional destination, and keeps
+    /// nothing for a client; the list holds then what it waited for before. It is refused for want of memory alone, also where there
+    /// would be 2^32 frames; then the frames and the list are as they were, and the frame that was to enter is lost.
     #[tactic(auto, using(crate::proofs::Places::pushed))]
     pub fn enter_above(&mut self, frame: Frame, waits: &mut Types) -> Result<(), AllocError>
         ensures top { OnOk result (self.new.top ≡ frame_of frame) }
         ensures below { OnOk result (self.new.below ≡ record self.old.top { waits = waits.old.members; handler = None; kept = nothing_kept } ∷ self.old.below) }
+        ensures former { OnOk result (waits.new.members ≡ self.old.top.waits) }
         ensures same { OnErr result (self.new ≡ self.old) }
+        ensures same_list { OnErr result (waits.new.members ≡ waits.old.members) }
     {
         if self.below.len() == MOST_BELOW {
             return Err(AllocError);
@@ -105,8 +107,9 @@ impl Frames {
         Ok(())
     }
 
-    /// The top frame ends, and the one below it goes on at a place of its block, with these results behind its variables. The objects
-    /// of the frame that ended come back; its values, with their room, come in exchange. Where no memory is found nothing changes.
+    /// The top frame ends, and the one below it, which must be there, stands at that place of its block, with these results behind its
+    /// variables, and waits for nothing. The objects of the frame that ended are answered; the list holds its values then, with their
+    /// room. It is refused for want of memory alone; then nothing changes.
     #[tactic(auto, using(crate::proofs::Places::pushed))]
     pub fn leave_to(
         &mut self,
@@ -118,7 +121,9 @@ impl Frames {
         ensures objects { IfOk result (λ ids. ids.members ≡ self.old.top.objects) }
         ensures top { OnOk result (IfSome (slice_get self.old.below 0) (λ f. self.new.top ≡ stands f f.block at (f.vars ++ results.now.values))) }
         ensures below { OnOk result (self.new.below ≡ drop 1 self.old.below) }
+        ensures former { OnOk result (slots.new.values ≡ self.old.top.vars) }
         ensures same { OnErr result (self.new ≡ self.old) }
+        ensures same_list { OnErr result (slots.new.values ≡ slots.old.values) }
     {
         let Some(mut under) = self.below.pop() else {
             unreachable!();

@@ -100,7 +100,9 @@ fn gone(
     }
 }
 
-/// What a CALL or a RET does, with what it hands on in the room. It stays out of the way of the other instructions.
+/// What a CALL or a RET does, with the values that it hands on, and the classes of those of a RET, in the room. `Other` comes for every
+/// other instruction, for a CALL of NULL, and where no memory is found. It is not inlined, so that a step of another instruction does not
+/// carry its code.
 #[inline(never)]
 fn crossing(
     code: &Checked,
@@ -131,8 +133,8 @@ fn crossing(
     }
 }
 
-/// What the instruction at a place does, as `decide` tells it, where that is decided at once. The room is changed even where nothing is
-/// decided.
+/// What the instruction at a place does, as `decide` tells it, where that is decided at once. `Other` comes also where no memory is found;
+/// the room may be changed then, too.
 #[inline(always)]
 pub fn decide_at_once(
     code: &Checked,

@@ -59,7 +59,7 @@ pub(crate) fn arrive_at_one(
 
 /// BRANCH
 #[tactic(auto, using(crate::specs::OperandLaws::operands))]
-pub fn branch(
+pub(crate) fn branch(
     code: &Checked,
     vars: &Variables,
     target: &Target,
@@ -76,7 +76,7 @@ pub fn branch(
 
 /// BRANCH2
 #[tactic(auto, using(crate::specs::OperandLaws::operands))]
-pub fn branch2(
+pub(crate) fn branch2(
     code: &Checked,
     vars: &Variables,
     condition: Source,
@@ -106,7 +106,7 @@ pub(crate) fn is_equal(a: &Scalar, b: &Scalar) -> bool
 
 /// SWITCH. It looks at the cases in order, up to the first that is equal.
 #[tactic(auto, using(crate::specs::OperandLaws::operands))]
-pub fn switch(
+pub(crate) fn switch(
     code: &Checked,
     vars: &Variables,
     operand: Source,
@@ -128,7 +128,8 @@ pub fn switch(
     branch(code, vars, default, room)
 }
 
-/// The function that a CALL calls, with the values of its arguments in the list. None comes where the callee is NULL.
+/// The function that a CALL calls, with the values of its arguments in the list. None comes where the callee is NULL. Where no memory
+/// is found the list may have changed.
 #[tactic(auto, using(crate::specs::OperandLaws::functions))]
 pub(crate) fn called(
     code: &Checked,
@@ -167,7 +168,7 @@ pub(crate) fn call(
 
 /// TAILCALL
 #[tactic(auto, using(crate::specs::OperandLaws::functions))]
-pub fn tailcall(
+pub(crate) fn tailcall(
     code: &Checked,
     vars: &Variables,
     callee: Source,
@@ -185,7 +186,7 @@ pub fn tailcall(
     }
 }
 
-/// The values that a RET returns, and their classes, in the room.
+/// The values that a RET returns, and their classes, in the room. Where no memory is found the room may have changed.
 #[tactic(auto, using(crate::specs::OperandLaws::operands))]
 pub(crate) fn returned(
     code: &Checked,
@@ -218,7 +219,7 @@ pub(crate) fn ret(
 
 /// THROW
 #[tactic(auto, using(crate::specs::OperandLaws::operands))]
-pub fn throw(code: &Checked, vars: &Variables, exception: Source) -> Act
+pub(crate) fn throw(code: &Checked, vars: &Variables, exception: Source) -> Act
     requires { IsSome (throw_act (value_at code.now vars.now exception)) }
     ensures { (ls : Lists) → throw_act (value_at code.now vars.now exception) ≡ Some (asked result ls) }
 {

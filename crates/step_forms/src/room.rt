@@ -15,7 +15,8 @@ pub struct Room {
     pub types: Types,
     /// Values of operands of a second destination. Between steps it keeps the room of a frame that has ended for the next one.
     pub others: Slots,
-    /// The classes of values that a stack is left for, or that a client is asked for.
+    /// The classes of values that a stack is left for, that a client is asked for, or that a frame waits for which calls a function.
+    /// Between steps it keeps the room of such a list.
     pub waits: Types,
     /// The scalars of a value that is put together.
     pub scalars: Vec<Scalar>,

@@ -87,7 +87,7 @@ impl<M: Memory, C: Determined> State<M, C> {
     }
 
     /// The thread calls a function, with the values in the room, where that has a body and memory is found. Else the thread is as
-    /// before; the room may have changed.
+    /// before; the room may have changed. It is not inlined, so that a step of another instruction does not carry its code.
     #[tactic(auto, using(crate::specs::ActLaws::calling))]
     #[inline(never)]
     pub fn call_at_once(

@@ -1,6 +1,5 @@
 // Returns.
-ghost use Rattle.std.specs.Prelude.{◌≡◌, ◌≢◌, ◌<◌, [], ◌∷◌, ◌++◌, IsSome, IfSome, Some, IfOk, OnErr, drop, length, slice_get, true, false};
-ghost use Rattle.mu_values.specs.Slots.{TypedValues};
+ghost use Rattle.std.specs.Prelude.{◌≡◌, ◌≢◌, ◌<◌, [], ◌∷◌, ◌++◌, IfSome, Some, IfOk, OnErr, drop, length, slice_get, true, false};
 ghost use Rattle.frames.specs.Chains.{stands};
 ghost use Rattle.mu_model.specs.declared.lines.Line.TheVariants as noted;
 ghost use Rattle.mu_model.specs.declared.endings.StepEnd.TheVariants.{Went};
@@ -115,7 +114,7 @@ impl<M: Memory, C: Determined> State<M, C> {
     }
 
     /// The thread returns from its function to the frame below it, which goes on with the values in the room, where there is one and memory
-    /// is found. Else nothing changes.
+    /// is found. Else nothing changes. It is not inlined, so that a step of another instruction does not carry its code.
     #[tactic(auto, using(crate::specs::ActLaws::only_frame))]
     #[inline(never)]
     pub fn return_at_once(&mut self, code: &Checked, room: &mut Room, out: &mut Slots) -> bool

@@ -134,7 +134,8 @@ pub(crate) fn waiting_in(
     waiting_for(alloc, code, frame, waits)
 }
 
-/// Whether a frame that waits does so for values alone: its instruction has no exceptional destination, and keeps nothing for a client.
+/// Whether a frame that is to wait at its instruction does so for values alone: the instruction has no exceptional destination, and keeps
+/// nothing for a client.
 pub(crate) fn waits_for_values(code: &Checked, frame: &Frame) -> bool
     requires { IsSome (code_at code.now frame.now.block frame.now.at) }
     ensures { result ≡ true → (classes : List ℕ) → awaits code.now (frame_of frame.now) classes ≡ Some (record { waits = classes; handler = None; kept = nothing_kept }) }
