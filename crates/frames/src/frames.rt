@@ -87,6 +87,7 @@ impl Frames {
     /// Puts a frame on top. The one that was there waits for values of these classes then, has no exceptional destination, and keeps
     /// nothing for a client; the list holds then what it waited for before. It is refused for want of memory alone, also where there
     /// would be 2^32 frames; then the frames and the list are as they were, and the frame that was to enter is lost.
+    #[inline(always)]
     #[tactic(auto, using(crate::proofs::Places::pushed))]
     pub fn enter_above(&mut self, frame: Frame, waits: &mut Types) -> Result<(), AllocError>
         ensures top { OnOk result (self.new.top ≡ frame_of frame) }
@@ -99,10 +100,11 @@ impl Frames {
             return Err(AllocError);
         }
         self.below.reserve(1)?;
-        let mut under = mem::replace(&mut self.top, frame);
-        mem::swap(&mut under.waits, waits);
-        under.handler = None;
-        under.kept.clear();
+        // What changes is written before the frame is moved, so that it is moved once.
+        mem::swap(&mut self.top.waits, waits);
+        self.top.handler = None;
+        self.top.kept.clear();
+        let under = mem::replace(&mut self.top, frame);
         self.below.push_reserved(under);
         Ok(())
     }
@@ -110,6 +112,7 @@ impl Frames {
     /// The top frame ends, and the one below it, which must be there, stands at that place of its block, with these results behind its
     /// variables, and waits for nothing. The objects of the frame that ended are answered; the list holds its values then, with their
     /// room. It is refused for want of memory alone; then nothing changes.
+    #[inline(always)]
     #[tactic(auto, using(crate::proofs::Places::pushed))]
     pub fn leave_to(
         &mut self,
@@ -132,8 +135,8 @@ impl Frames {
             self.below.push_reserved(under);
             return Err(AllocError);
         }
-        under.stand_behind(at, results);
         let mut ended = mem::replace(&mut self.top, under);
+        self.top.stand_behind(at, results);
         mem::swap(&mut ended.slots, slots);
         Ok(ended.cells)
     }
