@@ -21,7 +21,7 @@ use client_hooks::Determined;
 use mem_axioms::Memory;
 use mu_model::StepEnd;
 use mu_values::Slots;
-use std::alloc::{AllocError, Global};
+use std::alloc::AllocError;
 use step_forms::{Act, Room, Variables, decide, forms_are_there};
 use thread_acts::making::Making;
 use thread_acts::state::State;
@@ -30,7 +30,6 @@ use thread_acts::state::State;
 #[tactic(auto, using(thread_acts::specs::ActLaws::goes_is))]
 fn perform<M: Memory, C: Determined>(
     state: &mut State<M, C>,
-    alloc: Global,
     code: &Checked,
     act: Act,
     room: &mut Room,
@@ -49,28 +48,28 @@ fn perform<M: Memory, C: Determined>(
 {
     let values = &mut room.values;
     match act {
-        Act::Gives(scalar) => state.give_scalar(alloc, code, scalar, values, out),
-        Act::GivesValues => state.give(alloc, code, values, out),
-        Act::Faults(case) => state.refuse(alloc, code, case, out),
-        Act::Goes { block } => Ok(state.go(alloc, block, values)),
-        Act::Calls { function } => state.call(alloc, code, function, room),
-        Act::Replaces { function } => Ok(state.call_in_place(alloc, code, function, values)),
-        Act::Returns => state.give_back(alloc, code, room, out),
-        Act::Throws(exception) => state.throw(alloc, code, exception, out),
-        Act::Casts { class, scalar } => state.cast(alloc, code, class, scalar, values, out),
-        Act::Finds { way, scalar } => state.find(alloc, code, way, scalar, values, out),
-        Act::Makes { class } => state.make(alloc, code, class, Making::Object, values, out),
+        Act::Gives(scalar) => state.give_scalar(code, scalar, values, out),
+        Act::GivesValues => state.give(code, values, out),
+        Act::Faults(case) => state.refuse(code, case, out),
+        Act::Goes { block } => Ok(state.go(block, values)),
+        Act::Calls { function } => state.call(code, function, room),
+        Act::Replaces { function } => Ok(state.call_in_place(code, function, values)),
+        Act::Returns => state.give_back(code, room, out),
+        Act::Throws(exception) => state.throw(code, exception, out),
+        Act::Casts { class, scalar } => state.cast(code, class, scalar, values, out),
+        Act::Finds { way, scalar } => state.find(code, way, scalar, values, out),
+        Act::Makes { class } => state.make(code, class, Making::Object, values, out),
         Act::MakesHybrid { class, many } => {
-            state.make(alloc, code, class, Making::Hybrid { many }, values, out)
+            state.make(code, class, Making::Hybrid { many }, values, out)
         }
-        Act::MakesOwn { class } => state.make(alloc, code, class, Making::Own, values, out),
-        Act::Accesses { access, cell } => state.access(alloc, code, access, cell, values, out),
-        Act::Fences(order) => state.fence(alloc, code, order, values, out),
+        Act::MakesOwn { class } => state.make(code, class, Making::Own, values, out),
+        Act::Accesses { access, cell } => state.access(code, access, cell, values, out),
+        Act::Fences(order) => state.fence(code, order, values, out),
         Act::Chooses {
             watchpoint,
             disabled,
             enabled,
-        } => Ok(choose(state, alloc, code, watchpoint, disabled, enabled, room)),
+        } => Ok(choose(state, code, watchpoint, disabled, enabled, room)),
         Act::Traps | Act::Watches { .. } => unreachable!(),
         Act::Swaps { .. }
         | Act::Leaves { .. }
@@ -82,14 +81,13 @@ fn perform<M: Memory, C: Determined>(
         | Act::SetsOwn(_)
         | Act::TellsOwn
         | Act::Waits { .. }
-        | Act::Wakes { .. } => perform_rare(state, alloc, code, act, room, out),
+        | Act::Wakes { .. } => perform_rare(state, code, act, room, out),
     }
 }
 
 /// The same of acts on stacks, threads and cells that threads wait at.
 fn perform_rare<M: Memory, C: Determined>(
     state: &mut State<M, C>,
-    alloc: Global,
     code: &Checked,
     act: Act,
     room: &mut Room,
@@ -105,29 +103,25 @@ fn perform_rare<M: Memory, C: Determined>(
     ensures stays { IfOk result (λ end. Stays end state.old state.new) }
 {
     match act {
-        Act::Swaps { stack, entering } => swap(state, alloc, code, stack, entering, room, out),
-        Act::Leaves { stack, entering } => {
-            leave_stack(state, alloc, code, stack, entering, room, out)
-        }
+        Act::Swaps { stack, entering } => swap(state, code, stack, entering, room, out),
+        Act::Leaves { stack, entering } => { leave_stack(state, code, stack, entering, room, out) }
         Act::Starts {
             stack,
             own,
             entering,
-        } => start_thread(state, alloc, code, stack, own, entering, room, out),
+        } => start_thread(state, code, stack, own, entering, room, out),
         Act::Waits {
             timed,
             expected,
             cell,
-        } => state.wait(alloc, code, timed, expected, cell, &mut room.values, out),
-        Act::Wakes { many, cell } => wake(state, alloc, code, many, cell, &mut room.values, out),
-        Act::MakesStack { function } => {
-            state.make_stack(alloc, code, function, &mut room.values, out)
-        }
-        Act::KillsStack { stack } => { state.kill_stack(alloc, code, stack, &mut room.values, out) }
-        Act::Tells => state.tell_stack(alloc, code, &mut room.values, out),
-        Act::Exits => state.exit(alloc, code),
-        Act::SetsOwn(own) => state.set_own(alloc, code, own, &mut room.values, out),
-        Act::TellsOwn => state.tell_own(alloc, code, &mut room.values, out),
+        } => state.wait(code, timed, expected, cell, &mut room.values, out),
+        Act::Wakes { many, cell } => wake(state, code, many, cell, &mut room.values, out),
+        Act::MakesStack { function } => { state.make_stack(code, function, &mut room.values, out) }
+        Act::KillsStack { stack } => { state.kill_stack(code, stack, &mut room.values, out) }
+        Act::Tells => state.tell_stack(code, &mut room.values, out),
+        Act::Exits => state.exit(code),
+        Act::SetsOwn(own) => state.set_own(code, own, &mut room.values, out),
+        Act::TellsOwn => state.tell_own(code, &mut room.values, out),
         _ => unreachable!(),
     }
 }
@@ -162,7 +156,6 @@ fn asks<M: Memory, C: Determined>(
 #[tactic(auto, using(thread_acts::specs::StepLaws::told_plain, thread_acts::specs::Hand::told_there, crate::specs::TrapLaws::trapped_asks, crate::specs::TrapLaws::trap_asks))]
 pub(crate) fn run<M: Memory, C: Determined>(
     state: &mut State<M, C>,
-    alloc: Global,
     code: &Checked,
     room: &mut Room,
     out: &mut Slots,
@@ -178,10 +171,8 @@ pub(crate) fn run<M: Memory, C: Determined>(
     let _items = code.items();
     widths_are_narrow();
     match asks(state, code, room)? {
-        Act::Traps => trap(state, alloc, code, None, room, out),
-        Act::Watches { watchpoint, block } => {
-            meet(state, alloc, code, watchpoint, block, room, out)
-        }
-        act => perform(state, alloc, code, act, room, out),
+        Act::Traps => trap(state, code, None, room, out),
+        Act::Watches { watchpoint, block } => { meet(state, code, watchpoint, block, room, out) }
+        act => perform(state, code, act, room, out),
     }
 }

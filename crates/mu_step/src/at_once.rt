@@ -17,7 +17,6 @@ use bundle_check::Checked;
 use client_hooks::Determined;
 use mem_axioms::Memory;
 use mu_values::Slots;
-use std::alloc::Global;
 use step_forms::{AtOnce, CaseRows, Room, Variables, decide_at_once};
 use thread_acts::state::State;
 
@@ -54,7 +53,6 @@ fn asks_at_once<M: Memory, C: Determined>(
 #[tactic(auto, using(crate::proofs::AtOnce::acting_at_once, thread_acts::specs::ActLaws::goes_is))]
 fn run_at_once<M: Memory, C: Determined>(
     state: &mut State<M, C>,
-    alloc: Global,
     code: &Checked,
     rows: &mut CaseRows,
     room: &mut Room,
@@ -75,7 +73,7 @@ fn run_at_once<M: Memory, C: Determined>(
             state.go_at_once(block, &mut room.values);
             true
         }
-        AtOnce::Calls { function } => state.call_at_once(alloc, code, function, room),
+        AtOnce::Calls { function } => state.call_at_once(code, function, room),
         AtOnce::Returns => state.return_at_once(code, room, out),
         AtOnce::Other => false,
     }
@@ -85,7 +83,6 @@ fn run_at_once<M: Memory, C: Determined>(
 #[tactic(auto, using(thread_acts::specs::Hand::waiting_hand, thread_acts::specs::Hand::told_there, thread_acts::specs::StepLaws::told_so))]
 fn turn_at_once<M: Memory, C: Determined>(
     state: &mut State<M, C>,
-    alloc: Global,
     code: &Checked,
     rows: &mut CaseRows,
     room: &mut Room,
@@ -101,14 +98,13 @@ fn turn_at_once<M: Memory, C: Determined>(
 {
     match state.seats.waiting(state.thread) {
         Some(_cell) => false,
-        None => run_at_once(state, alloc, code, rows, room, out),
+        None => run_at_once(state, code, rows, room, out),
     }
 }
 
 /// One step of the run is made at once, or the configuration stays.
 pub(crate) fn step_at_once<M: Memory, C: Determined>(
     state: &mut State<M, C>,
-    alloc: Global,
     code: &Checked,
     rows: &mut CaseRows,
     room: &mut Room,
@@ -127,7 +123,7 @@ pub(crate) fn step_at_once<M: Memory, C: Determined>(
         return false;
     }
     pick_thread(state, many);
-    let made = turn_at_once(state, alloc, code, rows, room, out);
+    let made = turn_at_once(state, code, rows, room, out);
     settle(state, made);
     made
 }

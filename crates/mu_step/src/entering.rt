@@ -24,7 +24,7 @@ use mu_model::{Case, Lines, StepEnd};
 use mu_values::{Scalar, Slots};
 use seats::Seats;
 use stacks::Entered;
-use std::alloc::{AllocError, Global};
+use std::alloc::AllocError;
 use std::marker::Brand;
 use std::sync::ledger::Blank;
 use step_forms::{Entering, Room};
@@ -58,7 +58,6 @@ pub(crate) fn look(
 #[tactic(auto, using(crate::specs::SwapLaws::swapping))]
 pub(crate) fn swap<M: Memory, C: Determined>(
     state: &mut State<M, C>,
-    alloc: Global,
     code: &Checked,
     stack: Scalar,
     entering: Entering,
@@ -74,18 +73,17 @@ pub(crate) fn swap<M: Memory, C: Determined>(
 {
     // Both tests come while the thread still has its stack, as a refusal is to leave all as it is.
     let Some(to) = state.ready_stack(stack) else {
-        return Ok(state.undefined(alloc, Case::StackNotReady));
+        return Ok(state.undefined(Case::StackNotReady));
     };
     match look(&state.seats, to, code, entering, room, out)? {
-        Found::Refused(case) => Ok(state.undefined(alloc, case)),
-        Found::Lands(arrival) => swap_to(state, alloc, code, to, arrival, entering, room, out),
+        Found::Refused(case) => Ok(state.undefined(case)),
+        Found::Lands(arrival) => swap_to(state, code, to, arrival, entering, room, out),
     }
 }
 
 /// The same, where the other stack is ready and goes on so, with the values in the list.
 fn swap_to<M: Memory, C: Determined>(
     state: &mut State<M, C>,
-    alloc: Global,
     code: &Checked,
     to: u32,
     arrival: Arrival,
@@ -103,10 +101,10 @@ fn swap_to<M: Memory, C: Determined>(
     ensures err { OnErr result (state.new ≡ state.old) }
     ensures stays { IfOk result (λ end. Stays end state.old state.new) }
 {
-    let waits = copied(alloc, &room.waits)?;
-    let again = copied(alloc, &room.waits)?;
-    let wait = waiting_for(alloc, code, state.frames.top(), again)?;
-    let handing = hand_over(alloc, entering, room)?;
+    let waits = copied(state.alloc, &room.waits)?;
+    let again = copied(state.alloc, &room.waits)?;
+    let wait = waiting_for(state.alloc, code, state.frames.top(), again)?;
+    let handing = hand_over(state.alloc, entering, room)?;
     let leave = Event {
         thread: state.thread,
         kind: Kind::Leave { stack: state.stack },
@@ -115,7 +113,7 @@ fn swap_to<M: Memory, C: Determined>(
         thread: state.thread,
         kind: Kind::Enter { stack: to },
     };
-    let lines = lines_of(alloc, state.events, leave, enter)?;
+    let lines = lines_of(state.alloc, state.events, leave, enter)?;
     move_to(state, lines, to, arrival, wait, waits, handing, room, out)
 }
 
@@ -174,7 +172,6 @@ pub(crate) fn move_to<M: Memory, C: Determined>(
 #[tactic(auto, using(crate::specs::SwapLaws::leaving_stack))]
 pub(crate) fn leave_stack<M: Memory, C: Determined>(
     state: &mut State<M, C>,
-    alloc: Global,
     code: &Checked,
     stack: Scalar,
     entering: Entering,
@@ -189,18 +186,17 @@ pub(crate) fn leave_stack<M: Memory, C: Determined>(
     ensures stays { IfOk result (λ end. Stays end state.old state.new) }
 {
     let Some(to) = state.ready_stack(stack) else {
-        return Ok(state.undefined(alloc, Case::StackNotReady));
+        return Ok(state.undefined(Case::StackNotReady));
     };
     match look(&state.seats, to, code, entering, room, out)? {
-        Found::Refused(case) => Ok(state.undefined(alloc, case)),
-        Found::Lands(arrival) => leave_for(state, alloc, code, to, arrival, entering, room, out),
+        Found::Refused(case) => Ok(state.undefined(case)),
+        Found::Lands(arrival) => leave_for(state, code, to, arrival, entering, room, out),
     }
 }
 
 /// The same, where the other stack is ready and goes on so, with the values in the list.
 fn leave_for<M: Memory, C: Determined>(
     state: &mut State<M, C>,
-    alloc: Global,
     code: &Checked,
     to: u32,
     arrival: Arrival,
@@ -218,15 +214,14 @@ fn leave_for<M: Memory, C: Determined>(
     ensures err { OnErr result (state.new ≡ state.old) }
     ensures stays { IfOk result (λ end. Stays end state.old state.new) }
 {
-    let handing = hand_over(alloc, entering, room)?;
-    die_to(state, alloc, to, arrival, handing, room, out)
+    let handing = hand_over(state.alloc, entering, room)?;
+    die_to(state, to, arrival, handing, room, out)
 }
 
 /// The thread's stack dies, and the thread moves to another one, which goes on so, with the values in the list. What is handed to
 /// that comes back to the room.
 fn die_to<M: Memory, C: Determined>(
     state: &mut State<M, C>,
-    alloc: Global,
     to: u32,
     arrival: Arrival,
     handing: Entered,
@@ -246,7 +241,7 @@ fn die_to<M: Memory, C: Determined>(
         thread: state.thread,
         kind: Kind::Enter { stack: to },
     };
-    let lines = line_of(alloc, state.events, enter)?;
+    let lines = line_of(state.alloc, state.events, enter)?;
     state.memory.reserve(state.thread, None, 1)?;
     let (ended, passed) = switch_ending(
         &mut state.seats,

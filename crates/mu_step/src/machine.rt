@@ -28,7 +28,6 @@ use typed_heap::Heap;
 /// bundle, the configuration that its run has come to, and whether the run's ending was told.
 #[derive(Drop)]
 pub struct Machine<'a, M: Memory, C: Determined> {
-    alloc: Global,
     code: &'a Checked,
     state: State<M, C>,
     rows: CaseRows<'a>,
@@ -77,7 +76,6 @@ impl<'a, M: Memory + Drop, C: Determined + Drop> Machine<'a, M, C> {
         programs_are_same();
         let state = State::start(alloc, code, entry, heap, memory, client, picks, budget)?;
         Ok(Machine {
-            alloc,
             code,
             state,
             rows: CaseRows::new(alloc, code),
@@ -104,7 +102,6 @@ impl<'a, M: Memory + Drop, C: Determined + Drop> Machine<'a, M, C> {
         let code = self.code;
         step_at_once(
             &mut self.state,
-            self.alloc,
             code,
             &mut self.rows,
             &mut self.room,
@@ -119,7 +116,7 @@ impl<'a, M: Memory + Drop, C: Determined + Drop> Machine<'a, M, C> {
         ensures new { self.new ≡ record self.old { ended = true } }
     {
         if self.ended {
-            StepEnd::Ended(Lines::new(self.alloc), ending)
+            StepEnd::Ended(Lines::new(self.state.alloc), ending)
         } else {
             self.ended = true;
             StepEnd::Ended(lines, ending)
@@ -141,13 +138,7 @@ impl<'a, M: Memory + Drop, C: Determined + Drop> Machine<'a, M, C> {
         let _items = self.code.items();
         programs_are_same();
         let code = self.code;
-        let made = step(
-            &mut self.state,
-            self.alloc,
-            code,
-            &mut self.room,
-            &mut self.spare,
-        );
+        let made = step(&mut self.state, code, &mut self.room, &mut self.spare);
         match made {
             Ok(StepEnd::Went(lines)) => Ok(StepEnd::Went(lines)),
             Ok(StepEnd::Ended(lines, ending)) => Ok(self.end(lines, ending)),

@@ -37,7 +37,6 @@ fn one(alloc: Global, scalar: Scalar) -> Result<Slots, AllocError>
 #[tactic(auto, using(crate::specs::StartLaws::starting))]
 pub(crate) fn start_thread<M: Memory, C: Determined>(
     state: &mut State<M, C>,
-    alloc: Global,
     code: &Checked,
     stack: Scalar,
     own: Scalar,
@@ -54,16 +53,15 @@ pub(crate) fn start_thread<M: Memory, C: Determined>(
 {
     if !state.seats.has_room() {
         let thread = state.thread;
-        return state.fault(alloc, code, Ending::ThreadsFull { thread }, out);
+        return state.fault(code, Ending::ThreadsFull { thread }, out);
     }
-    start_one(state, alloc, code, stack, own, entering, room, out)
+    start_one(state, code, stack, own, entering, room, out)
 }
 
 /// The same, where there is room for one more.
 #[tactic(auto, using(crate::specs::StartLaws::starting))]
 fn start_one<M: Memory, C: Determined>(
     state: &mut State<M, C>,
-    alloc: Global,
     code: &Checked,
     stack: Scalar,
     own: Scalar,
@@ -80,15 +78,13 @@ fn start_one<M: Memory, C: Determined>(
     ensures stays { IfOk result (λ end. Stays end state.old state.new) }
 {
     let Some(to) = state.ready_stack(stack) else {
-        return Ok(state.undefined(alloc, Case::StackNotReady));
+        return Ok(state.undefined(Case::StackNotReady));
     };
     match look(&state.seats, to, code, entering, room, out)? {
-        Found::Refused(case) => Ok(state.undefined(alloc, case)),
+        Found::Refused(case) => Ok(state.undefined(case)),
         Found::Lands(arrival) => {
             let number = state.seats.made();
-            start_on(
-                state, alloc, code, number, to, own, arrival, entering, room, out,
-            )
+            start_on(state, code, number, to, own, arrival, entering, room, out)
         }
     }
 }
@@ -97,7 +93,6 @@ fn start_one<M: Memory, C: Determined>(
 /// list.
 pub(crate) fn start_on<M: Memory, C: Determined>(
     state: &mut State<M, C>,
-    alloc: Global,
     code: &Checked,
     number: u32,
     to: u32,
@@ -119,18 +114,15 @@ pub(crate) fn start_on<M: Memory, C: Determined>(
     ensures err { OnErr result (state.new ≡ state.old) }
     ensures stays { IfOk result (λ end. Stays end state.old state.new) }
 {
-    let handing = hand_over(alloc, entering, room)?;
-    let results = one(alloc, Scalar::Thread(number))?;
+    let handing = hand_over(state.alloc, entering, room)?;
+    let results = one(state.alloc, Scalar::Thread(number))?;
     let place = passing(code, state.frames.top(), &results, &mut room.others)?;
-    begin(
-        state, alloc, number, to, own, arrival, place, handing, room, out,
-    )
+    begin(state, number, to, own, arrival, place, handing, room, out)
 }
 
 /// The same, where the thread goes on at that place, with the values of the room's second list.
 fn begin<M: Memory, C: Determined>(
     state: &mut State<M, C>,
-    alloc: Global,
     number: u32,
     to: u32,
     own: Scalar,
@@ -159,7 +151,7 @@ fn begin<M: Memory, C: Determined>(
         thread: number,
         kind: Kind::Enter { stack: to },
     };
-    let lines = lines_of(alloc, state.events, made, enter)?;
+    let lines = lines_of(state.alloc, state.events, made, enter)?;
     state.memory.reserve(state.thread, None, 2)?;
     stand(&mut state.frames, place, &mut room.others);
     let passed = switch_starting(

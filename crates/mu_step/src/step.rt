@@ -18,7 +18,7 @@ use client_hooks::Determined;
 use mem_axioms::Memory;
 use mu_model::{Ending, StepEnd};
 use mu_values::Slots;
-use std::alloc::{AllocError, Global};
+use std::alloc::AllocError;
 use step_forms::Room;
 use thread_acts::state::{State, ended};
 
@@ -91,19 +91,16 @@ pub(crate) fn settle<M: Memory, C: Determined>(state: &mut State<M, C>, made: bo
 
 /// No thread may make a step.
 #[tactic(auto, using(thread_acts::specs::Hand::done_so, thread_acts::specs::Hand::waits_so))]
-fn none_runs<M: Memory, C: Determined>(
-    state: &State<M, C>,
-    alloc: Global,
-) -> Result<StepEnd, AllocError>
+fn none_runs<M: Memory, C: Determined>(state: &State<M, C>) -> Result<StepEnd, AllocError>
     requires none { length (runnable_of state.now.seats) ≡ 0 }
     ensures ok { (bundle : List Item) (k : Client) → IfOk result (λ end. outcome_of end (configuration state.now) ≡ told bundle k (step (numbered bundle) (configuration state.now))) }
     ensures stays { IfOk result (λ end. Stays end (configuration state.now) (configuration state.now)) }
 {
-    let threads = state.seats.left(alloc)?;
+    let threads = state.seats.left(state.alloc)?;
     if threads.is_empty() {
-        Ok(ended(alloc, Ending::Done))
+        Ok(ended(state.alloc, Ending::Done))
     } else {
-        Ok(ended(alloc, Ending::AllWaiting { threads }))
+        Ok(ended(state.alloc, Ending::AllWaiting { threads }))
     }
 }
 
@@ -111,7 +108,6 @@ fn none_runs<M: Memory, C: Determined>(
 #[tactic(auto, using(thread_acts::specs::Hand::waiting_hand, thread_acts::specs::Hand::told_there, thread_acts::specs::StepLaws::told_plain))]
 fn turn<M: Memory, C: Determined>(
     state: &mut State<M, C>,
-    alloc: Global,
     code: &Checked,
     room: &mut Room,
     out: &mut Slots,
@@ -124,15 +120,14 @@ fn turn<M: Memory, C: Determined>(
     ensures stays { IfOk result (λ end. Stays end state.old state.new) }
 {
     match state.seats.waiting(state.thread) {
-        Some(cell) => state.time_out(alloc, code, cell, &mut room.values, out),
-        None => run(state, alloc, code, room, out),
+        Some(cell) => state.time_out(code, cell, &mut room.values, out),
+        None => run(state, code, room, out),
     }
 }
 
 /// The step of a thread that is picked.
 fn make_step<M: Memory, C: Determined>(
     state: &mut State<M, C>,
-    alloc: Global,
     code: &Checked,
     many: u32,
     room: &mut Room,
@@ -149,7 +144,7 @@ fn make_step<M: Memory, C: Determined>(
     ensures whole { state.new.skip ≡ 0 }
 {
     pick_thread(state, many);
-    let end = turn(state, alloc, code, room, out);
+    let end = turn(state, code, room, out);
     settle(state, is_made(&end));
     end
 }
@@ -158,7 +153,6 @@ fn make_step<M: Memory, C: Determined>(
 #[tactic(auto, using(thread_acts::specs::Hand::over_so))]
 pub(crate) fn step<M: Memory, C: Determined>(
     state: &mut State<M, C>,
-    alloc: Global,
     code: &Checked,
     room: &mut Room,
     out: &mut Slots,
@@ -172,11 +166,11 @@ pub(crate) fn step<M: Memory, C: Determined>(
 {
     let many = state.seats.runnable();
     if many == 0 {
-        return none_runs(state, alloc);
+        return none_runs(state);
     }
     let steps = state.steps;
     if steps < state.budget {
-        return make_step(state, alloc, code, many, room, out);
+        return make_step(state, code, many, room, out);
     }
-    Ok(ended(alloc, Ending::Budget { steps }))
+    Ok(ended(state.alloc, Ending::Budget { steps }))
 }

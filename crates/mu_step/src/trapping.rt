@@ -34,7 +34,7 @@ use client_hooks::{ClassedValue, Determined, End, Notes, Plan, TrapView, With};
 use mem_axioms::{Event, Kind, Memory};
 use mu_model::{Case, Ending, Line, Lines, Note, StepEnd};
 use mu_values::{Scalar, Slots};
-use std::alloc::{AllocError, Global};
+use std::alloc::AllocError;
 use std::marker::{Brand, Model};
 use std::sync::ledger::Blank;
 use step_forms::{Entering, Room};
@@ -90,7 +90,6 @@ fn trap_note<M: Memory, C: Determined>(state: &State<M, C>, watchpoint: Option<u
 #[tactic(auto, using(crate::specs::TrapLaws::asking))]
 pub(crate) fn trap<M: Memory, C: Determined>(
     state: &mut State<M, C>,
-    alloc: Global,
     code: &Checked,
     watchpoint: Option<u32>,
     room: &mut Room,
@@ -106,21 +105,20 @@ pub(crate) fn trap<M: Memory, C: Determined>(
     ensures stays { IfOk result (λ end. Stays end state.old state.new) }
 {
     let _items = code.items();
-    let asked = copied(alloc, &room.waits)?;
-    let awaited = copied(alloc, &room.waits)?;
-    let mut wait = waiting_for(alloc, code, state.frames.top(), awaited)?;
-    let view = TrapView::new(alloc, code.tables(), state.thread, watchpoint, asked)?;
+    let asked = copied(state.alloc, &room.waits)?;
+    let awaited = copied(state.alloc, &room.waits)?;
+    let mut wait = waiting_for(state.alloc, code, state.frames.top(), awaited)?;
+    let view = TrapView::new(state.alloc, code.tables(), state.thread, watchpoint, asked)?;
     let note = trap_note(state, watchpoint);
-    match consult(state, alloc, &view, &mut wait)? {
-        None => misuse(state, alloc, note),
-        Some(plan) => take(state, alloc, code, plan, note, wait, room, out),
+    match consult(state, &view, &mut wait)? {
+        None => misuse(state, note),
+        Some(plan) => take(state, code, plan, note, wait, room, out),
     }
 }
 
 /// The client's answer where the thread's top frame waits so; None is misuse. Nothing changes.
 fn consult<M: Memory, C: Determined>(
     state: &mut State<M, C>,
-    alloc: Global,
     view: &TrapView,
     wait: &mut Wait,
 ) -> Result<Option<Plan>, AllocError>
@@ -131,13 +129,13 @@ fn consult<M: Memory, C: Determined>(
     ensures same { state.new ≡ state.old }
     ensures wait { wait.new ≡ wait.old }
 {
-    let waits = copied(alloc, view.asked())?;
+    let waits = copied(state.alloc, view.asked())?;
     exchange_on_top(&mut state.frames, wait);
     state
         .seats
         .exchange(state.thread, state.stack, &mut state.frames);
     let answer = ask(
-        alloc,
+        state.alloc,
         &state.client,
         view,
         &mut state.seats,
@@ -153,11 +151,7 @@ fn consult<M: Memory, C: Determined>(
 }
 
 /// The answer is misuse: the run ends, and nothing of it is recorded.
-fn misuse<M: Memory, C: Determined>(
-    state: &State<M, C>,
-    alloc: Global,
-    note: Note,
-) -> Result<StepEnd, AllocError>
+fn misuse<M: Memory, C: Determined>(state: &State<M, C>, note: Note) -> Result<StepEnd, AllocError>
     ensures is { IfOk result (λ end. (s : Held) → answers end s ≡ outcomes.End (written.Event (length state.now.log) (event state.now.thread (kinds.Leave state.now.stack)) ∷ written.Note note ∷ []) (undefined_at state.now cases.ClientMisuse)) }
     ensures stays { IfOk result (λ end. Stays end state.now state.now) }
 {
@@ -165,7 +159,13 @@ fn misuse<M: Memory, C: Determined>(
         thread: state.thread,
         kind: Kind::Leave { stack: state.stack },
     };
-    let lines = trap_lines(alloc, state.events, leave, note, Notes::new(alloc))?;
+    let lines = trap_lines(
+        state.alloc,
+        state.events,
+        leave,
+        note,
+        Notes::new(state.alloc),
+    )?;
     Ok(StepEnd::Ended(lines, state.case_ending(Case::ClientMisuse)))
 }
 
@@ -173,7 +173,6 @@ fn misuse<M: Memory, C: Determined>(
 #[tactic(auto, using(crate::specs::TrapLaws::reply_stops))]
 fn take<M: Memory, C: Determined>(
     state: &mut State<M, C>,
-    alloc: Global,
     code: &Checked,
     plan: Plan,
     note: Note,
@@ -198,15 +197,15 @@ fn take<M: Memory, C: Determined>(
         kind: Kind::Leave { stack: state.stack },
     };
     let change = Change {
-        watched: state.watched.after(alloc, &watches)?,
-        lines: trap_lines(alloc, state.events, leave, note, notes)?,
+        watched: state.watched.after(state.alloc, &watches)?,
+        lines: trap_lines(state.alloc, state.events, leave, note, notes)?,
     };
     match end {
         End::Stop => Ok(StepEnd::Ended(change.lines, Ending::Stop)),
-        End::Exit => exit_ready(state, alloc, code, wait, change),
-        End::Resume(with) => resume(state, alloc, code, with, wait, change, room, out),
+        End::Exit => exit_ready(state, code, wait, change),
+        End::Resume(with) => resume(state, code, with, wait, change, room, out),
         End::Rebind { target, with } => {
-            rebind(state, alloc, code, target, with, wait, change, room, out)
+            rebind(state, code, target, with, wait, change, room, out)
         }
     }
 }
@@ -214,7 +213,6 @@ fn take<M: Memory, C: Determined>(
 /// The thread ends, and its stack stays ready.
 fn exit_ready<M: Memory, C: Determined>(
     state: &mut State<M, C>,
-    alloc: Global,
     code: &Checked,
     mut wait: Wait,
     change: Change,
@@ -227,7 +225,7 @@ fn exit_ready<M: Memory, C: Determined>(
     ensures stays { IfOk result (λ end. Stays end state.old state.new) }
 {
     let thread = state.thread;
-    let waits = copied(alloc, wait.waits())?;
+    let waits = copied(state.alloc, wait.waits())?;
     let mut lines = change.lines;
     lines.push(Line::Note(Note::Exited { thread }))?;
     state.memory.reserve(thread, None, 1)?;
@@ -251,7 +249,6 @@ fn exit_ready<M: Memory, C: Determined>(
 #[tactic(auto, using(crate::specs::TrapLaws::resuming))]
 fn resume<M: Memory, C: Determined>(
     state: &mut State<M, C>,
-    alloc: Global,
     code: &Checked,
     with: With,
     mut wait: Wait,
@@ -340,7 +337,6 @@ fn resume_at<M: Memory, C: Determined>(
 #[tactic(auto, using(crate::specs::TrapLaws::rebinding))]
 fn rebind<M: Memory, C: Determined>(
     state: &mut State<M, C>,
-    alloc: Global,
     code: &Checked,
     stack: ClassedValue,
     with: With,
@@ -358,7 +354,7 @@ fn rebind<M: Memory, C: Determined>(
 {
     let scalar = target(&stack);
     if names(scalar, state.stack) {
-        return resume(state, alloc, code, with, wait, change, room, out);
+        return resume(state, code, with, wait, change, room, out);
     }
     let entering = bring(code, with, room);
     let Some(to) = state.ready_stack(scalar) else {
@@ -368,9 +364,7 @@ fn rebind<M: Memory, C: Determined>(
     match look(&state.seats, to, code, entering, room, out)? {
         Found::Refused(case) => Ok(StepEnd::Ended(change.lines, state.case_ending(case))),
         Found::Lands(arrival) => {
-            rebind_to(
-                state, alloc, code, to, arrival, entering, wait, change, room, out,
-            )
+            rebind_to(state, code, to, arrival, entering, wait, change, room, out)
         }
     }
 }
@@ -378,7 +372,6 @@ fn rebind<M: Memory, C: Determined>(
 /// The same, where another stack is ready and goes on so, with the values in the list.
 fn rebind_to<M: Memory, C: Determined>(
     state: &mut State<M, C>,
-    alloc: Global,
     code: &Checked,
     to: u32,
     arrival: Arrival,
@@ -398,8 +391,8 @@ fn rebind_to<M: Memory, C: Determined>(
     ensures err { OnErr result (state.new ≡ state.old) }
     ensures stays { IfOk result (λ end. Stays end state.old state.new) }
 {
-    let waits = copied(alloc, wait.waits())?;
-    let handing = hand_over(alloc, entering, room)?;
+    let waits = copied(state.alloc, wait.waits())?;
+    let handing = hand_over(state.alloc, entering, room)?;
     let mut lines = change.lines;
     let enter = Event {
         thread: state.thread,
@@ -419,7 +412,6 @@ fn rebind_to<M: Memory, C: Determined>(
 #[tactic(auto, using(crate::specs::TrapLaws::meeting))]
 pub(crate) fn meet<M: Memory, C: Determined>(
     state: &mut State<M, C>,
-    alloc: Global,
     code: &Checked,
     watchpoint: u32,
     block: u32,
@@ -436,9 +428,9 @@ pub(crate) fn meet<M: Memory, C: Determined>(
     ensures stays { IfOk result (λ end. Stays end state.old state.new) }
 {
     if state.watched.contains(watchpoint) {
-        trap(state, alloc, code, Some(watchpoint), room, out)
+        trap(state, code, Some(watchpoint), room, out)
     } else {
-        Ok(state.go(alloc, block, &mut room.values))
+        Ok(state.go(block, &mut room.values))
     }
 }
 
@@ -446,7 +438,6 @@ pub(crate) fn meet<M: Memory, C: Determined>(
 #[tactic(auto, using(crate::specs::TrapLaws::choosing))]
 pub(crate) fn choose<M: Memory, C: Determined>(
     state: &mut State<M, C>,
-    alloc: Global,
     code: &Checked,
     watchpoint: u32,
     disabled: u32,
@@ -460,8 +451,8 @@ pub(crate) fn choose<M: Memory, C: Determined>(
     ensures end { Stays result state.old state.new }
 {
     if state.watched.contains(watchpoint) {
-        state.go(alloc, enabled, &mut room.others)
+        state.go(enabled, &mut room.others)
     } else {
-        state.go(alloc, disabled, &mut room.values)
+        state.go(disabled, &mut room.values)
     }
 }

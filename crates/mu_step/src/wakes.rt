@@ -205,7 +205,6 @@ fn wake_lines(
 /// The thread wakes those that have waited at a cell longest, so many at most, and goes on with how many they are.
 pub(crate) fn wake<M: Memory, C: Determined>(
     state: &mut State<M, C>,
-    alloc: Global,
     code: &Checked,
     many: u32,
     cell: CellId,
@@ -228,16 +227,15 @@ pub(crate) fn wake<M: Memory, C: Determined>(
     match state.heap.cell_of(place) {
         Ok(cell) => {
             let _cells = state.heap.size(cell.object);
-            wake_at(state, alloc, code, many, cell, values, out)
+            wake_at(state, code, many, cell, values, out)
         }
-        Err(fault) => state.refuse(alloc, code, case_of(fault), out),
+        Err(fault) => state.refuse(code, case_of(fault), out),
     }
 }
 
 /// The same at a cell that is there.
 fn wake_at<M: Memory, C: Determined>(
     state: &mut State<M, C>,
-    alloc: Global,
     code: &Checked,
     many: u32,
     cell: CellId,
@@ -257,11 +255,17 @@ fn wake_at<M: Memory, C: Determined>(
     let waking = state.seats.waking(cell, many);
     let woken = waking.as_slice();
     let count = waking.count();
-    let lines = wake_lines(alloc, state.thread, cell, state.events, woken)?;
+    let lines = wake_lines(state.alloc, state.thread, cell, state.events, woken)?;
     tell(count as u128, values)?;
     let place = passing(code, state.frames.top(), values, out)?;
     state.memory.reserve(state.thread, None, count + 1)?;
-    go_on_all(alloc, code, &mut state.seats, &mut state.frames, woken)?;
+    go_on_all(
+        state.alloc,
+        code,
+        &mut state.seats,
+        &mut state.frames,
+        woken,
+    )?;
     let _gone = state.seats.wake(cell, many);
     log_wake(&mut state.memory, state.thread, cell, state.events, woken);
     stand(&mut state.frames, place, out);

@@ -282,7 +282,6 @@ impl<M: Memory, C: Determined> State<M, C> {
     #[tactic(auto, using(crate::specs::AccessLaws::accessing))]
     pub fn access(
         &mut self,
-        alloc: Global,
         code: &Checked,
         access: Access,
         cell: CellId,
@@ -304,16 +303,15 @@ impl<M: Memory, C: Determined> State<M, C> {
         match self.heap.cell_of(place) {
             Ok(cell) => {
                 let _cells = self.heap.size(cell.object);
-                self.access_cell(alloc, code, access, cell, values, out)
+                self.access_cell(code, access, cell, values, out)
             }
-            Err(fault) => self.refuse(alloc, code, case_of(fault), out),
+            Err(fault) => self.refuse(code, case_of(fault), out),
         }
     }
 
     /// The thread accesses a cell that is there.
     fn access_cell(
         &mut self,
-        alloc: Global,
         code: &Checked,
         access: Access,
         cell: CellId,
@@ -343,10 +341,10 @@ impl<M: Memory, C: Determined> State<M, C> {
         };
         write_results(access, chosen, values)?;
         match next_place(code, self.frames.top()) {
-            Some(at) => self.log_next(alloc, event, Some(cell), options, at, values),
+            Some(at) => self.log_next(event, Some(cell), options, at, values),
             None => {
                 let place = passing(code, self.frames.top(), values, out)?;
-                self.log(alloc, event, Some(cell), options, place, out)
+                self.log(event, Some(cell), options, place, out)
             }
         }
     }
@@ -373,7 +371,6 @@ impl<M: Memory, C: Determined> State<M, C> {
     /// changed.
     pub(crate) fn log(
         &mut self,
-        alloc: Global,
         event: Event,
         cell: Option<CellId>,
         options: u32,
@@ -390,10 +387,10 @@ impl<M: Memory, C: Determined> State<M, C> {
         ensures err { OnErr result (self.new ≡ self.old) }
         ensures stays { IfOk result (λ end. Stays end self.old self.new) }
     {
-        let lines = line_of(alloc, self.events, event)?;
+        let lines = line_of(self.alloc, self.events, event)?;
         self.memory.reserve(self.thread, cell, 1)?;
         match commit::<M, Brand>(&mut self.memory, event, Blank::new(1)) {
-            Some(race) => Ok(ended(alloc, self.race_ending(event, race))),
+            Some(race) => Ok(ended(self.alloc, self.race_ending(event, race))),
             None => {
                 stand(&mut self.frames, place, out);
                 take_picks(&mut self.picks, &mut self.skip, options);
@@ -408,7 +405,6 @@ impl<M: Memory, C: Determined> State<M, C> {
     /// many options is taken. Where the event races that is the ending. Where no memory is found nothing changes.
     fn log_next(
         &mut self,
-        alloc: Global,
         event: Event,
         cell: Option<CellId>,
         options: u32,
@@ -425,7 +421,7 @@ impl<M: Memory, C: Determined> State<M, C> {
         ensures err { OnErr result (self.new ≡ self.old) }
         ensures stays { IfOk result (λ end. Stays end self.old self.new) }
     {
-        let lines = line_of(alloc, self.events, event)?;
+        let lines = line_of(self.alloc, self.events, event)?;
         self.memory.reserve(self.thread, cell, 1)?;
         match commit_next::<M, Brand>(
             &mut self.memory,
@@ -436,7 +432,7 @@ impl<M: Memory, C: Determined> State<M, C> {
             Blank::new(1),
         ) {
             Err(refused) => Err(refused),
-            Ok(Some(race)) => Ok(ended(alloc, self.race_ending(event, race))),
+            Ok(Some(race)) => Ok(ended(self.alloc, self.race_ending(event, race))),
             Ok(None) => {
                 take_picks(&mut self.picks, &mut self.skip, options);
                 self.events += 1;
@@ -449,7 +445,6 @@ impl<M: Memory, C: Determined> State<M, C> {
     /// The thread passes a fence.
     pub fn fence(
         &mut self,
-        alloc: Global,
         code: &Checked,
         order: Order,
         values: &mut Slots,
@@ -468,10 +463,10 @@ impl<M: Memory, C: Determined> State<M, C> {
         };
         values.clear();
         match next_place(code, self.frames.top()) {
-            Some(at) => self.log_next(alloc, event, None, 1, at, values),
+            Some(at) => self.log_next(event, None, 1, at, values),
             None => {
                 let place = passing(code, self.frames.top(), values, out)?;
-                self.log(alloc, event, None, 1, place, out)
+                self.log(event, None, 1, place, out)
             }
         }
     }

@@ -46,7 +46,6 @@ impl<M: Memory, C: Determined> State<M, C> {
     #[tactic(auto, using(crate::specs::ActLaws::calling))]
     pub fn call(
         &mut self,
-        alloc: Global,
         code: &Checked,
         function: u32,
         room: &mut Room,
@@ -59,15 +58,14 @@ impl<M: Memory, C: Determined> State<M, C> {
         ensures stays { IfOk result (λ end. Stays end self.old self.new) }
     {
         match code.function(function).first {
-            None => Ok(self.undefined(alloc, Case::NoBody)),
-            Some(block) => self.call_at(alloc, code, function, block, room),
+            None => Ok(self.undefined(Case::NoBody)),
+            Some(block) => self.call_at(code, function, block, room),
         }
     }
 
     /// The thread calls a function with that first block.
     fn call_at(
         &mut self,
-        alloc: Global,
         code: &Checked,
         function: u32,
         block: u32,
@@ -80,23 +78,21 @@ impl<M: Memory, C: Determined> State<M, C> {
         ensures err { OnErr result (self.new ≡ self.old) }
         ensures stays { IfOk result (λ end. Stays end self.old self.new) }
     {
-        let waiting = waiting(alloc, code, self.frames.top(), function)?;
-        let values = values_out(alloc, room);
-        enter(&mut self.frames, entered(alloc, block, values), waiting)?;
-        Ok(self.went(alloc))
+        let waiting = waiting(self.alloc, code, self.frames.top(), function)?;
+        let values = values_out(self.alloc, room);
+        enter(
+            &mut self.frames,
+            entered(self.alloc, block, values),
+            waiting,
+        )?;
+        Ok(self.went())
     }
 
     /// The thread calls a function, with the values in the room, where that has a body and memory is found. Else the thread is as
     /// before; the room may have changed. It is not inlined, so that a step of another instruction does not carry its code.
     #[tactic(auto, using(crate::specs::ActLaws::calling))]
     #[inline(never)]
-    pub fn call_at_once(
-        &mut self,
-        alloc: Global,
-        code: &Checked,
-        function: u32,
-        room: &mut Room,
-    ) -> bool
+    pub fn call_at_once(&mut self, code: &Checked, function: u32, room: &mut Room) -> bool
         requires left { self.old.left ≡ true }
         requires room { self.old.steps < self.old.budget }
         requires there { acting code.now self.old (acts.Calls function room.old.values.values) ≢ Stuck }
@@ -105,21 +101,14 @@ impl<M: Memory, C: Determined> State<M, C> {
     {
         match code.function(function).first {
             None => false,
-            Some(block) => self.enter_at_once(alloc, code, function, block, room),
+            Some(block) => self.enter_at_once(code, function, block, room),
         }
     }
 
     /// The thread calls a function with that first block, where memory is found. Else the thread is as before; the room may have
     /// changed.
     #[tactic(auto, using(crate::specs::ActLaws::plain))]
-    fn enter_at_once(
-        &mut self,
-        alloc: Global,
-        code: &Checked,
-        function: u32,
-        block: u32,
-        room: &mut Room,
-    ) -> bool
+    fn enter_at_once(&mut self, code: &Checked, function: u32, block: u32, room: &mut Room) -> bool
         requires left { self.old.left ≡ true }
         requires room { self.old.steps < self.old.budget }
         requires there { IsSome (awaited code.now self.old.frames.top function) }
@@ -127,16 +116,15 @@ impl<M: Memory, C: Determined> State<M, C> {
         ensures left { result ≡ false → self.new ≡ self.old }
     {
         if waits_for_values(code, self.frames.top()) {
-            self.enter_for_values(alloc, code, function, block, room)
+            self.enter_for_values(code, function, block, room)
         } else {
-            self.enter_waiting(alloc, code, function, block, room)
+            self.enter_waiting(code, function, block, room)
         }
     }
 
     /// The same, where the frame that calls waits for values alone.
     fn enter_for_values(
         &mut self,
-        alloc: Global,
         code: &Checked,
         function: u32,
         block: u32,
@@ -147,11 +135,11 @@ impl<M: Memory, C: Determined> State<M, C> {
         ensures made { result ≡ true → answers (Went []) self.new ≡ went_on (record self.old { frames = entered_above self.old.frames (entered block room.old.values.values) (record { waits = classes_given (bundle_tables code.now) function; handler = None; kept = nothing_kept }) }) }
         ensures left { result ≡ false → self.new ≡ self.old }
     {
-        let values = values_out(alloc, room);
+        let values = values_out(self.alloc, room);
         let Ok(()) = read_classes_given(code, function, &mut room.waits) else {
             return false;
         };
-        let frame = entered(alloc, block, values);
+        let frame = entered(self.alloc, block, values);
         let Ok(()) = self.frames.enter_above(frame, &mut room.waits) else {
             return false;
         };
@@ -160,14 +148,7 @@ impl<M: Memory, C: Determined> State<M, C> {
     }
 
     /// The same, whatever it waits for.
-    fn enter_waiting(
-        &mut self,
-        alloc: Global,
-        code: &Checked,
-        function: u32,
-        block: u32,
-        room: &mut Room,
-    ) -> bool
+    fn enter_waiting(&mut self, code: &Checked, function: u32, block: u32, room: &mut Room) -> bool
         requires left { self.old.left ≡ true }
         requires room { self.old.steps < self.old.budget }
         requires there { IsSome (awaited code.now self.old.frames.top function) }
@@ -175,11 +156,11 @@ impl<M: Memory, C: Determined> State<M, C> {
         ensures left { result ≡ false → self.new ≡ self.old }
     {
         let top = self.frames.top();
-        let Ok(mut waiting) = waiting_in(alloc, code, top, function, &mut room.waits) else {
+        let Ok(mut waiting) = waiting_in(self.alloc, code, top, function, &mut room.waits) else {
             return false;
         };
-        let values = values_out(alloc, room);
-        let frame = entered(alloc, block, values);
+        let values = values_out(self.alloc, room);
+        let frame = entered(self.alloc, block, values);
         if enter_for(&mut self.frames, frame, &mut waiting).is_err() {
             return false;
         }
@@ -190,13 +171,7 @@ impl<M: Memory, C: Determined> State<M, C> {
 
     /// The thread calls a function in place of its top frame.
     #[tactic(auto, using(crate::specs::ActLaws::replacing))]
-    pub fn call_in_place(
-        &mut self,
-        alloc: Global,
-        code: &Checked,
-        function: u32,
-        values: &mut Slots,
-    ) -> StepEnd
+    pub fn call_in_place(&mut self, code: &Checked, function: u32, values: &mut Slots) -> StepEnd
         requires left { self.old.left ≡ true }
         requires room { self.old.steps < self.old.budget }
         requires there { acting code.now self.old (acts.Replaces function values.old.values) ≢ Stuck }
@@ -204,13 +179,13 @@ impl<M: Memory, C: Determined> State<M, C> {
         ensures end { Stays result self.old self.new }
     {
         match code.function(function).first {
-            None => self.undefined(alloc, Case::NoBody),
-            Some(block) => self.replace_at(alloc, block, values),
+            None => self.undefined(Case::NoBody),
+            Some(block) => self.replace_at(block, values),
         }
     }
 
     /// The top frame ends, and that of a function with that first block stands in its place.
-    fn replace_at(&mut self, alloc: Global, block: u32, values: &mut Slots) -> StepEnd
+    fn replace_at(&mut self, block: u32, values: &mut Slots) -> StepEnd
         requires left { self.old.left ≡ true }
         requires room { self.old.steps < self.old.budget }
         ensures on { answers result self.new ≡ went_on (record self.old { frames = record self.old.frames { top = entered block values.old.values }; objects = objects_end self.old.objects self.old.frames.top.objects }) }
@@ -218,6 +193,6 @@ impl<M: Memory, C: Determined> State<M, C> {
     {
         end_objects(&mut self.heap, self.frames.top().cells.as_slice());
         replace_top(&mut self.frames, block, values);
-        self.went(alloc)
+        self.went()
     }
 }

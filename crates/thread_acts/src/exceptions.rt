@@ -19,7 +19,7 @@ use frames::{Frame, Unwound};
 use mem_axioms::Memory;
 use mu_model::{Case, Ending, StepEnd};
 use mu_values::{Scalar, Slots};
-use std::alloc::{AllocError, Global};
+use std::alloc::AllocError;
 use step_forms::{Variables, read_goal};
 
 /// Whether the case is a fault, for which an instruction may have an exceptional destination.
@@ -77,7 +77,6 @@ impl<M: Memory, C: Determined> State<M, C> {
     #[tactic(auto, using(crate::specs::ActLaws::refusals))]
     pub fn refuse(
         &mut self,
-        alloc: Global,
         code: &Checked,
         case: Case,
         out: &mut Slots,
@@ -90,9 +89,9 @@ impl<M: Memory, C: Determined> State<M, C> {
         ensures stays { IfOk result (λ end. Stays end self.old self.new) }
     {
         if is_fault(case) {
-            self.fault(alloc, code, self.case_ending(case), out)
+            self.fault(code, self.case_ending(case), out)
         } else {
-            Ok(self.undefined(alloc, case))
+            Ok(self.undefined(case))
         }
     }
 
@@ -100,7 +99,6 @@ impl<M: Memory, C: Determined> State<M, C> {
     #[tactic(auto, using(crate::specs::ActLaws::faults))]
     pub fn fault(
         &mut self,
-        alloc: Global,
         code: &Checked,
         ending: Ending,
         out: &mut Slots,
@@ -114,11 +112,11 @@ impl<M: Memory, C: Determined> State<M, C> {
     {
         let top = self.frames.top();
         match &code.code(top.block, top.at).exceptional {
-            None => Ok(ended(alloc, ending)),
+            None => Ok(ended(self.alloc, ending)),
             Some(target) => {
                 read_goal(code, &Variables::of(&top.slots), target, out)?;
                 add_exception(code, target.block, Scalar::Null, out)?;
-                Ok(self.go(alloc, target.block, out))
+                Ok(self.go(target.block, out))
             }
         }
     }
@@ -127,7 +125,6 @@ impl<M: Memory, C: Determined> State<M, C> {
     #[tactic(auto, using(crate::specs::ActLaws::throw_uncaught))]
     pub fn throw(
         &mut self,
-        alloc: Global,
         code: &Checked,
         exception: Scalar,
         out: &mut Slots,
@@ -140,8 +137,8 @@ impl<M: Memory, C: Determined> State<M, C> {
         ensures stays { IfOk result (λ end. Stays end self.old self.new) }
     {
         match self.frames.unwind() {
-            Unwound::Uncaught => Ok(self.undefined(alloc, Case::Uncaught)),
-            Unwound::Caught(n) => self.catch(alloc, code, n, exception, out),
+            Unwound::Uncaught => Ok(self.undefined(Case::Uncaught)),
+            Unwound::Caught(n) => self.catch(code, n, exception, out),
         }
     }
 
@@ -149,7 +146,6 @@ impl<M: Memory, C: Determined> State<M, C> {
     #[tactic(auto, using(crate::specs::ActLaws::throwing))]
     fn catch(
         &mut self,
-        alloc: Global,
         code: &Checked,
         n: u32,
         exception: Scalar,
@@ -166,6 +162,6 @@ impl<M: Memory, C: Determined> State<M, C> {
         let block = handler_goal(self.frames.frame(n), out)?;
         add_exception(code, block, exception, out)?;
         leave_frames(&mut self.frames, &mut self.heap, n);
-        Ok(self.go(alloc, block, out))
+        Ok(self.go(block, out))
     }
 }

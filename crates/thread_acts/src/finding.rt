@@ -21,7 +21,7 @@ use mem_axioms::Memory;
 use mu_model::{Case, StepEnd};
 use mu_types::TypeDef;
 use mu_values::{Scalar, Slots};
-use std::alloc::{AllocError, Global};
+use std::alloc::AllocError;
 use step_forms::Way;
 use typed_heap::{Heap, PlaceFault};
 
@@ -88,7 +88,6 @@ impl<M: Memory, C: Determined> State<M, C> {
     /// The thread's instruction has what was found for its result, or meets the case of the fault.
     fn tell(
         &mut self,
-        alloc: Global,
         code: &Checked,
         found: Result<Scalar, PlaceFault>,
         values: &mut Slots,
@@ -102,8 +101,8 @@ impl<M: Memory, C: Determined> State<M, C> {
         ensures stays { IfOk result (λ end. Stays end self.old self.new) }
     {
         match found {
-            Ok(scalar) => self.give_scalar(alloc, code, scalar, values, out),
-            Err(fault) => self.refuse(alloc, code, case_of(fault), out),
+            Ok(scalar) => self.give_scalar(code, scalar, values, out),
+            Err(fault) => self.refuse(code, case_of(fault), out),
         }
     }
 
@@ -111,7 +110,6 @@ impl<M: Memory, C: Determined> State<M, C> {
     #[tactic(auto, using(crate::specs::ObjectLaws::finding))]
     pub fn find(
         &mut self,
-        alloc: Global,
         code: &Checked,
         way: Way,
         scalar: Scalar,
@@ -127,14 +125,13 @@ impl<M: Memory, C: Determined> State<M, C> {
         ensures stays { IfOk result (λ end. Stays end self.old self.new) }
     {
         let found = found(&self.heap, code, way, scalar);
-        self.tell(alloc, code, found, values, out)
+        self.tell(code, found, values, out)
     }
 
     /// The thread casts a reference to a class.
     #[tactic(auto, using(crate::specs::ObjectLaws::casting))]
     pub fn cast(
         &mut self,
-        alloc: Global,
         code: &Checked,
         class: u32,
         scalar: Scalar,
@@ -150,6 +147,6 @@ impl<M: Memory, C: Determined> State<M, C> {
         ensures stays { IfOk result (λ end. Stays end self.old self.new) }
     {
         let cast = cast(&self.heap, code, class, scalar);
-        self.tell(alloc, code, cast, values, out)
+        self.tell(code, cast, values, out)
     }
 }

@@ -30,7 +30,7 @@ use mem_axioms::{Chosen, Event, Memory, Wanted};
 use mu_base::{Order, Steps};
 use mu_model::{Note, StepEnd};
 use mu_values::{Scalar, Slots};
-use std::alloc::{AllocError, Global};
+use std::alloc::AllocError;
 use std::marker::Brand;
 use std::sync::ledger::{Blank, Ledger};
 use typed_heap::what_is_found_fits;
@@ -72,7 +72,6 @@ impl<M: Memory, C: Determined> State<M, C> {
     #[tactic(auto, using(crate::specs::FutexLaws::fewer_sound))]
     pub fn time_out(
         &mut self,
-        alloc: Global,
         code: &Checked,
         cell: CellId,
         values: &mut Slots,
@@ -87,7 +86,7 @@ impl<M: Memory, C: Determined> State<M, C> {
         ensures stays { IfOk result (λ end. Stays end self.old self.new) }
     {
         let thread = self.thread;
-        let lines = line(alloc, Note::TimedOut { thread, cell })?;
+        let lines = line(self.alloc, Note::TimedOut { thread, cell })?;
         tell(OVER, values)?;
         let place = passing(code, self.frames.top(), values, out)?;
         self.seats.stop(thread);
@@ -99,7 +98,6 @@ impl<M: Memory, C: Determined> State<M, C> {
     /// The thread waits at a cell where that holds the expected value; else it goes on.
     pub fn wait(
         &mut self,
-        alloc: Global,
         code: &Checked,
         timed: bool,
         expected: Scalar,
@@ -123,16 +121,15 @@ impl<M: Memory, C: Determined> State<M, C> {
         match self.heap.cell_of(place) {
             Ok(cell) => {
                 let _cells = self.heap.size(cell.object);
-                self.wait_at(alloc, code, timed, expected, cell, values, out)
+                self.wait_at(code, timed, expected, cell, values, out)
             }
-            Err(fault) => self.refuse(alloc, code, case_of(fault), out),
+            Err(fault) => self.refuse(code, case_of(fault), out),
         }
     }
 
     /// The same at a cell that is there.
     fn wait_at(
         &mut self,
-        alloc: Global,
         code: &Checked,
         timed: bool,
         expected: Scalar,
@@ -155,18 +152,17 @@ impl<M: Memory, C: Determined> State<M, C> {
             kind: read(cell, Order::Relaxed, chosen),
         };
         if is_same_scalar(chosen.value, expected) {
-            return self.stand_waiting(alloc, event, cell, timed);
+            return self.stand_waiting(event, cell, timed);
         }
         tell(ANOTHER, values)?;
         let place = passing(code, self.frames.top(), values, out)?;
-        self.log(alloc, event, Some(cell), 1, place, out)
+        self.log(event, Some(cell), 1, place, out)
     }
 
     /// The thread's read is logged, and it waits where it stands. Where the read races that is the ending, and it does not wait.
     #[tactic(auto, using(crate::specs::FutexLaws::more_sound))]
     fn stand_waiting(
         &mut self,
-        alloc: Global,
         event: Event,
         cell: CellId,
         timed: bool,
@@ -181,14 +177,14 @@ impl<M: Memory, C: Determined> State<M, C> {
         ensures err { OnErr result (self.new ≡ self.old) }
         ensures stays { IfOk result (λ end. Stays end self.old self.new) }
     {
-        let lines = line_of(alloc, self.events, event)?;
+        let lines = line_of(self.alloc, self.events, event)?;
         self.memory.reserve(self.thread, Some(cell), 1)?;
         // It waits first, as that may be refused. Of what races nothing is left, so it stops again then.
         self.seats.wait(self.thread, cell, timed)?;
         match commit::<M, Brand>(&mut self.memory, event, Blank::new(1)) {
             Some(race) => {
                 self.seats.stop(self.thread);
-                Ok(ended(alloc, self.race_ending(event, race)))
+                Ok(ended(self.alloc, self.race_ending(event, race)))
             }
             None => {
                 self.events += 1;

@@ -15,14 +15,13 @@ use client_hooks::Determined;
 use mem_axioms::Memory;
 use mu_model::{Lines, StepEnd};
 use mu_values::{Scalar, Slots};
-use std::alloc::{AllocError, Global};
+use std::alloc::AllocError;
 
 impl<M: Memory, C: Determined> State<M, C> {
     /// The thread's instruction has these results. Where no memory is found the state is as before; the list may have changed.
     #[tactic(auto, using(crate::specs::ActLaws::giving))]
     pub fn give(
         &mut self,
-        alloc: Global,
         code: &Checked,
         results: &Slots,
         out: &mut Slots,
@@ -35,14 +34,13 @@ impl<M: Memory, C: Determined> State<M, C> {
         ensures stays { IfOk result (λ end. (s t : Held) → Stays end s t) }
     {
         go_on(code, &mut self.frames, results, out)?;
-        Ok(self.went(alloc))
+        Ok(self.went())
     }
 
     /// The thread's instruction has one result, of one scalar. Where no memory is found the state is as before; the lists may have
     /// changed.
     pub fn give_scalar(
         &mut self,
-        alloc: Global,
         code: &Checked,
         scalar: Scalar,
         values: &mut Slots,
@@ -56,11 +54,11 @@ impl<M: Memory, C: Determined> State<M, C> {
         ensures stays { IfOk result (λ end. (s t : Held) → Stays end s t) }
     {
         if self.give_at_once(code, scalar) {
-            return Ok(StepEnd::Went(Lines::new(alloc)));
+            return Ok(StepEnd::Went(Lines::new(self.alloc)));
         }
         values.clear();
         values.push_scalar(scalar)?;
-        self.give(alloc, code, values, out)
+        self.give(code, values, out)
     }
 
     /// The thread's instruction has one result, of one scalar, and goes on at the next place, where memory is found. Else nothing
@@ -109,13 +107,13 @@ impl<M: Memory, C: Determined> State<M, C> {
     }
 
     /// The thread goes to a block with these values.
-    pub fn go(&mut self, alloc: Global, block: u32, values: &mut Slots) -> StepEnd
+    pub fn go(&mut self, block: u32, values: &mut Slots) -> StepEnd
         requires left { self.old.left ≡ true }
         requires room { self.old.steps < self.old.budget }
         ensures on { answers result self.new ≡ went_on (record self.old { frames = record self.old.frames { top = stands self.old.frames.top block 0 values.old.values } }) }
         ensures end { (s t : Held) → Stays result s t }
     {
         self.frames.jump(block, values);
-        self.went(alloc)
+        self.went()
     }
 }

@@ -124,6 +124,7 @@ impl<M: Memory + Drop, C: Determined + Drop> State<M, C> {
         let first = first_frames(alloc, block)?;
         let seats = Seats::new(alloc, first)?;
         Ok(State {
+            alloc,
             thread: 0,
             stack: 0,
             frames: hand,

@@ -237,7 +237,6 @@ impl<M: Memory, C: Determined> State<M, C> {
     /// exactly is want of memory.
     fn refuse_cells(
         &mut self,
-        alloc: Global,
         code: &Checked,
         asked: u128,
         left: u32,
@@ -255,7 +254,6 @@ impl<M: Memory, C: Determined> State<M, C> {
             return Err(AllocError);
         }
         self.fault(
-            alloc,
             code,
             Ending::HeapFull {
                 thread: self.thread,
@@ -269,7 +267,6 @@ impl<M: Memory, C: Determined> State<M, C> {
     /// The thread makes an object. Where no memory is found the state is as before; the lists may have changed.
     pub fn make(
         &mut self,
-        alloc: Global,
         code: &Checked,
         class: u32,
         making: Making,
@@ -288,7 +285,7 @@ impl<M: Memory, C: Determined> State<M, C> {
         match new_object(&mut self.heap, code, class, making) {
             Ok(number) => {
                 let given = give(
-                    alloc,
+                    self.alloc,
                     code,
                     &self.heap,
                     number,
@@ -302,10 +299,10 @@ impl<M: Memory, C: Determined> State<M, C> {
                     self.heap.take_back();
                     return Err(refused);
                 }
-                Ok(self.went(alloc))
+                Ok(self.went())
             }
             Err(HeapFault::HeapFull { asked, left }) => {
-                self.refuse_cells(alloc, code, asked, left, out)
+                self.refuse_cells(code, asked, left, out)
             }
             Err(HeapFault::Memory) => Err(AllocError),
         }

@@ -47,7 +47,6 @@ impl<M: Memory, C: Determined> State<M, C> {
     #[tactic(auto, using(crate::specs::ActLaws::only_frame))]
     pub fn give_back(
         &mut self,
-        alloc: Global,
         code: &Checked,
         room: &mut Room,
         out: &mut Slots,
@@ -60,19 +59,14 @@ impl<M: Memory, C: Determined> State<M, C> {
         ensures stays { IfOk result (λ end. Stays end self.old self.new) }
     {
         if self.frames.count() == 1 {
-            self.finish(alloc, code, room)
+            self.finish(code, room)
         } else {
-            self.give_below(alloc, code, room, out)
+            self.give_below(code, room, out)
         }
     }
 
     /// The bottom frame returns, and the thread ends.
-    fn finish(
-        &mut self,
-        alloc: Global,
-        code: &Checked,
-        room: &mut Room,
-    ) -> Result<StepEnd, AllocError>
+    fn finish(&mut self, code: &Checked, room: &mut Room) -> Result<StepEnd, AllocError>
         requires left { self.old.left ≡ true }
         requires room { self.old.steps < self.old.budget }
         requires bottom { self.old.frames.below ≡ [] }
@@ -81,9 +75,9 @@ impl<M: Memory, C: Determined> State<M, C> {
         ensures err { OnErr result (self.new ≡ self.old) }
         ensures stays { IfOk result (λ end. Stays end self.old self.new) }
     {
-        let values = taken(alloc, room)?;
+        let values = taken(self.alloc, room)?;
         let thread = self.thread;
-        let lines = line(alloc, Note::Returned { thread, values })?;
+        let lines = line(self.alloc, Note::Returned { thread, values })?;
         self.end_thread();
         self.steps += 1;
         Ok(StepEnd::Went(lines))
@@ -93,7 +87,6 @@ impl<M: Memory, C: Determined> State<M, C> {
     #[tactic(auto, using(crate::specs::ActLaws::returning))]
     fn give_below(
         &mut self,
-        alloc: Global,
         code: &Checked,
         room: &mut Room,
         out: &mut Slots,
@@ -110,7 +103,7 @@ impl<M: Memory, C: Determined> State<M, C> {
         end_objects(&mut self.heap, self.frames.top().cells.as_slice());
         leave_for(&mut self.frames, &mut room.others);
         stand(&mut self.frames, place, out);
-        Ok(self.went(alloc))
+        Ok(self.went())
     }
 
     /// The thread returns from its function to the frame below it, which goes on with the values in the room, where there is one and memory

@@ -90,7 +90,6 @@ impl<M: Memory, C: Determined> State<M, C> {
     #[tactic(auto, using(crate::specs::StackLaws::tells_stack))]
     pub fn tell_stack(
         &mut self,
-        alloc: Global,
         code: &Checked,
         values: &mut Slots,
         out: &mut Slots,
@@ -103,14 +102,13 @@ impl<M: Memory, C: Determined> State<M, C> {
         ensures stays { IfOk result (λ end. Stays end self.old self.new) }
     {
         let stack = Scalar::Stack(self.stack);
-        self.give_scalar(alloc, code, stack, values, out)
+        self.give_scalar(code, stack, values, out)
     }
 
     /// The thread's own object is told.
     #[tactic(auto, using(crate::specs::StackLaws::telling_own))]
     pub fn tell_own(
         &mut self,
-        alloc: Global,
         code: &Checked,
         values: &mut Slots,
         out: &mut Slots,
@@ -123,14 +121,13 @@ impl<M: Memory, C: Determined> State<M, C> {
         ensures stays { IfOk result (λ end. Stays end self.old self.new) }
     {
         let own = self.seats.own(self.thread);
-        self.give_scalar(alloc, code, own, values, out)
+        self.give_scalar(code, own, values, out)
     }
 
     /// The thread has another own object from now on.
     #[tactic(auto, using(crate::specs::StackLaws::setting_own))]
     pub fn set_own(
         &mut self,
-        alloc: Global,
         code: &Checked,
         own: Scalar,
         values: &mut Slots,
@@ -147,12 +144,12 @@ impl<M: Memory, C: Determined> State<M, C> {
         let place = passing(code, self.frames.top(), values, out)?;
         self.seats.set_own(self.thread, own);
         stand(&mut self.frames, place, out);
-        Ok(self.went(alloc))
+        Ok(self.went())
     }
 
     /// The thread ends.
     #[tactic(auto, using(crate::specs::ActLaws::exit_finishes))]
-    pub fn exit(&mut self, alloc: Global, code: &Checked) -> Result<StepEnd, AllocError>
+    pub fn exit(&mut self, code: &Checked) -> Result<StepEnd, AllocError>
         requires left { self.old.left ≡ true }
         requires room { self.old.steps < self.old.budget }
         requires there { acting code.now self.old acts.Exits ≢ Stuck }
@@ -161,7 +158,7 @@ impl<M: Memory, C: Determined> State<M, C> {
         ensures stays { IfOk result (λ end. Stays end self.old self.new) }
     {
         let thread = self.thread;
-        let lines = line(alloc, Note::Exited { thread })?;
+        let lines = line(self.alloc, Note::Exited { thread })?;
         self.end_thread();
         self.steps += 1;
         Ok(StepEnd::Went(lines))
@@ -171,7 +168,6 @@ impl<M: Memory, C: Determined> State<M, C> {
     #[tactic(auto, using(crate::specs::StackLaws::makes_stack))]
     pub fn make_stack(
         &mut self,
-        alloc: Global,
         code: &Checked,
         function: u32,
         values: &mut Slots,
@@ -185,15 +181,14 @@ impl<M: Memory, C: Determined> State<M, C> {
         ensures stays { IfOk result (λ end. Stays end self.old self.new) }
     {
         match code.function(function).first {
-            None => Ok(self.undefined(alloc, Case::NoBody)),
-            Some(block) => self.make_stack_at(alloc, code, function, block, values, out),
+            None => Ok(self.undefined(Case::NoBody)),
+            Some(block) => self.make_stack_at(code, function, block, values, out),
         }
     }
 
     /// The thread makes a stack of a function with that first block.
     fn make_stack_at(
         &mut self,
-        alloc: Global,
         code: &Checked,
         function: u32,
         block: u32,
@@ -216,9 +211,9 @@ impl<M: Memory, C: Determined> State<M, C> {
             thread: self.thread,
             kind: Kind::NewStack { stack },
         };
-        let lines = line_of(alloc, self.events, event)?;
+        let lines = line_of(self.alloc, self.events, event)?;
         self.memory.reserve(self.thread, None, 1)?;
-        add_stack(alloc, code, function, block, &mut self.seats)?;
+        add_stack(self.alloc, code, function, block, &mut self.seats)?;
         commit_other::<M, Brand>(&mut self.memory, event, Blank::new(1));
         stand(&mut self.frames, place, out);
         self.events += 1;
@@ -251,7 +246,6 @@ impl<M: Memory, C: Determined> State<M, C> {
     #[tactic(auto, using(crate::specs::StackLaws::kills_stack))]
     pub fn kill_stack(
         &mut self,
-        alloc: Global,
         code: &Checked,
         scalar: Scalar,
         values: &mut Slots,
@@ -265,15 +259,14 @@ impl<M: Memory, C: Determined> State<M, C> {
         ensures stays { IfOk result (λ end. Stays end self.old self.new) }
     {
         match self.ready_stack(scalar) {
-            None => Ok(self.undefined(alloc, Case::StackNotReady)),
-            Some(stack) => self.kill_ready(alloc, code, scalar, stack, values, out),
+            None => Ok(self.undefined(Case::StackNotReady)),
+            Some(stack) => self.kill_ready(code, scalar, stack, values, out),
         }
     }
 
     /// The thread kills a stack that is ready, which the scalar names.
     fn kill_ready(
         &mut self,
-        alloc: Global,
         code: &Checked,
         scalar: Scalar,
         stack: u32,
@@ -295,6 +288,6 @@ impl<M: Memory, C: Determined> State<M, C> {
         let frames = self.seats.kill(stack);
         end_frames(&frames, &mut self.heap);
         stand(&mut self.frames, place, out);
-        Ok(self.went(alloc))
+        Ok(self.went())
     }
 }

@@ -25,9 +25,11 @@ use trap_answers::Watched;
 use typed_heap::Heap;
 
 /// The threads and stacks, the objects, the memory, the watchpoints that are enabled, the client, what is left of the schedule, and how
-/// many events were logged and how many steps made, and may be. The frames of the thread that made the last step are in hand, where it is left; else those in hand mean nothing.
+/// many events were logged and how many steps made, and may be. The frames of the thread that made the last step are in
+/// hand, where it is left; else those in hand mean nothing. It keeps its allocator, so only `start` asks for one.
 #[derive(Drop)]
 pub struct State<M: Memory, C: Determined> {
+    pub alloc: Global,
     pub thread: u32,
     pub stack: u32,
     pub frames: Frames,
@@ -92,14 +94,14 @@ impl<M: Memory, C: Determined> State<M, C> {
 
     /// The same, with what is said of the step.
     #[tactic(auto, using(crate::specs::StepLaws::answers_on))]
-    pub(crate) fn went(&mut self, alloc: Global) -> StepEnd
+    pub(crate) fn went(&mut self) -> StepEnd
         requires left { self.old.left ≡ true }
         requires room { self.old.steps < self.old.budget }
         ensures on { answers result self.new ≡ went_on self.old }
         ensures end { (s t : Held) → Stays result s t }
     {
         self.steps += 1;
-        StepEnd::Went(Lines::new(alloc))
+        StepEnd::Went(Lines::new(self.alloc))
     }
 
     /// The undefined case is the ending of the run, at the thread's instruction.
@@ -117,11 +119,11 @@ impl<M: Memory, C: Determined> State<M, C> {
     }
 
     /// The thread's instruction has no meaning.
-    pub fn undefined(&self, alloc: Global, case: Case) -> StepEnd
+    pub fn undefined(&self, case: Case) -> StepEnd
         ensures is { (s : Held) → answers result s ≡ End [] (undefined_at self.now case) }
         ensures end { (s : Held) → Stays result s s }
     {
-        ended(alloc, self.case_ending(case))
+        ended(self.alloc, self.case_ending(case))
     }
 
     /// The frames in hand go back to their thread.
