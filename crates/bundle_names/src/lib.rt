@@ -25,6 +25,3 @@ pub use globals::{Counts, Globals, Sort};
 pub use laws::{accepted_meet_all, fault_is_of_one_list, fault_stands_behind_met_ones};
 pub use resolved::Resolved;
 pub use resolving::resolve;
-
-#[cfg(test)]
-mod tests;

@@ -14,6 +14,3 @@ pub use clock_table::ClockTable;
 pub use event_clocks::EventClocks;
 pub use kept_clocks::{clock_under, keep_with};
 pub use thread_clocks::ThreadClocks;
-
-#[cfg(test)]
-mod tests;

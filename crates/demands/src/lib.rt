@@ -4,8 +4,6 @@
 mod fault;
 mod laws;
 mod scope;
-#[cfg(test)]
-mod tests;
 
 pub use fault::Fault;
 pub use laws::{

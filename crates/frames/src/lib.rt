@@ -8,6 +8,3 @@ mod unwound;
 pub use frame::{Frame, Handler};
 pub use frames::Frames;
 pub use unwound::Unwound;
-
-#[cfg(test)]
-mod tests;

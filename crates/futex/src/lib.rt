@@ -6,6 +6,3 @@ mod woken;
 
 pub use waiters::{Waiter, Waiters};
 pub use woken::Woken;
-
-#[cfg(test)]
-mod tests;

@@ -19,6 +19,3 @@ pub use theorems::{
     spellings_read_back, texts_end, tokens_are_one_list, tokens_are_seen, worked_examples,
 };
 pub use token::{LexFault, LexKind, Mark, Number, Token, TokenKind};
-
-#[cfg(test)]
-mod tests;

@@ -27,6 +27,3 @@ pub use status::Status;
 pub use std_sink::StdSink;
 pub use steps::Steps;
 pub use words::Words;
-
-#[cfg(test)]
-mod tests;

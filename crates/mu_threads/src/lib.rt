@@ -10,6 +10,3 @@ pub use reading::{ScheduleFault, ScheduleKind, read_schedule};
 pub use schedule::Schedule;
 pub use state::ThreadState;
 pub use threads::{AddFault, Threads};
-
-#[cfg(test)]
-mod tests;

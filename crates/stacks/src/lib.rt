@@ -15,6 +15,3 @@ pub use directory::Directory;
 pub use entered::Entered;
 pub use stack::{ActiveStack, Misfit, ReadyStack, Uncaught};
 pub use state::{NotReady, StackState};
-
-#[cfg(test)]
-mod tests;

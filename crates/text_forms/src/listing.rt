@@ -85,25 +85,3 @@ impl Listing<u8> {
         })
     }
 }
-
-#[cfg(test)]
-mod tests {
-    use super::*;
-    use std::test::Fail;
-
-    #[test]
-    fn keeps_members_in_order(rt: HostRuntime) -> Result<(), Fail> {
-        let mut list = Listing::new(rt.alloc());
-        assert!(rt; list.is_empty());
-        list.push(4u8)?;
-        list.push(5u8)?;
-        assert_eq!(rt; list.as_slice(), [4, 5].as_slice());
-        assert_eq!(rt; list.get(1).copied(), Some(5));
-        assert_eq!(rt; list.get(2).copied(), None);
-        assert_eq!(rt; list.pop(), Some(5));
-        assert_eq!(rt; list.len(), 1);
-        let copy = Listing::from_slice(rt.alloc(), b"ab")?;
-        assert_eq!(rt; copy.as_slice(), b"ab".as_slice());
-        Ok(())
-    }
-}

@@ -2,8 +2,6 @@
 #![tactic(auto)]
 
 mod parts;
-#[cfg(test)]
-mod tests;
 mod trial;
 
 pub use trial::trial_text;

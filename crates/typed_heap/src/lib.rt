@@ -16,6 +16,3 @@ pub use laws::{
     calls_keep_leaves, changed_objects_fit, faults_of_each, new_objects_fit,
     taking_back_undoes_making, the_end_fits, what_fits_stays, what_is_found_fits,
 };
-
-#[cfg(test)]
-mod tests;

@@ -12,6 +12,3 @@ mod tape;
 pub use access_index::{AccessIndex, Entry};
 pub use history::History;
 pub use tape::Tape;
-
-#[cfg(test)]
-mod tests;

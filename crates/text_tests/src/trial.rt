@@ -1,6 +1,6 @@
-//! The text for two pairs, of which the first goes on and the second ends.
-use super::trial_text;
+// The text of a trial of two pairs, of which the first goes on and the second ends.
 use std::test::Fail;
+use trial_text::trial_text;
 
 fn two_pairs() -> &'static [u8] {
     b".typedef @i1 = int < 1 > .typedef @i64 = int < 64 > .funcsig @m = ( ) -> ( ) .const @on < @i1 > = 1 .const \

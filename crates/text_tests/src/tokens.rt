@@ -1,4 +1,5 @@
-use super::*;
+// The tokens of texts, and a cursor over them.
+use ir_lex::{Cursor, LexFault, LexKind, Mark, Token, TokenKind, next_token, number, symbol};
 use std::test::Fail;
 use text_forms::{FaultKind, Symbol};
 

@@ -1,9 +1,8 @@
-ghost use Rattle.std.specs.Prelude.{◌≡◌, ◌+◌};
-
-use super::*;
+// Files, standard output, and what stands for them in memory.
+use mu_base::{
+    FetchFault, File, FileInputs, Inputs, MemoryInputs, MemorySink, PutFault, Sink, StdSink, Text,
+};
 use std::fs;
-use std::marker::Brand;
-use std::sync::ledger::{Blank, Ledger};
 use std::test::Fail;
 
 #[test]
@@ -61,50 +60,4 @@ fn puts_to_memory(rt: HostRuntime) -> Result<(), Fail> {
     assert_eq!(rt; out.bytes(), b"one\nthree\n".as_slice());
     assert_eq!(rt; out.ends(), [4, 10].as_slice());
     Ok(())
-}
-
-#[test]
-fn lists_keep_their_members(rt: HostRuntime) -> Result<(), Fail> {
-    let mut ids = Ids::new(rt.alloc());
-    ids.reserve(2)?;
-    ids.push(7)?;
-    ids.push(9)?;
-    assert_eq!(rt; ids.len(), 2);
-    assert_eq!(rt; ids.at(1), 9);
-    assert_eq!(rt; ids.as_slice(), [7, 9].as_slice());
-    let mut words = Words::new(rt.alloc());
-    words.push("run")?;
-    assert_eq!(rt; words.len(), 1);
-    assert_eq!(rt; words.word(0), "run");
-    Ok(())
-}
-
-#[test]
-fn statuses_have_their_numbers(rt: HostRuntime) {
-    assert_eq!(rt; Status::Done.code(), 0);
-    assert_eq!(rt; Status::Memory.code(), 11);
-    assert_eq!(rt; Status::TooLong.code(), 12);
-}
-
-// Counts two steps.
-fn tick_twice<L: Ledger>(steps: &mut Steps<L>)
-    ensures { steps.new ≡ steps.old + 2 }
-{
-    steps.tick();
-    steps.tick();
-}
-
-// Counts two steps from 0 on.
-fn count_two<L: Ledger>(blank: Blank)
-    requires name { blank.name ≡ L.name }
-    requires parts { blank.parts ≡ L.parts }
-    requires one { L.parts ≡ 1 }
-{
-    let mut steps = Steps::<L>::new(blank);
-    tick_twice(&mut steps);
-}
-
-#[test]
-fn counts_steps() {
-    count_two::<Brand>(Blank::new(1));
 }
