@@ -51,9 +51,6 @@ one_is x m c = by c.0 c.1 c.2
     by zero l e = sym e
     by (suc k) l e = absurd (omega arith)
 
-pub last_low : (many total : ℕ) (cs : List Constant) (done : List Bool) (old new kept : List ℕ) (n : ℕ) → old ≡ new ++ n ∷ [] → IsPass many total cs done old kept → n < many
-last_low many total cs done old new kept n e p = all_last (λ m. m < many) new n (subst (λ (xs : List ℕ). All (λ m. m < many) xs) e p.left_low)
-
 pub kept_more : (many total : ℕ) (cs : List Constant) (done : List Bool) (old new kept : List ℕ) (n : ℕ) → old ≡ new ++ n ∷ [] → is_ready_at done (slice_get cs n) ≡ false →
     IsPass many total cs done old kept → IsPass many total cs done new (kept ++ n ∷ [])
 kept_more many total cs done old new kept n e h p =

@@ -1,5 +1,5 @@
 -- Laws of lists of parts that may not be there.
-use Rattle.std.specs.Prelude.{◌≡◌, ℕ, zero, suc, ◌+◌, ◌<◌, ◌≤◌, List, [], ◌∷◌, ◌++◌, length, Option, Some, None, map, option_map, slice_get, slice_index_or, drop, zip, refl}
+use Rattle.std.specs.Prelude.{◌≡◌, ℕ, zero, suc, ◌+◌, ◌<◌, ◌≤◌, List, [], ◌∷◌, ◌++◌, length, Option, Some, None, map, slice_index_or, drop, zip, refl}
 use Rattle.std.specs.List.{Contains}
 use Rattle.std.proofs.Common.{sym, ◌∙◌, ap, append_assoc, arith, add-one}
 use Rattle.std.proofs.lemmas.List.{append-nil}
@@ -129,12 +129,6 @@ is_done f m xs n x ts vs over one other so =
     ap (λ o. with_some o (λ ws. Some (typed ws))) whole ∙ ap Some (again ∙ same)
 
 -- ---- what is left
-
-pub first_left : {A B : Type 0} (f : A → B) (xs : List A) (n : ℕ) → option_map f (slice_get xs n) ≡ slice_get (map f (drop n xs)) 0
-first_left f [] zero = refl
-first_left f [] (suc n) = refl
-first_left f (x ∷ xs) zero = refl
-first_left f (x ∷ xs) (suc n) = first_left f xs n
 
 next_left : {A B : Type 0} (f : A → B) (xs : List A) (n : ℕ) → map f (drop (suc n) xs) ≡ drop 1 (map f (drop n xs))
 next_left f [] zero = refl

@@ -1,6 +1,6 @@
 -- What is loaded when a script ends, or is refused.
-use Rattle.std.proofs.Common.{◌≡◌, ℕ, suc, ◌+◌, ◌<◌, ◌≤◌, List, [], ◌∷◌, ◌++◌, length, take, drop, get_or, Some, None, Ok, Err, refl, sym, ap, subst, ◌∙◌, add-one}
-use Rattle.std.proofs.lemmas.List.{take_all, take-append-drop}
+use Rattle.std.proofs.Common.{◌≡◌, ℕ, suc, ◌+◌, ◌<◌, ◌≤◌, List, [], ◌∷◌, ◌++◌, length, take, drop, get_or, Some, None, Ok, Err, sym, ap, subst, ◌∙◌, add-one}
+use Rattle.std.proofs.lemmas.List.{take-append-drop}
 use Rattle.std.proofs.Math.Seq.{take-suc, drop-cons}
 use Rattle.demands.specs.declared.fault.Fault.{Fault}
 use Rattle.demands.specs.declared.fault.Fault.TheVariants.{Memory, At}
@@ -33,11 +33,6 @@ pub loads_more : (c : Code) (old here next : HeapContents) (commands : List Comm
     done c (store_of here es) x ≡ Ok (store_of next fs) → IsSoFar c old commands (i + 1) next fs
 loads_more c old here next commands i x es fs l e far step =
     ap (λ (xs : List Command). loaded_from c old xs) (one_more commands i x l e) ∙ load_more c (begun old) (store_of here es) (store_of next fs) (take i commands) x far step
-
-pub loads_done : (c : Code) (old new : HeapContents) (commands : List Command) (i : ℕ) (es : Names Made) → length commands ≤ i → IsSoFar c old commands i new es → Loads c commands old new (Ok tt)
-loads_done c old new commands i es l far =
-    let all : loaded_from c old commands ≡ record { store = store_of new es; fault = None } = sym (ap (λ (xs : List Command). loaded_from c old xs) (take_all i commands l)) ∙ far in
-    (ap (λ (r : Loaded). r.fault) all, subst (λ (r : Loaded). Holds r.store new) (sym all) (refl, refl))
 
 pub loads_refused : (c : Code) (old here new : HeapContents) (commands : List Command) (i : ℕ) (x : Command) (es : Names Made) (next : Store) (e : Fault LoadKind) → i < length commands → x ≡ get_or commands i x →
     IsSoFar c old commands i here es → Makes (done c (store_of here es) x) next (Err e) → IsSame here new → Loads c commands old new (Err e)

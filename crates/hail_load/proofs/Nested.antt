@@ -12,7 +12,6 @@ use Rattle.ir_lex.specs.TokenForms.{mark, name, numeral}
 use Rattle.ir_tree.specs.Lists.{globals, global}
 use Rattle.hail_load.specs.declared.tree.Piece.{Piece}
 use Rattle.hail_load.specs.Sources.{object, root, index, reference, plain, alone, element, members, list, source}
-use Rattle.hail_load.specs.MembersSoFar.{index_alone}
 
 -- what a source that is no list begins with
 abbrev plain_begins : List Symbol
@@ -57,11 +56,3 @@ unfolding source
 read_plain zero ts off = refl
 read_plain (suc n) ts (inl none) = absurd (omega arith)
 read_plain (suc n) ts (inr off) = rw off refl
-
-pub read_index : (f : Form (List Piece)) (ts : List Tok) → at (symbols.SquareOpen ∷ []) ts ≡ true → read (element f true) ts ≡ kept index_alone (read index ts)
-read_index f ts here = rw here refl
-
-pub read_source : (f : Form (List Piece)) (leads : Bool) (ts : List Tok) → (leads ≡ false) ⊎ (at (symbols.SquareOpen ∷ []) ts ≡ false) → read (element f leads) ts ≡ read f ts
-read_source f false ts off = refl
-read_source f true ts (inl closed) = absurd cc
-read_source f true ts (inr off) = rw off refl

@@ -7,7 +7,7 @@ use Rattle.std.proofs.lemmas.List.{length-map, length-append}
 use Rattle.std.proofs.lemmas.List.Elements.{All-nil, All-cons, All-head, All-tail, All-append, All-map}
 use Rattle.demands.specs.declared.fault.Fault.{Fault}
 use Rattle.demands.specs.declared.fault.Fault.TheVariants.{Memory, At}
-use Rattle.demands.specs.Names.{Names, added, found}
+use Rattle.demands.specs.Names.{Names, added}
 use Rattle.type_laws.specs.declared.definition.TypeDef.{TypeDef}
 use Rattle.type_laws.specs.declared.definition.TypeDef.TheVariants as types
 use Rattle.type_laws.specs.Definition.{arguments}
@@ -215,22 +215,6 @@ pub hybrid_refused : (c : Code) (s new : Store) (place : ℕ) (n : Name) (t many
 hybrid_refused c s new place n t many r fault asked left e full enough =
     let size = hybrid_size c.graph t many in
     make_refused c s new place n (Hybrid t many) r fault asked left e (λ l. full (subst (λ k. s.left < k) (sym size) l)) (λ l. enough (subst (λ k. k ≤ s.left) (sym size) l))
-
--- a new object has one scalar for each leaf
-pub whole_more : (g : List TypeDef) (os : List HeapObject) (cs : List ℕ) → AreWhole os → AreWhole (os ++ object_of g cs ∷ [])
-whole_more g os cs a =
-    let P = λ (o : HeapObject). length o.initial ≡ length o.leaves in
-    All-append P os (object_of g cs ∷ []) a (All-cons P (object_of g cs) [] (length-map cs _) (All-nil P))
-
-pub there_more : (g : List TypeDef) (es : Names Made) (name : List ℕ) (m : Made) → IsThere g m.part → AreThere g es → AreThere g (added es name m)
-there_more g es name m here a = by (found es name) refl
-  where
-    P : List ℕ × Made → Type 0
-    P e = IsThere g e.1.part
-
-    by : (o : Option Made) → found es name ≡ o → AreThere g (added es name m)
-    by None e = rw e (All-append (λ (x : List ℕ × Made). IsThere g x.1.part) es ((name, m) ∷ []) a (All-cons (λ (x : List ℕ × Made). IsThere g x.1.part) (name, m) [] here (All-nil (λ (x : List ℕ × Made). IsThere g x.1.part))))
-    by (Some x) e = rw e a
 
 pub globals_whole : (c : Code) (os : List HeapObject) → AreGlobals c os → AreWhole os
 globals_whole c os e =

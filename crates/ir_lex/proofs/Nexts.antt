@@ -213,20 +213,10 @@ next_spelling text at t is =
 
 -- ---- as the contract has it
 
-pub found_behind : (text : List ℕ) (at : ℕ) (r : Result (Option Token) LexFault) → next_of text at ≡ r → IfOk r (λ o. IfSome o (λ t. at ≤ t.from))
-found_behind text at (Err f) e = tt
-found_behind text at (Ok None) e = tt
-found_behind text at (Ok (Some t)) e = (next_within text at t (next_found text at t e)).behind
-
 pub found_some : (text : List ℕ) (at : ℕ) (r : Result (Option Token) LexFault) → next_of text at ≡ r → IfOk r (λ o. IfSome o (λ t. t.from < t.to))
 found_some text at (Err f) e = tt
 found_some text at (Ok None) e = tt
 found_some text at (Ok (Some t)) e = (next_within text at t (next_found text at t e)).some
-
-pub found_within : (text : List ℕ) (at : ℕ) (r : Result (Option Token) LexFault) → next_of text at ≡ r → IfOk r (λ o. IfSome o (λ t. t.to ≤ length text))
-found_within text at (Err f) e = tt
-found_within text at (Ok None) e = tt
-found_within text at (Ok (Some t)) e = (next_within text at t (next_found text at t e)).within
 
 pub found_number : (text : List ℕ) (at : ℕ) (r : Result (Option Token) LexFault) → next_of text at ≡ r → IfOk r (λ o. IfSome o (λ t. t.kind ≡ kinds.Number → IsNumber (spelling_of text t)))
 found_number text at (Err f) e = tt

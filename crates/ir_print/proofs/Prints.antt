@@ -4,7 +4,7 @@ use Rattle.std.specs.Prelude.{◌||◌, ◌&&◌, ◌⊎◌, option_map}
 use Rattle.std.specs.List.{list_all}
 use Rattle.text_forms.specs.declared.symbol.Symbol.{Symbol}
 use Rattle.text_forms.specs.Tokens.{Tok, has}
-use Rattle.text_forms.specs.Forms.{Form, nothing, never, both, on, made, left_out, ◌▸◌, ◌◂◌}
+use Rattle.text_forms.specs.Forms.{Form, nothing, both, on, made, left_out, ◌▸◌, ◌◂◌}
 use Rattle.text_forms.specs.Derives.{Derives}
 use Rattle.ir_lex.specs.declared.token.TokenKind.{TokenKind}
 use Rattle.ir_lex.specs.declared.name.Name.{Name}
@@ -185,14 +185,6 @@ nothing_prints {A} {a} {e} {p} same_meaning no_words = record {
   apart = λ s ts b blank good (q, r) o loose. subst (λ (z : A). Apart o (p s z)) (sym r) (subst (Apart o) (sym (no_words s)) tt);
   ends = λ s ts b d o h. absurd (cc);
   placed = λ ts b (q, r). (a, (erased_none ts q, refl), same_meaning ∙ sym r);
-}
-
-pub never_prints : {A : Type 0} {e : A → A} {p : List ℕ → A → List Piece} → Prints true true never e e p
-never_prints = record {
-  again = λ s ts a good d. absurd d;
-  apart = λ s ts a blank good d o loose. absurd d;
-  ends = λ s ts a d o h. absurd d;
-  placed = λ ts b d. absurd d;
 }
 
 pub left_out_prints : {A : Type 0} {xs : List Symbol} {a : A} {e : A → A} {p : List ℕ → A → List Piece} → Prints true true (left_out xs a) e e p

@@ -8,16 +8,14 @@ use Rattle.text_forms.specs.declared.fault.Fault.{Fault}
 use Rattle.text_forms.specs.Tokens.{Tok, has}
 use Rattle.text_forms.specs.Forms.{Form, token, both, on, made, until, ◌▸◌, ◌◂◌}
 use Rattle.text_forms.specs.Derives.{Derives, Elements}
-use Rattle.text_forms.specs.Reading.{elements, whole}
+use Rattle.text_forms.specs.Reading.{whole}
 use Rattle.text_forms.proofs.Whole.{whole_ok}
 use Rattle.demands.specs.Demands.{AllMet, none, demand, first_unmet}
 use Rattle.demands.specs.Names.{Names, found}
 use Rattle.demands.proofs.Meeting.{all_met}
 use Rattle.ir_lex.specs.declared.name.Name.{Name}
 use Rattle.ir_lex.specs.TokenForms.{mark, name}
-use Rattle.ir_lex.specs.WordTable.{words, directives, common_names}
-use Rattle.ir_lex.specs.Scanner.{gap_len, next_of}
-use Rattle.ir_lex.specs.Walk.{tokens_within, tokens_from}
+use Rattle.ir_lex.specs.Walk.{tokens_from}
 use Rattle.ir_lex.proofs.Cursors.{texts_end}
 use Rattle.ir_tree.specs.declared.items.Item.{Item}
 use Rattle.ir_tree.specs.Lists.{globals, global}
@@ -42,7 +40,7 @@ use Rattle.client_script.specs.Told.{is_value, told}
 use Rattle.client_script.specs.Demands.{token_demands}
 use Rattle.client_script.specs.Grammar.{kept_value, argument, action, pass, way, rebind, reply, inside, entry, script}
 use Rattle.client_script.specs.Meaning.{argument_meant, way_meant, reply_meant, entry_meant, entries_meant}
-use Rattle.client_script.specs.Texts.{demands_by, entries_in, script_demands, script_entries}
+use Rattle.client_script.specs.Texts.{demands_by, entries_in}
 use Rattle.client_script.proofs.Grammatical.{is_grammar}
 use Rattle.loaded_programs.specs.Laws.{IsScripted}
 use Rattle.loaded_programs.proofs.Told.{told_fits}
@@ -214,14 +212,3 @@ scripted_fits bundle names checked k s w told_globals =
     let ts : List Tok = tokens_from s.text 0 in
     subst (λ (es : List ScriptEntry). All (λ (e : ScriptEntry). EntryFits (type_graph (bundle_tables bundle)) w e.reply) es) (sym s.entries)
     (entries_fit bundle names checked w told_globals ts (whole (script bundle) ts) (λ es is. whole_ok (script bundle) (is_grammar bundle) ts es (texts_end s.text) is) s.accepted)
-
--- ---- no script
-
--- an empty text is a script without entries
-pub empty_text : (bundle : List Item) → (first_unmet (script_demands bundle []) ≡ None) × (script_entries bundle [] ≡ [])
-unfolding tokens_from tokens_within next_of gap_len words directives common_names elements script
-empty_text bundle = (refl, refl)
-
--- so a client without entries is scripted
-pub none_scripted : (bundle : List Item) (k : Client) → k.entries ≡ [] → IsScripted bundle k
-none_scripted bundle k empty = record { text = []; accepted = (empty_text bundle).0; entries = empty ∙ sym (empty_text bundle).1 }

@@ -179,9 +179,6 @@ pub record SoFar (bundle : List Item) (whole : Answer) (r : Run) (w0 w1 e0 e1 : 
   pub ends : HasEnding r
   pub is : whole ≡ behind_pieces done (run_answer bundle r)
 
-pub nothing_yet : (bundle : List Item) (r : Run) (w e : Option (List ℕ)) → HasEnding r → SoFar bundle (run_answer bundle r) r w w e e
-nothing_yet bundle r w e ends = record { done = []; wrote = nothing_put w e; ends = ends; is = refl }
-
 module _ (bundle : List Item) (whole : Answer) (n : ℕ) (c : Configuration) (w0 w1 w2 e0 e1 e2 : Option (List ℕ)) (far : SoFar bundle whole (run (named bundle) (suc n) c) w0 w1 e0 e1) where
   pub one_more : (d : Configuration) → Goes bundle c d w1 w2 e1 e2 → SoFar bundle whole (run (named bundle) n d) w0 w2 e0 e2
   one_more d goes =

@@ -7,7 +7,7 @@ use Rattle.std.specs.Io.KnownBytes.{Appends, Keeps}
 use Rattle.mu_base.specs.declared.status.Status.{Status}
 use Rattle.mu_base.specs.declared.status.Status.TheVariants.{Memory}
 use Rattle.mu_base.specs.Files.{IsPrefix}
-use Rattle.mu_base.specs.Sink.{AppendsPrefix, MarksEnd, PutsPart}
+use Rattle.mu_base.specs.Sink.{AppendsPrefix, MarksEnd}
 use Rattle.mu_texts.specs.Answer.{Answer, in_one_piece}
 use Rattle.mu_command.specs.Written.{cuts_from, AppendsEnds, Wrote, IsWhole, Writes, stopped}
 use Rattle.mu_base.specs.declared.sink.PutFault.{PutFault}
@@ -84,20 +84,6 @@ put_stops done p left answer w0 w1 w2 e0 e1 e2 status is fails w a k = record {
   whole = λ h. absurd (fails h);
   status_of = λ h. absurd (fails h);
 }
-
--- a put that wrote nothing wrote a part of its piece
-pub kept_is_part : (w1 w2 : Option (List ℕ)) (p : List ℕ) → Keeps w1 w2 → AppendsPrefix w1 w2 p
-kept_is_part None w2 p k = ([], refl, tt)
-kept_is_part (Some x) None p k = absurd k
-kept_is_part (Some x) (Some y) p k = ([], refl, rw (k, append-nil) refl)
-
-keeps : (w : Option (List ℕ)) → Keeps w w
-keeps None = tt
-keeps (Some x) = refl
-
--- nothing was put: at most a part of the piece was
-pub not_put : (p : List ℕ) (w e : Option (List ℕ)) → PutsPart p w w e e
-not_put p w e = record { bytes = kept_is_part w w p (keeps w); mark = keeps e }
 
 -- all pieces were put
 pub all_put : (answer : Answer) (w0 w1 e0 e1 : Option (List ℕ)) (status : Status) → status ≡ answer.status → Wrote answer.pieces w0 w1 e0 e1 → Writes answer w0 w1 e0 e1 status

@@ -1,9 +1,8 @@
 -- The steps and the events of a run, counted step by step.
-use Rattle.std.proofs.Common.{◌≡◌, ℕ, suc, ◌+◌, List, [], ◌∷◌, length, refl, sym, ap, ◌∙◌, subst, zero-add, add-zero, arith, Option, Some, None}
+use Rattle.std.proofs.Common.{◌≡◌, ℕ, suc, ◌+◌, List, [], ◌∷◌, length, refl, sym, ap, ◌∙◌, subst, zero-add, arith, Option, Some, None}
 use Rattle.std.specs.Prelude.{sum_by}
 use Rattle.std.specs.List.{count_by}
 use Rattle.std.proofs.lemmas.List.Sums.{sum_by-cons}
-use Rattle.mu_base.specs.declared.status.Status.{Status}
 use Rattle.ir_tree.specs.declared.items.Item.{Item}
 use Rattle.mu_model.specs.declared.lines.Line.{Line}
 use Rattle.mu_model.specs.declared.endings.Ending.{Ending}
@@ -19,7 +18,6 @@ use Rattle.thread_acts.specs.Outcome.{outcome_of}
 use Rattle.mu_texts.specs.Answer.{Answer, line, is_event, events_in, trial_line, trial_answer}
 use Rattle.mu_command.specs.declared.counting.Counted.{Counted}
 use Rattle.mu_command.specs.declared.counting.Tally.{Tally}
-use Rattle.mu_command.specs.Written.{IsWhole}
 use Rattle.mu_command.specs.Steps.{answered_step, counted, IsCounted, tally_behind}
 use Rattle.mu_command.proofs.InSteps.{run_goes, run_ends, behind_ends}
 
@@ -85,15 +83,6 @@ told n bundle (Ends more ls e) t h =
     ap (λ (s : ℕ). words s t.events t.ending) a ∙ ap (λ (v : ℕ). words (length more) v t.ending) b ∙ ap (λ (x : Ending). words (length more) (events_in more ls) x) d
 told n bundle Breaks t h = cc
 told n bundle Unfinished t h = cc
-
-pub ending_is_whole : (e : Ending) → IsWhole (ending_status e)
-ending_is_whole endings.Done = ((λ h. cc), (λ h. cc))
-ending_is_whole endings.Stop = ((λ h. cc), (λ h. cc))
-ending_is_whole (endings.Undefined k i block at r) = ((λ h. cc), (λ h. cc))
-ending_is_whole (endings.HeapFull i asked left) = ((λ h. cc), (λ h. cc))
-ending_is_whole (endings.ThreadsFull i) = ((λ h. cc), (λ h. cc))
-ending_is_whole (endings.AllWaiting is) = ((λ h. cc), (λ h. cc))
-ending_is_whole (endings.Budget n) = ((λ h. cc), (λ h. cc))
 
 -- a step that was made at once is counted as one without events
 pub counted_at_once : (bundle : List Item) (c d : Configuration) → outcome_of (Went []) d ≡ answered_step (named bundle) c → IsCounted bundle c d (record { events = 0; ending = None })

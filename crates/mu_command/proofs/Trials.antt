@@ -1,14 +1,12 @@
 -- The run of a made bundle.
-use Rattle.std.proofs.Common.{◌≡◌, ℕ, List, [], ◌∷◌, refl, ap, Some, None}
+use Rattle.std.proofs.Common.{◌≡◌, ℕ, List, [], ◌∷◌, refl, None}
 use Rattle.std.specs.Prelude.{false, Result, Ok, Err, codes}
 use Rattle.mem_axioms.specs.declared.types.Rule.TheVariants.{C11}
-use Rattle.typed_heap.specs.Heap.{HeapContents}
-use Rattle.typed_heap.specs.Objects.{HeapObject}
 use Rattle.mu_base.specs.Outcome.{got}
 use Rattle.mu_texts.specs.declared.stop.Stop.{Stop}
 use Rattle.mu_texts.specs.declared.stop.Stop.TheVariants.{Line, Memory}
 use Rattle.mu_texts.specs.Answer.{Part, ◌>>=◌}
-use Rattle.mu_texts.specs.Comes.{Comes, Fills}
+use Rattle.mu_texts.specs.Comes.{Comes}
 use Rattle.mu_command.specs.declared.job.RunJob.{RunJob}
 use Rattle.mu_command.specs.Job.{usual_steps, usual_cells}
 use Rattle.mu_command.specs.Answer.{Outcomes}
@@ -28,10 +26,6 @@ no_files what = got []
 pub comes_early : {A B : Type 0} (part : Part A) (more : A → Part B) (stop : Stop) → Comes {A = A} part (Err stop) → Comes {A = B} (part >>= more) (Err stop)
 comes_early part more Memory h = tt
 comes_early part more (Line text status) h = rw h refl
-
-pub fills_early : {B : Type 0} (part : Part (List HeapObject)) (more : List HeapObject → Part B) (stop : Stop) → Fills part (Err stop) → Comes {A = B} (part >>= more) (Err stop)
-fills_early part more Memory h = tt
-fills_early part more (Line text status) h = rw h refl
 
 pub comes_behind : {A B : Type 0} (part : Part A) (more : A → Part B) (a : A) (r : Result B Stop) → part ≡ Ok a → Comes (more a) r → Comes (part >>= more) r
 comes_behind part more a r e h = rw e h

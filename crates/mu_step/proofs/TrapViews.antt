@@ -1,5 +1,5 @@
 -- Lemmas of traps, over the view of a state and its parts.
-use Rattle.std.proofs.Common.{◌≡◌, ◌≢◌, ℕ, zero, suc, ◌+◌, ◌<◌, Bool, true, false, List, [], ◌∷◌, ◌++◌, Option, Some, None, IsSome, IfSome, IsSomeAnd, Result, Ok, Err, IfOk, fold, length, map, reverse, slice_get, slice_set, option_map, take, refl, sym, ◌∙◌, ap, subst, arith, add-one}
+use Rattle.std.proofs.Common.{◌≡◌, ◌≢◌, ℕ, zero, suc, ◌+◌, ◌<◌, Bool, true, false, List, [], ◌∷◌, ◌++◌, Option, Some, None, IsSome, IfSome, IsSomeAnd, Result, Ok, Err, IfOk, fold, length, map, reverse, slice_get, slice_set, option_map, take, refl, sym, ◌∙◌, ap, subst, add-one}
 use Rattle.std.proofs.lemmas.List.{reverse-append}
 use Rattle.ir_tree.specs.declared.items.Item.{Item}
 use Rattle.mu_values.specs.Slots.{TypedValues}
@@ -41,12 +41,12 @@ use Rattle.seats.specs.Seats.{Seats, IsOn, IsReady, WaitsFor, left_ready}
 use Rattle.thread_acts.specs.Held.{Held, held_stacks}
 use Rattle.thread_acts.specs.Outcome.{Stays}
 use Rattle.thread_acts.specs.Acting.{answers, told, trapping, undefined_at, begun, turn, Awaited, with_awaited, awaits, objects_end}
-use Rattle.thread_acts.specs.Hand.{IsSound, ended_sound, logged_sound}
+use Rattle.thread_acts.specs.Hand.{IsSound}
 use Rattle.thread_acts.specs.StepLaws.{set_again, set_there, set_same}
 use Rattle.mu_step.specs.declared.arriving.Arrival.{Arrival}
 use Rattle.mu_step.specs.declared.arriving.Found.{Found}
 use Rattle.mu_step.specs.declared.arriving.Found.TheVariants.{Lands, Refused}
-use Rattle.mu_step.specs.Entering.{nothing, entered_by, arrives, found, IsPlain, landed, frames_at, IsMoved, swapped_with}
+use Rattle.mu_step.specs.Entering.{nothing, entered_by, arrives, found, IsPlain, frames_at, IsMoved, swapped_with}
 use Rattle.mu_step.specs.Trapping.{Change, waiting_frames, seen, note_of, changed_by, replying, past, entering_then}
 use Rattle.mu_step.specs.SwapLaws.{at_stack, entry, leaves, frames_objects, Moved, swapped_with_is}
 use Rattle.mu_step.specs.EnteringLaws.{swapped_sound, waits_there}
@@ -64,10 +64,6 @@ chain_is c d h =
 wait_is : (v w : Awaited) → v.waits ≡ w.waits → v.handler ≡ w.handler → v.kept ≡ w.kept → v ≡ w
 wait_is v w a b c =
     ap (λ cs. record { waits = cs; handler = v.handler; kept = v.kept }) a ∙ ap (λ h. record { waits = w.waits; handler = h; kept = v.kept }) b ∙ ap (λ k. record { waits = w.waits; handler = w.handler; kept = k }) c
-
--- what was exchanged twice is as it was
-pub frames_again : (f0 f1 f2 : Chain) (w1 : Awaited) → record f1 { top = with_awaited f1.top w1 } ≡ f0 → f2 ≡ record f1 { top = with_awaited f1.top w1 } → f2 ≡ f0
-frames_again f0 f1 f2 w1 before after = after ∙ before
 
 pub wait_again : (f0 f1 f2 : Chain) (w0 w2 : Awaited) → f1 ≡ record f0 { top = with_awaited f0.top w0 } → record f2 { top = with_awaited f2.top w2 } ≡ f1 → w2 ≡ w0
 wait_again f0 f1 f2 w0 w2 first before =
@@ -125,13 +121,6 @@ entered_then end s t w x k number r ls client h gone count told =
     answers_changed end t (record c { lines = reverse ls }) x.watched client h ∙ ap (λ k. Next (record c { lines = reverse ls; watched = x.watched; client = k })) gone
     ∙ ap (λ l. Next (record c { lines = l; watched = x.watched; client = advanced s.client })) (lines_then x (lines.Event (number + 1) (entry s k)) ls told)
     ∙ ap (λ n. Next (record c { lines = lines.Event n (entry s k) ∷ reverse x.lines; watched = x.watched; client = advanced s.client })) number_is
-
-pub rebound_so : {E : Type 0} (r : Result StepEnd E) (s t : Held) (w : Awaited) (x : Change) (k number : ℕ) (o : Option EnteredFrames) (ls : List Line) (client : Client)
-    → IfOk r (λ end. IfSome o (λ r. answers end t ≡ swapped_with s (with_awaited s.frames.top w) k r ls)) → client ≡ advanced s.client
-    → number ≡ length s.log → ls ≡ x.lines ++ lines.Event (number + 1) (entry s k) ∷ [] → IfOk r (λ end. IfSome o (λ r. answers end (record t { watched = x.watched; client = client }) ≡ past s (entering_then s w x k r)))
-rebound_so (Err e) s t w x k number o ls client h gone count told = tt
-rebound_so (Ok end) s t w x k number None ls client h gone count told = tt
-rebound_so (Ok end) s t w x k number (Some r) ls client h gone count told = entered_then end s t w x k number r ls client h gone count told
 
 -- ---- the trapped stack goes on
 
@@ -228,11 +217,6 @@ exited_so bundle s v w x f1 rest s1 s2 lg after rl kept ls client view there wai
     let here : replying bundle v w x Exit ≢ Stuck = subst (λ (s : Held). replying bundle s w x Exit ≢ Stuck) (sym view) there in
     ended ∙ sym (reply_exits bundle v w x here) ∙ ap (λ (s : Held). past s (replying bundle s w x Exit)) view
 
-pub exit_sound : (left : Bool) (thread stack : ℕ) (seats after : Seats) (log lg logged : List Event) → IsSound left thread stack seats log → after.threads ≡ slice_set seats.threads thread None → lg ≡ log → logged ≡ event thread (Leave stack) ∷ lg
-    → IsSound false thread stack after logged
-exit_sound left thread stack seats after log lg logged h ended same added =
-    logged_sound false thread stack after log lg logged (event thread (Leave stack)) (ended_sound left thread stack thread seats after log h ended) same added (λ i. refl)
-
 -- the same of a change that is seen so
 pub exited_with : (bundle : List Item) (s v : Held) (w : Awaited) (x y : Change) (f1 rest : Chain) (s1 s2 : Seats) (lg after : List Event) (rl kept : Rule) (ls : List Line) (client : Client)
     → y ≡ x → v ≡ s → replying bundle s w x Exit ≢ Stuck → f1 ≡ record v.frames { top = with_awaited v.frames.top w } → s1 ≡ record v.seats { stacks = slice_set v.seats.stacks v.stack (Active v.thread (frames_of f1)) }
@@ -255,13 +239,6 @@ pub resumed_with : (s v : Held) (w : Awaited) (x y : Change) (a : Arrival) (vs :
 resumed_with s v w x y a vs f1 f3 os cells number lg after rl kept ls client seen view left seated within waits arrived objects same log rule added still gone count told =
     subst (λ z. IfSome (arrives a (frames_of (waiting_frames s w)) vs) (λ r. answers (Went ls) (record (at_stack v v.stack f3 v.seats os cells after kept) { watched = y.watched; client = client }) ≡ past s (entering_then s w z s.stack r))) seen
     (resumed_so s v w y a vs f1 f3 os cells number lg after rl kept ls client view left seated within waits arrived objects same log rule added still gone count told)
-
-pub rebound_with : {E : Type 0} (r : Result StepEnd E) (s t v : Held) (w : Awaited) (x y : Change) (k number : ℕ) (o : Option EnteredFrames) (ls : List Line) (client : Client)
-    → y ≡ x → v ≡ s → IfOk r (λ end. IfSome o (λ r. answers end t ≡ swapped_with s (with_awaited s.frames.top w) k r ls)) → client ≡ advanced s.client
-    → number ≡ length v.log → ls ≡ y.lines ++ lines.Event (number + 1) (entry v k) ∷ [] → IfOk r (λ end. IfSome o (λ r. answers end (record t { watched = y.watched; client = client }) ≡ past s (entering_then s w x k r)))
-rebound_with r s t v w x y k number o ls client seen view h gone count told =
-    subst (λ z. IfOk r (λ end. IfSome o (λ r. answers end (record t { watched = y.watched; client = client }) ≡ past s (entering_then s w z k r)))) seen
-    (rebound_so r s t w y k number o ls client h gone (count ∙ ap (λ (s : Held). length s.log) view) (told ∙ ap (λ (s : Held). y.lines ++ lines.Event (number + 1) (entry s k) ∷ []) view))
 
 -- ---- what a client is shown
 

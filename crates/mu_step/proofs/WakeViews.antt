@@ -11,9 +11,8 @@ use Rattle.frames.specs.Activations.{Value, Activation}
 use Rattle.frames.specs.Chains.{Chain, frames_of, stands}
 use Rattle.mem_axioms.specs.declared.types.Rule.{Rule}
 use Rattle.mem_axioms.specs.declared.types.Event.{Event}
-use Rattle.mem_axioms.specs.Objects.{HasCell}
 use Rattle.mem_axioms.specs.EventFits.{is_thread, wakes_at, EventFits}
-use Rattle.mem_axioms.specs.Lemmas.Fitting.{thread-same, wake-numbered}
+use Rattle.mem_axioms.specs.Lemmas.Fitting.{thread-same}
 use Rattle.mu_model.specs.declared.lines.Line.{Line}
 use Rattle.mu_model.specs.declared.lines.Line.TheVariants as lines
 use Rattle.mu_model.specs.declared.endings.StepEnd.TheVariants.{Went}
@@ -21,8 +20,8 @@ use Rattle.mu_model.specs.declared.endings.Case.{Case}
 use Rattle.mu_model.specs.Acts as acts
 use Rattle.mu_model.specs.Configuration.{Stack, Active, Thread}
 use Rattle.mu_model.specs.Outcomes.{Stuck, case_of_fault}
-use Rattle.mu_model.specs.Waiting.{without, was_woken}
-use Rattle.seats.specs.Seats.{Seats, seat_of, IsOn, oldest_at}
+use Rattle.mu_model.specs.Waiting.{without}
+use Rattle.seats.specs.Seats.{Seats, IsOn, oldest_at}
 use Rattle.thread_acts.specs.Held.{Held}
 use Rattle.thread_acts.specs.Acting.{answers, acting, goes_on}
 use Rattle.thread_acts.specs.Hand.{IsSound}
@@ -30,53 +29,15 @@ use Rattle.thread_acts.specs.StepLaws.{GoesOn, set_there, get_below, some_there,
 use Rattle.thread_acts.specs.FutexLaws.{found_or}
 use Rattle.thread_acts.proofs.FutexViews.{answers_lines}
 use Rattle.mu_step.specs.Waking.{frames_at, behind, stood, goes_behind, all_go, AreDistinct, wake_event, woken_event, logs_woken, woken_lines, AreThreads}
-use Rattle.mu_step.specs.WakeLaws.{IsSeated, seated_from, seated_at, goes_from, goes_at, go_last, woken_threads, next_wakes, logs_same, logs_many, all_go_many, all_threads, waking_at, woken_of, woke, Wakes, wakes, wake_cell_there, wake_is}
+use Rattle.mu_step.specs.WakeLaws.{IsSeated, seated_from, seated_at, goes_at, go_last, woken_threads, next_wakes, logs_same, logs_many, all_go_many, all_threads, waking_at, woken_of, woke, Wakes, wakes, wake_cell_there, wake_is}
 
 -- ---- where a thread goes on that is woken
-
-pub seat_there : (bundle : List Item) (s : Seats) (i : ℕ) → IsSome (goes_behind bundle s.threads i s.stacks) → IsSome (seat_of s i)
-seat_there bundle s i h =
-    let r = some_of (goes_behind bundle s.threads i s.stacks) h in
-    let g = goes_from bundle s.threads i s.stacks r.0 r.1 in
-    some_there (seat_of s i) g.seated.seat (with_is (slice_get s.threads i) (Some g.seated.seat) (λ t. t) g.seated.there)
 
 on_seat : (s : Seats) (i k : ℕ) (seat : Thread) → IsOn s i k → slice_get s.threads i ≡ Some (Some seat) → seat.stack ≡ k
 on_seat s i k seat h e = subst (λ (o : Option (Option Thread)). IsSomeAnd (with_some o (λ t. t)) (λ (t : Thread). t.stack ≡ k)) e h
 
 frames_same : (ss : List Stack) (k i : ℕ) (fs gs : List Activation) → slice_get ss k ≡ Some (Active i fs) → slice_get ss k ≡ Some (Active i gs) → fs ≡ gs
 frames_same ss k i fs gs a b = let same : Active i fs ≡ Active i gs = cc in cc
-
--- the frames that are found by its stack are its own
-record Found (bundle : List Item) (s : Seats) (i k : ℕ) (c : Chain) : Type 0 where
-  pub goal : Activation
-  pub seated : IsSeated s.threads s.stacks i k (frames_of c)
-  pub way : goes_on bundle c.top ((was_woken ∷ []) ∷ []) ≡ Some goal
-
-found : (bundle : List Item) (s : Seats) (i k : ℕ) (c : Chain) → IsSome (goes_behind bundle s.threads i s.stacks) → IsOn s i k → slice_get s.stacks k ≡ Some (Active i (frames_of c)) → Found bundle s i k c
-found bundle s i k c h on there =
-    let r = some_of (goes_behind bundle s.threads i s.stacks) h in
-    let g = goes_from bundle s.threads i s.stacks r.0 r.1 in
-    let number : g.stack ≡ k = sym g.seated.on ∙ on_seat s i k g.seated.seat on g.seated.there in
-    let frames : g.frames ≡ frames_of c = frames_same s.stacks k i g.frames (frames_of c) (ap (slice_get s.stacks) (sym number) ∙ g.seated.stack) there in
-    let way : behind bundle (frames_of c) ≡ Some g.now = ap (behind bundle) (sym frames) ∙ g.behind_is in
-    let q = with_there (goes_on bundle c.top ((was_woken ∷ []) ∷ [])) (λ x. Some (x ∷ c.below)) g.now way in
-    record { goal = q.0; seated = record { seat = g.seated.seat; there = g.seated.there; on = g.seated.on ∙ number; stack = there }; way = q.1 }
-
-pub behind_goes : (bundle : List Item) (s : Seats) (i k : ℕ) (c : Chain) (f : Activation) (vs : List Value) → IsSome (goes_behind bundle s.threads i s.stacks) → IsOn s i k → slice_get s.stacks k ≡ Some (Active i (frames_of c))
-    → f ≡ c.top → vs ≡ (was_woken ∷ []) ∷ [] → IsSome (goes_on bundle f vs)
-behind_goes bundle s i k c f vs h on there top results =
-    let q = found bundle s i k c h on there in
-    subst (λ f. IsSome (goes_on bundle f vs)) (sym top) (subst (λ vs. IsSome (goes_on bundle c.top vs)) (sym results) (some_there (goes_on bundle c.top ((was_woken ∷ []) ∷ [])) q.goal q.way))
-
-pub behind_told : (bundle : List Item) (s : Seats) (i k : ℕ) (c : Chain) (f : Activation) (vs out : List Value) (block at : ℕ) → IsSome (goes_behind bundle s.threads i s.stacks) → IsOn s i k → slice_get s.stacks k ≡ Some (Active i (frames_of c))
-    → f ≡ c.top → vs ≡ (was_woken ∷ []) ∷ [] → goes_on bundle f vs ≡ Some (stands f block at out)
-    → IsSomeAnd (frames_at s.threads s.stacks i) (λ here. (here.0 ≡ k) × (behind bundle here.1 ≡ Some (stood block at out here.1)))
-behind_told bundle s i k c f vs out block at h on there top results way =
-    let q = found bundle s i k c h on there in
-    let so : goes_on bundle c.top ((was_woken ∷ []) ∷ []) ≡ Some (stands c.top block at out) =
-    ap (goes_on bundle c.top) (sym results) ∙ subst (λ f. goes_on bundle f vs ≡ Some (stands f block at out)) top way in
-    subst (λ (o : Option (ℕ × List Activation)). IsSomeAnd o (λ here. (here.0 ≡ k) × (behind bundle here.1 ≡ Some (stood block at out here.1)))) (sym (seated_at s.threads s.stacks i k (frames_of c) q.seated))
-    (refl, ap (λ o. with_some o (λ x. Some (x ∷ c.below))) so)
 
 -- ---- frames that are exchanged, and exchanged back
 
@@ -93,9 +54,6 @@ seat_on s i k h = by (slice_get s.threads i) refl h
     by None e h = absurd h
     by (Some None) e h = absurd h
     by (Some (Some t)) e h = (t, e, h)
-
-pub on_still : (s t : Seats) (i k : ℕ) (ss : List Stack) → IsOn s i k → t ≡ record s { stacks = ss } → IsOn t i k
-on_still s t i k ss h e = subst (λ (x : Seats). IsOn x i k) (sym e) h
 
 -- what is there after both exchanges
 pub back_again : (s mid : Seats) (i k : ℕ) (c before last : Chain) → mid ≡ record s { stacks = slice_set s.stacks k (Active i (frames_of before)) } → slice_get s.stacks k ≡ Some (Active i (frames_of c))
@@ -328,13 +286,6 @@ pub logged_empty : (wake : ℕ) (is : List ℕ) (log : List Event) → length is
 logged_empty wake is log h = logged_none wake is log (empty_is is h)
 
 pub ruleset woken_log = (woken_fits, rest_threads, rest_wake, logged_empty, logged_rest)
-
--- the event of the wake
-pub wake_fits : (rule : Rule) (objects : List (List Scalar)) (log : List Event) (i n : ℕ) (cell : CellId) → is_thread log i ≡ true → HasCell objects cell → EventFits rule objects log (wake_event i cell n)
-wake_fits rule objects log i n cell own there = record { thread = own; child = tt; cell = there; wake = tt; position = tt }
-
-pub wake_there : (log new : List Event) (i n number : ℕ) (cell : CellId) → number ≡ length log → new ≡ wake_event i cell n ∷ log → wakes_at new number ≡ true
-wake_there log new i n number cell e added = ap (λ lg. wakes_at lg number) added ∙ ap (wakes_at (wake_event i cell n ∷ log)) e ∙ wake-numbered log i cell n
 
 pub all_threads_still : (log new : List Event) (is : List ℕ) (x : Event) → AreThreads log is → new ≡ x ∷ log → AreThreads new is
 all_threads_still log new is x h added = subst (λ lg. AreThreads lg is) (sym added) (woken_threads x log is h)

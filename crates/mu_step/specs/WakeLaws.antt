@@ -173,9 +173,6 @@ go_last bundle ts (j ∷ is) ss out i k fs gs (apart, other) seated h =
 
 -- ---- events of those that are woken
 
-pub woken_thread : (wake i : ℕ) (log : List Event) (j : ℕ) → is_thread log j ≡ true → is_thread (woken_event wake i ∷ log) j ≡ true
-woken_thread wake i log j h = thread-stays log (woken_event wake i) j h
-
 pub woken_threads : (e : Event) (log : List Event) (is : List ℕ) → AreThreads log is → AreThreads (e ∷ log) is
 woken_threads e log [] h = tt
 woken_threads e log (i ∷ is) (one, rest) = (thread-stays log e i one, woken_threads e log is rest)

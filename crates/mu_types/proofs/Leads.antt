@@ -125,19 +125,6 @@ row_closed g rows i row e h = subst (λ (r : List ℕ). IsClosed g r) (sym e) (h
 pub row_within : (rows : List (List ℕ)) (i n : ℕ) (row : List ℕ) → row ≡ get_or rows i [] → ((k x : ℕ) → Holds rows k x → x < n) → (k : ℕ) → k < length row → slice_index row k < n
 row_within rows i n row e h k l = h i (slice_index row k) (subst (λ (r : List ℕ). Contains r (slice_index row k)) e (Contains-get_or row k 0 l))
 
-none_held : (rows : List (List ℕ)) → ((x : ℕ) → slice_index_or rows x [] ≡ []) → (k x : ℕ) → Holds rows k x → ⊥
-none_held rows h k x c = let d : Contains [] x = subst (λ (r : List ℕ). Contains r x) (h k) c in no_item d.0 d.1
-  where
-    no_item : (k : ℕ) → k < 0 → ⊥
-    no_item k m = omega arith
-
--- of empty rows
-pub empty_closed : (g : List TypeDef) (rows : List (List ℕ)) → ((x : ℕ) → slice_index_or rows x [] ≡ []) → AreClosed g rows
-empty_closed g rows h k a b la lb s c = absurd (none_held rows h k a c)
-
-pub empty_within : (n : ℕ) (rows : List (List ℕ)) → ((x : ℕ) → slice_index_or rows x [] ≡ []) → (k x : ℕ) → Holds rows k x → x < n
-empty_within n rows h k x c = absurd (none_held rows h k x c)
-
 pub arg_there : (g : List TypeDef) (x k : ℕ) (d : TypeDef) (xs : List ℕ) → x < length g → xs ≡ arguments (get_or g x d) → k < length xs → arg g x k ≡ Some (get_or xs k 0)
 arg_there g x k d xs l v m =
     let n = get_or g x d in

@@ -4,16 +4,10 @@ use Rattle.std.proofs.Math.ListN.{set}
 use Rattle.std.specs.Prelude.{slice_index}
 use Rattle.std.proofs.lemmas.Bool.{cases_eq, cases_lt}
 use Rattle.std.proofs.lemmas.List.{get_or-set_same, get_or-set_other}
-use Rattle.mu_types.specs.Names.{NamesLeast, FirstsSoFar}
+use Rattle.mu_types.specs.Names.{FirstsSoFar}
 
 abbrev pub NamedSoFar : List ℕ → List ℕ → ℕ → Type 0
 NamedSoFar block p n = (x : ℕ) → x < n → (slice_index p x ≤ x) × ((b : ℕ) → b < x → slice_index block b ≡ slice_index block x → slice_index p x ≤ b)
-
-pub named_all : (block p : List ℕ) (n : ℕ) → NamedSoFar block p n → NamesLeast block p n
-named_all block p n h x l =
-    let q = h x l in
-    let low = q.0 in
-    (q.0, λ b lb e. elim (cases_lt b x) [ inl m ↦ q.1 b m e | inr m ↦ omega arith ])
 
 -- a block that was not met yet gets x
 pub first_met : (block first : List ℕ) (x : ℕ) → slice_index block x < length first → x < slice_index first (slice_index block x) → FirstsSoFar block first x → FirstsSoFar block (set first (slice_index block x) x) (x + 1)

@@ -6,7 +6,7 @@ use Rattle.std.proofs.lemmas.List.Elements.{All-nil, All-cons, All-append}
 use Rattle.type_laws.specs.Definition.{arguments}
 use Rattle.type_laws.specs.Same.{IsGraph}
 use Rattle.std.specs.Prelude.{slice_index}
-use Rattle.std.proofs.lemmas.List.{get_or_append_left, get_or_at, get_or-append-add, length-append, append_assoc, append-nil, take_all}
+use Rattle.std.proofs.lemmas.List.{get_or_append_left, get_or_at, get_or-append-add, length-append, append_assoc, append-nil}
 use Rattle.std.proofs.lemmas.Option.{slice_get_within, slice_get-get_or, get_or_from_slice_get}
 use Rattle.type_laws.specs.declared.definition.TypeDef.{TypeDef}
 use Rattle.type_laws.specs.declared.definition.TypeDef.TheVariants.{Int, Void, Ref, Iref, FuncRef, StackRef, ThreadRef}
@@ -88,17 +88,6 @@ referred_step all more first next t l e f g r u lu =
     subst (λ (m : List TypeDef). ReferTo m u (slice_index next u)) (sym (g Void))
     (pushed (λ x i. ReferTo (all ++ references t (get_or all t Void)) x i) first next t (length all) e f
     (λ x m. kept all (references t (get_or all t Void)) x (slice_index first x) (omega arith) (r x m)) (made all t Void l) u lu)
-
-pub complete_all : (w all : List TypeDef) (t : ℕ) → t ≡ length w + 1 → all ≡ so_far w t → all ≡ complete w
-complete_all w all t e h = h ∙ ap (λ (xs : List TypeDef). w ++ Void ∷ [] ++ Int 1 ∷ Int 32 ∷ StackRef ∷ ThreadRef ∷ [] ++ references_from 0 xs) (take_all t (w ++ Void ∷ []) (omega (arith, e, length-append w (Void ∷ []))))
-
--- at most two refer to each
-pub references_few : (t : ℕ) (d : TypeDef) → length (references t d) ≤ 2
-references_few t d = go (is_signature d)
-  where
-    go : (b : Bool) → length (cond b (FuncRef t ∷ []) (Ref t ∷ Iref t ∷ [])) ≤ 2
-    go true = omega arith
-    go false = omega arith
 
 pub headed : (w : List TypeDef) → IsHeaded (complete w) (length w)
 headed w =

@@ -1,6 +1,6 @@
 -- Signed integers and their bits.
 use Rattle.std.proofs.Common.{◌≡◌, ℕ, zero, suc, ◌+◌, ◌-◌, ◌*◌, ◌/◌, ◌%◌, ◌^◌, ◌<◌, ◌≤◌, Bool, true, false, not, if◌then◌else◌, refl, sym, ap, ◌∙◌, suc-mul, arith, inl, inr}
-use Rattle.std.specs.Prelude.{ℤ, pos, negsuc, neg_ℤ, ◌-ℤ◌, nat_lt, int_lt, int_le, int_div, int_rem, unsigned_abs}
+use Rattle.std.specs.Prelude.{ℤ, pos, negsuc, neg_ℤ, ◌-ℤ◌, nat_lt, int_div, int_rem, unsigned_abs}
 use Rattle.std.specs.Int.Signed.{shr_z}
 use Rattle.std.proofs.lemmas.Bool.{lt-ltb, le-ltb, ltb-true, ltb-false, cases_lt}
 use Rattle.std.proofs.lemmas.Int.{ints}
@@ -77,19 +77,9 @@ div_alike (negsuc a) (negsuc b) e = refl
 div_alike (pos a) (negsuc b) e = cc
 div_alike (negsuc a) (pos b) e = cc
 
-pub div_unlike : (x y : ℤ) → is_negative x ≡ not (is_negative y) → int_div x y ≡ neg_ℤ (pos (unsigned_abs x / unsigned_abs y))
-div_unlike (pos a) (pos b) e = cc
-div_unlike (negsuc a) (negsuc b) e = cc
-div_unlike (pos a) (negsuc b) e = refl
-div_unlike (negsuc a) (pos b) e = refl
-
 pub rem_positive : (x y : ℤ) → is_negative x ≡ false → int_rem x y ≡ pos (unsigned_abs x % unsigned_abs y)
 rem_positive (pos a) y e = refl
 rem_positive (negsuc a) y e = cc
-
-pub rem_negative : (x y : ℤ) → is_negative x ≡ true → int_rem x y ≡ neg_ℤ (pos (unsigned_abs x % unsigned_abs y))
-rem_negative (pos a) y e = cc
-rem_negative (negsuc a) y e = refl
 
 pub sign_is : (w n : ℕ) → n < 2 ^ w → is_negative (signed w n) ≡ not (nat_lt n (2 ^ (w - 1)))
 sign_is w n l = elim (cases_lt n (2 ^ (w - 1))) [
@@ -98,31 +88,6 @@ sign_is w n l = elim (cases_lt n (2 ^ (w - 1))) [
 ]
 
 -- ---- order
-
-pub less_low : (w a b : ℕ) → a < 2 ^ (w - 1) → b < 2 ^ (w - 1) → int_lt (signed w a) (signed w b) ≡ nat_lt a b
-less_low w a b l m = rw (signed_low w a l, signed_low w b m) refl
-
-less_flipped : (t a b : ℕ) → a ≤ t → b ≤ t → nat_lt (t - b) (t - a) ≡ nat_lt a b
-less_flipped t a b l m = grind arith
-
-pub less_high : (w a b : ℕ) → 2 ^ (w - 1) ≤ a → 2 ^ (w - 1) ≤ b → a < 2 ^ w → b < 2 ^ w → int_lt (signed w a) (signed w b) ≡ nat_lt a b
-less_high w a b l m p q = rw (signed_high w a l p, signed_high w b m q) (less_flipped (2 ^ w - 1) a b (omega (arith, p)) (omega (arith, q)))
-
-pub less_mixed : (w a b : ℕ) → a < 2 ^ (w - 1) → 2 ^ (w - 1) ≤ b → b < 2 ^ w → int_lt (signed w a) (signed w b) ≡ false
-less_mixed w a b l m q = rw (signed_low w a l, signed_high w b m q) refl
-
-pub less_crossed : (w a b : ℕ) → 2 ^ (w - 1) ≤ a → a < 2 ^ w → b < 2 ^ (w - 1) → int_lt (signed w a) (signed w b) ≡ true
-less_crossed w a b l p m = rw (signed_high w a l p, signed_low w b m) refl
-
-nat_le_not : (a b : ℕ) → not (nat_lt b a) ≡ (int_le (pos a) (pos b))
-nat_le_not a b = grind arith
-
--- not greater is less or equal
-pub le_is : (x y : ℤ) → int_le x y ≡ not (int_lt y x)
-le_is (pos a) (pos b) = sym (nat_le_not a b)
-le_is (pos a) (negsuc b) = refl
-le_is (negsuc a) (pos b) = refl
-le_is (negsuc a) (negsuc b) = sym (nat_le_not b a)
 
 -- ---- what the functions need
 

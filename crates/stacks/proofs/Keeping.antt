@@ -3,7 +3,7 @@ use Rattle.std.specs.Prelude.{◌≡◌, ◌≢◌, ℕ, ◌+◌, ◌-◌, ◌<�
 use Rattle.std.proofs.Common.{sym, ◌∙◌, ap, subst, inl, inr, arith, set, get_or}
 use Rattle.std.proofs.lemmas.Bool.{cases_eq}
 use Rattle.std.proofs.lemmas.List.{length-set, length_push, map-set}
-use Rattle.std.proofs.lemmas.List.Sums.{sum_by-set, sum_by-append, count_by-le-length}
+use Rattle.std.proofs.lemmas.List.Sums.{sum_by-set, sum_by-append}
 use Rattle.std.proofs.lemmas.Option.{slice_get-map, slice_get_within, get_or_from_slice_get, same_Some}
 use Rattle.slab.specs.Slab.{Slab, get, slab_len, Updates}
 use Rattle.stacks.specs.Stacks.{Unbound}
@@ -230,9 +230,6 @@ state_option kept bodies n (Some x) state has at told = ap Some (states_agree ke
 pub state_seen : (kept : List Kept) (bodies : Slab Unbound) (active n : ℕ) (state : StackState) → IsSound kept bodies active → option_map state_kept (slice_get kept n) ≡ Some state → option_map state_of (slice_get (map (entry_of bodies) kept) n) ≡ Some state
 state_seen kept bodies active n state sound told =
     ap (option_map state_of) (slice_get-map (entry_of bodies) kept n) ∙ state_option kept bodies n (slice_get kept n) state sound.bodied refl told
-
-pub active_fits : (kept : List Kept) (bodies : Slab Unbound) (active : ℕ) → IsSound kept bodies active → active ≤ 4294967295
-active_fits kept bodies active sound = omega (arith, count_by-le-length is_active kept, sound.counted, sound.few)
 
 pub taken_counts : (kept : List Kept) (bodies : Slab Unbound) (active n thread : ℕ) → IsSound kept bodies active → slice_get kept n ≡ Some (Active thread) → 0 < active
 taken_counts kept bodies active n thread sound at =

@@ -1,5 +1,5 @@
 -- Reading a list one element at a time, as a loop does: lists with a state.
-use Rattle.std.proofs.Common.{◌≡◌, ℕ, zero, suc, ◌<◌, Bool, true, false, cond, List, [], ◌∷◌, ◌++◌, length, Result, Ok, Err, refl, sym, ap, subst, ◌∙◌, arith, ◌&&◌}
+use Rattle.std.proofs.Common.{◌≡◌, ℕ, zero, suc, ◌<◌, Bool, true, false, cond, List, [], ◌∷◌, ◌++◌, length, Result, Ok, Err, refl, sym, ap, ◌∙◌, arith, ◌&&◌}
 use Rattle.std.proofs.lemmas.List.{length-append}
 use Rattle.text_forms.specs.declared.symbol.Symbol.{Symbol}
 use Rattle.text_forms.specs.declared.fault.Fault.{Fault}
@@ -11,7 +11,7 @@ use Rattle.text_forms.specs.Begins.{empties, begins, decides, steady}
 use Rattle.text_forms.specs.Reading.{◌>>=◌, elements, read_from, read}
 use Rattle.text_forms.specs.Answers.{Gives, kept}
 use Rattle.text_forms.proofs.Tests.{and_true}
-use Rattle.text_forms.proofs.Beginnings.{nonempty, at_derived}
+use Rattle.text_forms.proofs.Beginnings.{nonempty}
 use Rattle.text_forms.proofs.Reading.{reads, run}
 
 -- ---- steps that may fail
@@ -66,12 +66,6 @@ pub shorter : {A : Type 0} (f : Form A) → IsElement f → (p : ℕ) (ts : List
 shorter f el p ts a rest e =
     let r = reads f el.decided p ts a rest e in
     shorter_by r.front rest ts (λ none. nonempty f r.front a el.some none r.derives) r.parts
-
--- where an element was read, one began
-pub began : {A : Type 0} (f : Form A) → IsElement f → (p : ℕ) (ts : List Tok) (a : A) (rest : List Tok) → read_from f p ts ≡ Ok (a, rest) → at (begins f) ts ≡ true
-began f el p ts a rest e =
-    let r = reads f el.decided p ts a rest e in
-    subst (λ (l : List Tok). at (begins f) l ≡ true) (sym r.parts) (at_derived f el.decided r.front a rest (λ none. nonempty f r.front a el.some none r.derives) r.derives)
 
 -- past its limit an element fails as it would within, where none begins
 pub past_read : {A : Type 0} (f : Form A) (p : ℕ) (ts : List Tok) → at (begins f) ts ≡ false → read_from (past f) p ts ≡ read_from f p ts

@@ -197,9 +197,6 @@ ahead_append (t ∷ x) ts us e = refl
 abbrev pub clear : List Symbol → List Tok → Bool
 clear xs ts = not (at xs ts)
 
-pub clear_none : (xs : List Symbol) → clear xs [] ≡ true
-clear_none xs = refl
-
 -- ---- lists of tokens
 
 pub nil_append : (u v : List Tok) → [] ≡ u ++ v → (u ≡ []) × (v ≡ [])

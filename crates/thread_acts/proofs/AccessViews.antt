@@ -1,12 +1,11 @@
 -- Lemmas of accesses, over the view of a state and its parts.
-use Rattle.std.proofs.Common.{◌≡◌, ◌≢◌, ℕ, zero, suc, ◌+◌, ◌<◌, ◌≤◌, true, false, List, [], ◌∷◌, ◌++◌, drop, Option, Some, None, IsSome, IsSomeAnd, Result, Ok, Err, IfOk, length, slice_get, refl, sym, ◌∙◌, ap, subst, arith, add-one}
+use Rattle.std.proofs.Common.{◌≡◌, ◌≢◌, ℕ, ◌+◌, ◌<◌, ◌≤◌, true, List, [], ◌∷◌, ◌++◌, drop, Some, None, IsSome, Result, Ok, Err, IfOk, length, slice_get, sym, ◌∙◌, ap, subst, arith, add-one}
 use Rattle.std.specs.Prelude.{reverse}
 use Rattle.ir_tree.specs.declared.items.Item.{Item}
 use Rattle.mu_values.specs.declared.scalars.Scalar.{Scalar}
 use Rattle.mu_values.specs.declared.scalars.Scalar.TheVariants.{Place}
 use Rattle.heap_cells.specs.declared.cells.CellId.{CellId}
 use Rattle.typed_heap.specs.declared.faults.PlaceFault.{PlaceFault}
-use Rattle.typed_heap.specs.Objects.{HeapObject}
 use Rattle.typed_heap.specs.Places.{cell_of}
 use Rattle.frames.specs.Activations.{Value, Activation}
 use Rattle.frames.specs.Chains.{Chain, stands}
@@ -35,28 +34,12 @@ use Rattle.mu_model.specs.Changes.{event}
 use Rattle.mu_model.specs.Outcomes.{Outcome, Next, End, Stuck, case_of_fault}
 use Rattle.thread_acts.specs.Held.{Held, ahead}
 use Rattle.thread_acts.specs.Acting.{left_configuration, answers, went_with, acting, goes_on}
-use Rattle.thread_acts.specs.Remembering.{initials, has_cell}
+use Rattle.thread_acts.specs.Remembering.{initials}
 use Rattle.thread_acts.specs.Accessing.{options_of, picking, accesses_found, race_at, logs_unless, logs}
 use Rattle.thread_acts.specs.StepLaws.{configuration_left}
-use Rattle.thread_acts.specs.AccessLaws.{cell_there, access_is, option_there, option_is, position_low, access_fits, access_room, fence_there, fence_is}
+use Rattle.thread_acts.specs.AccessLaws.{access_is, option_there, option_is, position_low, access_fits, access_room, fence_there, fence_is}
 
 -- ---- the cell
-
-pub place_there : (bundle : List Item) (s v : Held) (a : Access) (cell : CellId) → v ≡ s → acting bundle s (Accesses a cell) ≢ Stuck → IsSome (cell_of v.objects (Place cell.object cell.at))
-place_there bundle s v a cell view h = subst (λ (s : Held). IsSome (cell_of s.objects (Place cell.object cell.at))) (sym view) (cell_there bundle s a cell h)
-
-pub object_there : (P : HeapObject → Type 0) (os : List HeapObject) (n : ℕ) → IsSomeAnd (slice_get os n) P → n < length os
-object_there P [] n h = absurd h
-object_there P (o ∷ os) zero h = omega arith
-object_there P (o ∷ os) (suc n) h = omega (arith, object_there P os n h)
-
-at_low : (o : Option HeapObject) (at k : ℕ) → IsSomeAnd o (λ o. (at < length o.leaves) × (o.dead ≡ false)) → IsSomeAnd o (λ o. length o.leaves ≡ k) → at < k
-at_low None at k h many = absurd h
-at_low (Some o) at k h many = omega (arith, h.0, many)
-
-pub cell_known : (os : List HeapObject) (cell : CellId) (k : ℕ) → IsSomeAnd (slice_get os cell.object) (λ o. (cell.at < length o.leaves) × (o.dead ≡ false)) → IsSomeAnd (slice_get os cell.object) (λ o. length o.leaves ≡ k)
-    → IsSomeAnd (slice_get os cell.object) (λ o. length o.initial ≡ k) → HasCell (initials os) cell
-cell_known os cell k h leaves many = has_cell os (initials os) cell.object cell.at k refl many (at_low (slice_get os cell.object) cell.at k h leaves)
 
 pub found_picks : (bundle : List Item) (s v : Held) (a : Access) (cell there : CellId) (r : Result CellId PlaceFault) → v ≡ s → acting bundle s (Accesses a cell) ≢ Stuck → cell_of v.objects (Place cell.object cell.at) ≡ Some r → r ≡ Ok there
     → acting bundle s (Accesses a cell) ≡ picking bundle s a there

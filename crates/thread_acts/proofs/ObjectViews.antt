@@ -1,5 +1,5 @@
 -- Lemmas of acts over objects, over the view of a state and its parts.
-use Rattle.std.proofs.Common.{◌≡◌, ◌≢◌, ℕ, ◌+◌, ◌-◌, ◌^◌, ◌<◌, ◌≤◌, Bool, List, [], ◌∷◌, ◌++◌, IsSome, Some, Result, Ok, Err, IfOk, OnOk, length, take, sym, ◌∙◌, ap, subst, arith, length-append}
+use Rattle.std.proofs.Common.{◌≡◌, ◌≢◌, ℕ, ◌+◌, ◌-◌, ◌^◌, ◌<◌, ◌≤◌, Bool, List, [], ◌∷◌, ◌++◌, IsSome, Some, Result, Ok, Err, IfOk, OnOk, length, take, sym, ◌∙◌, ap, subst, arith}
 use Rattle.ir_tree.specs.declared.items.Item.{Item}
 use Rattle.mu_values.specs.declared.scalars.Scalar.{Scalar}
 use Rattle.bundle_check.specs.Checking.{bundle_tables}
@@ -48,13 +48,6 @@ pub full_here : (s v : Held) (f : HeapFault) (n : ℕ) → v ≡ s → IsFull f 
 full_here s v f n view h = subst (λ (s : Held). IsFull f n s.cells) view h
 
 -- ---- objects that are made
-
-pub there_so : (o p : Outcome) → o ≢ Stuck → o ≡ p → p ≢ Stuck
-there_so o p h e = λ stuck. h (e ∙ stuck)
-
--- so many were made before it
-pub number_so : (os ps : List HeapObject) (o : HeapObject) (n : ℕ) → ps ≡ os ++ o ∷ [] → n ≡ length os → n + 1 ≡ length ps
-number_so os ps o n is number = ap (λ n. n + 1) number ∙ sym (length-append os (o ∷ [])) ∙ ap length (sym is)
 
 pub made_there : (bundle : List Item) (s v : Held) (t : ℕ) (m : Making) (n : ℕ) → v ≡ s → length (leaves_made (graph_of bundle) t m) ≤ v.cells → n ≡ length v.objects → acting bundle s (act_of t m) ≢ Stuck
     → IsSome (goes_on bundle (frame_made m v.frames.top n) ((result_made m n ∷ []) ∷ []))

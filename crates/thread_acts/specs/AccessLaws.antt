@@ -200,9 +200,6 @@ fence_is bundle s o f h way =
     let r = acting_there bundle s (Fences o) h in
     acting_is bundle s (Fences o) r.0 r.1 ∙ fence_by bundle s o r.0 f way ∙ ap (logs_unless s (fenced s.thread o) (ahead s) (record s.frames { top = f })) (sym (others-race s.rule s.log (fenced s.thread o) refl))
 
-pub fence_fits : (rule : Rule) (objects : List (List Scalar)) (log : List Event) (i : ℕ) (o : Order) → is_thread log i ≡ true → EventFits rule objects log (fenced i o)
-fence_fits rule objects log i o own = record { thread = own; child = tt; cell = tt; wake = tt; position = tt }
-
 -- ---- what is logged of an access
 
 -- it may come next, and needs room for its own cell

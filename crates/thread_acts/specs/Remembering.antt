@@ -1,11 +1,8 @@
 -- Inner: nothing that a reader believes of a run rests on this. It is what a memory is to know of the objects of a heap.
-use Rattle.std.specs.Prelude.{◌≡◌, ℕ, zero, suc, ◌+◌, ◌<◌, List, [], ◌∷◌, ◌++◌, Option, Some, None, IsSomeAnd, Result, Ok, Err, OnOk, map, fold, length, slice_get, slice_index_or, slice_set, take, refl}
-use Rattle.std.proofs.Common.{sym, ◌∙◌, ap, subst, arith, add-one}
-use Rattle.std.proofs.Math.Seq.{take-suc}
+use Rattle.std.specs.Prelude.{◌≡◌, ℕ, zero, suc, ◌+◌, ◌<◌, List, [], ◌∷◌, ◌++◌, Option, Some, None, IsSomeAnd, Result, Ok, Err, OnOk, map, fold, length, slice_get, take, refl}
+use Rattle.std.proofs.Common.{sym, ◌∙◌, ap, arith, add-one}
 use Rattle.mu_values.specs.declared.scalars.Scalar.{Scalar}
-use Rattle.heap_cells.specs.declared.cells.CellId.{CellId}
 use Rattle.typed_heap.specs.Objects.{HeapObject, killed}
-use Rattle.mem_axioms.specs.Objects.{HasCell}
 use Rattle.mu_model.specs.Changes.{changed}
 use Rattle.thread_acts.specs.Acting.{objects_end}
 
@@ -29,18 +26,6 @@ unfolding objects_end
 ends_same os ps ns e = ap initials e ∙ ended_same os ns
 
 -- ---- one more object
-
-initials_behind : (os ps : List HeapObject) → initials (os ++ ps) ≡ initials os ++ initials ps
-initials_behind [] ps = refl
-initials_behind (o ∷ os) ps = ap (λ is. o.initial ∷ is) (initials_behind os ps)
-
-take_front : (os : List HeapObject) (o : HeapObject) → take (length os) (os ++ o ∷ []) ≡ os
-take_front [] o = refl
-take_front (p ∷ os) o = ap (λ os. p ∷ os) (take_front os o)
-
--- so far, all but the newest are known
-pub newest_unknown : (os ps : List HeapObject) (o : HeapObject) (n : ℕ) (known : List (List Scalar)) → known ≡ initials os → ps ≡ os ++ o ∷ [] → n ≡ length os → known ≡ initials (take n ps)
-newest_unknown os ps o n known h is number = h ∙ ap initials (sym (take_front os o)) ∙ ap (λ m. initials (take m (os ++ o ∷ []))) (sym number) ∙ ap (λ ps. initials (take n ps)) (sym is)
 
 initial_at : (os : List HeapObject) (n : ℕ) (is : List Scalar) → IsSomeAnd (slice_get os n) (λ o. o.initial ≡ is) → initials (take (suc n) os) ≡ initials (take n os) ++ is ∷ []
 initial_at [] n is h = absurd h
@@ -105,13 +90,3 @@ within_leaves None k n h low = absurd h
 within_leaves (Some o) k n h low = omega (arith, h, low)
 
 pub ruleset scalars = (none_so_far, one_more_scalar, all_scalars, within_leaves)
-
--- ---- a cell that is there is known
-
-pub has_cell : (os : List HeapObject) (known : List (List Scalar)) (object at k : ℕ) → known ≡ initials os → IsSomeAnd (slice_get os object) (λ o. length o.initial ≡ k) → at < k → HasCell known (record { object = object; at = at })
-has_cell os known object at k h many low = subst (λ known. HasCell known (record { object = object; at = at })) (sym h) (by os object many)
-  where
-    by : (os : List HeapObject) (n : ℕ) → IsSomeAnd (slice_get os n) (λ o. length o.initial ≡ k) → HasCell (initials os) (record { object = n; at = at })
-    by [] n many = absurd many
-    by (o ∷ os) zero many = (omega arith, omega (arith, many, low))
-    by (o ∷ os) (suc n) many = let r = by os n many in (omega (arith, r.0), r.1)

@@ -13,7 +13,6 @@ use Rattle.mem_axioms.specs.declared.types.Kind.TheVariants.{NewStack}
 use Rattle.mem_axioms.specs.declared.types.Rule.{Rule}
 use Rattle.mem_axioms.specs.declared.types.Event.{Event}
 use Rattle.mem_axioms.specs.EventFits.{is_thread, EventFits}
-use Rattle.mem_axioms.specs.Lemmas.Fitting.{thread-same}
 use Rattle.mu_model.specs.declared.lines.Line.TheVariants as lines
 use Rattle.mu_model.specs.declared.endings.Case.TheVariants as cases
 use Rattle.mu_model.specs.Types.{classes_taken}
@@ -60,10 +59,6 @@ set_behind : {A : Type 0} (xs ys : List A) (k : ℕ) (a b : A) → k < length xs
 set_behind [] ys k a b h = absurd (omega (arith, h))
 set_behind (x ∷ xs) ys zero a b h = refl
 set_behind (x ∷ xs) ys (suc k) a b h = ap (λ zs. x ∷ zs) (set_behind xs ys k a b (omega (arith, h)))
-
-one_longer : {A : Type 0} (xs : List A) (x : A) → length (xs ++ x ∷ []) ≡ suc (length xs)
-one_longer [] x = refl
-one_longer (y ∷ xs) x = ap suc (one_longer xs x)
 
 -- ---- results, whatever else was changed
 
@@ -249,15 +244,6 @@ pub stack_fits : (rule : Rule) (objects : List (List Scalar)) (lg log : List Eve
 stack_fits rule objects lg log i k same made =
     subst (λ log. EventFits rule objects log (stack_event i k)) (sym same) (record { thread = made; child = tt; cell = tt; wake = tt; position = tt })
 
-pub stack_sound : (left : Bool) (thread stack block k : ℕ) (waits : List ℕ) (seats : Seats) (log : List Event) → IsSound left thread stack seats log
-    → IsSound left thread stack (with_stack block waits seats) (stack_event thread k ∷ log)
-stack_sound left thread stack block k waits seats log h =
-    record {
-      on_stack = h.on_stack;
-      within = λ e. omega (arith, h.within e, one_longer seats.stacks (Ready (waiting_frame block waits ∷ [])));
-      made = λ i. thread-same log (stack_event thread k) i refl ∙ h.made i;
-    }
-
 pub ruleset makes_stack = (makes_stack_there, makes_without_body)
 
 -- ---- a stack that is named by a scalar
@@ -362,9 +348,5 @@ unfolding kill_go
 kills_is bundle s x n fs top h named other e way =
     let q = kills_by bundle s x n fs h named other e in
     q.1 ∙ results_are bundle s q.0 (stack_dies n fs (begun s)) [] top way ∙ killed_more s n fs top
-
-pub kill_sound : (left : Bool) (thread stack n : ℕ) (seats : Seats) (log : List Event) → IsSound left thread stack seats log → IsSound left thread stack (record seats { stacks = slice_set seats.stacks n Dead }) log
-kill_sound left thread stack n seats log h =
-    record { on_stack = h.on_stack; within = λ e. omega (arith, h.within e, set_length seats.stacks n Dead); made = h.made }
 
 pub ruleset kills_stack = (kills_named, kills_not_ready)

@@ -1,7 +1,6 @@
 -- Inner: nothing that a reader believes of a run rests on this. It is the first configuration of a run, by the numbers of the code.
-use Rattle.std.specs.Prelude.{◌≡◌, ℕ, zero, suc, ◌+◌, ◌-◌, ◌<◌, ◌==◌, ◌||◌, false, nat_lt, List, [], ◌∷◌, ◌++◌, Option, Some, None, IsSome, IsSomeAnd, length, map, take, drop, slice_get, slice_index_or, sum_by, refl}
+use Rattle.std.specs.Prelude.{◌≡◌, ℕ, zero, suc, ◌+◌, ◌-◌, ◌<◌, ◌==◌, ◌||◌, false, nat_lt, List, [], ◌∷◌, ◌++◌, Option, Some, None, IsSome, IsSomeAnd, length, map, take, slice_get, slice_index_or, refl}
 use Rattle.std.proofs.Common.{sym, ◌∙◌, ap, subst, arith, add-one, inl, inr}
-use Rattle.std.proofs.Math.Nat.{sub-zero}
 use Rattle.std.proofs.lemmas.Bool.Decides.{nat_tests, eqb_tells}
 use Rattle.std.proofs.Math.Seq.{take-suc}
 use Rattle.std.specs.List.{All}
@@ -119,15 +118,6 @@ all_so_far p n e = ap (λ m. map (global_object p.types.definitions) (take m p.g
 pub ruleset globals = (none_so_far, one_more, all_so_far)
 
 -- ---- the first configuration
-
-none_behind : (f : ℕ → HeapObject) (xs : List ℕ) → drop (length xs) (map f xs) ≡ []
-none_behind f [] = refl
-none_behind f (x ∷ xs) = none_behind f xs
-
--- the cells of the globals do not count
-pub globals_not_counted : (p : Tables) (left cells : ℕ) → left ≡ cells → left ≡ cells_left p cells (global_objects p)
-globals_not_counted p left cells h =
-    h ∙ sym (sub-zero cells) ∙ ap (λ os. cells - sum_by (λ (o : HeapObject). length o.leaves) os) (sym (none_behind (λ c. object_of (type_graph p) (target_leaves p (class_definition p c))) p.global_cells))
 
 pub start_there : (bundle : List Item) (f : ℕ) → IsSomeAnd ((numbered bundle).body f) IsSome
     → (function : Function) × (slice_get (bundle_functions bundle) f ≡ Some function) × (block : ℕ) × (function.first ≡ Some block) × (f < length (bundle_functions bundle))

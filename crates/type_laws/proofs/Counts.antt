@@ -37,9 +37,6 @@ min_low m x l = omega (arith, clamps)
 min_high : (m x : ℕ) → m ≤ x → min m x ≡ m
 min_high m x l = omega (arith, clamps)
 
-pub capped_sum : (m s x : ℕ) → min m (min m s + min m x) ≡ min m (s + x)
-capped_sum m s x = omega (arith, clamps)
-
 pub capped_product : (m s x : ℕ) → min m (s * min m x) ≡ min m (s * x)
 capped_product m zero x = ap (λ k. min m k) (zero-mul (min m x) ∙ sym (zero-mul x))
 capped_product m (suc s) x = elim (cases_lt m x) [

@@ -12,11 +12,11 @@ use Rattle.type_laws.specs.Definition.{arguments}
 use Rattle.type_laws.specs.Same.{IsGraph}
 use Rattle.type_laws.proofs.Depth.{args_within}
 use Rattle.mu_values.specs.declared.scalars.Scalar.{Scalar}
-use Rattle.mu_values.specs.declared.scalars.Scalar.TheVariants.{Object, Place}
+use Rattle.mu_values.specs.declared.scalars.Scalar.TheVariants.{Place}
 use Rattle.check_tables.specs.TypeTests.{fixed_fields_of}
 use Rattle.typed_heap.specs.declared.faults.PlaceFault.{PlaceFault}
 use Rattle.typed_heap.specs.Objects.{HeapObject}
-use Rattle.typed_heap.specs.Places.{Move, Field, with_some, leaves_together, move, find_place, cast, cell_of}
+use Rattle.typed_heap.specs.Places.{Move, Field, with_some, leaves_together, move, find_place, cast}
 use Rattle.typed_heap.specs.Offsets.{offset_of}
 
 is_there : {A : Type 0} (xs : List A) (n : ℕ) (o : Option A) → slice_get xs n ≡ o → IsSome o → n < length xs
@@ -130,18 +130,3 @@ field_found g os t n object at fields wanted place r h w is found =
     let here : slice_get fields n ≡ Some wanted = slice_get-get_or fields n 0 h.there ∙ ap Some (sym w) in
     let moves : move g (Field t n) ≡ Some (record { by = Some (pos (leaves_together g (take n fields))); wanted = wanted }) = rw (h.are, here) refl in
     rw (is, moves) found
-
--- ---- an answer is there
-
-abbrev no_object : HeapObject
-no_object = record { leaves = []; initial = []; dead = false }
-
-pub some_at_place : (g : List TypeDef) (os : List HeapObject) (m : Option Move) (n at : ℕ) → n < length os → IsSome m → IsSome (find_place g os m (Place n at))
-some_at_place g os None n at l h = cc
-some_at_place g os (Some way) n at l h = rw (slice_get-get_or os n no_object l) refl
-
-pub some_cast_object : (g : List TypeDef) (os : List HeapObject) (t n : ℕ) → n < length os → IsSome (cast g os (Some (Ref t)) (Object n))
-some_cast_object g os t n l = rw (slice_get-get_or os n no_object l) refl
-
-pub some_cell : (os : List HeapObject) (n at : ℕ) → n < length os → IsSome (cell_of os (Place n at))
-some_cell os n at l = rw (slice_get-get_or os n no_object l) refl

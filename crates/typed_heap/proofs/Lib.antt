@@ -7,4 +7,3 @@ pub mod Found
 pub mod Fitted
 pub mod Landing
 pub mod Repeating
-pub mod Narrow

@@ -18,10 +18,6 @@ use Rattle.typed_heap.proofs.Firsts.{zeros_shown, firsts_known, given_shown}
 
 -- ---- leaves that repeat
 
-repeat_kept : (from : ℕ) (es : List Extent) (cs ds : List ℕ) → IsCut from es (length cs) → AllRepeat from es cs → AllRepeat from es (cs ++ ds)
-repeat_kept from [] cs ds h r = tt
-repeat_kept from (e ∷ es) cs ds h r = (rw (range_kept cs ds from e.end h.0 (within e.end es (length cs) h.2)) r.0, repeat_kept e.end es cs ds h.2 r.1)
-
 repeat_unkept : (from : ℕ) (es : List Extent) (cs ds : List ℕ) → IsCut from es (length cs) → AllRepeat from es (cs ++ ds) → AllRepeat from es cs
 repeat_unkept from [] cs ds h r = tt
 repeat_unkept from (e ∷ es) cs ds h r = (rw (← range_kept cs ds from e.end h.0 (within e.end es (length cs) h.2)) r.0, repeat_unkept e.end es cs ds h.2 r.1)

@@ -26,7 +26,6 @@ use Rattle.typed_heap.specs.Objects.{HeapObject, leaf_classes, run_classes, obje
 use Rattle.typed_heap.specs.Fits.{World, DefinitionFits, ScalarFits, fits, place_fits}
 use Rattle.typed_heap.specs.Places.{with_some, cast_if, Way, Field, Element as ElementOf, Shift, VarPart, Move, leaves_together, units, within, move, moved, find_place}
 use Rattle.typed_heap.proofs.Landing.{found_fits}
-use Rattle.typed_heap.proofs.Narrow.{if_ok}
 use Rattle.mu_model.specs.Types.{class_width}
 use Rattle.mu_model.specs.Acts as acts
 use Rattle.mu_model.specs.Acts.{Act}
@@ -46,6 +45,10 @@ use Rattle.typed_programs.proofs.Classes.{int_class, shaped, scalar_leaf}
 use Rattle.typed_programs.proofs.Sources.{graph_of, Moment, one_scalar, bits_fit}
 use Rattle.typed_programs.proofs.Computing.{FitsAt, DoesFit, GivesAt, known_then, gives_one}
 use Rattle.typed_programs.proofs.Shapes.{fits_itself, fits_alone, place_first, AreSame, same_fits, same_place, iref_same, class_is, fixed_part, element_part, repeated_part}
+
+if_ok : {A E : Type 0} (P Q : A → Type 0) (r : Result A E) → ((a : A) → P a → Q a) → IfOk r P → IfOk r Q
+if_ok P Q (Ok a) f h = f a h
+if_ok P Q (Err e) f h = h
 
 index_is_int : (d : Option TypeDef) → is_index_type d ≡ true → is_int d ≡ true
 index_is_int (Some (types.Int width)) h = refl

@@ -1,9 +1,8 @@
-use Rattle.std.proofs.Common.{ap, sym, ◌∙◌}
+use Rattle.std.proofs.Common.{ap, ◌∙◌}
 use Rattle.thread_acts.specs.Held.{Held}
-use Rattle.thread_acts.specs.Hand.{hand_made, hand_on, hand_within}
+use Rattle.thread_acts.specs.Hand.{hand_made, hand_within}
 use Rattle.mu_step.specs.EnteringLaws.{leave_fits}
-use Rattle.mu_step.proofs.EnteringViews.{counts_one, low_one, steps_low}
-use Rattle.mu_step.proofs.TrapViews.{exited_with, exit_waits, exit_sound}
+use Rattle.mu_step.proofs.TrapViews.{exited_with, exit_waits}
 use Rattle.mu_step.proofs.trapping.exit_ready.Goals as goal
 
 pub exit-requires-clause-waits : goal.exit-requires-clause-waits
