@@ -26,19 +26,57 @@ number_of_sources() {
   )
 }
 
-# Proves and links once. What an earlier build left is removed first, so a program that is there afterwards is of this one. Crates are
-# proved one after the other, each by several processes: `rt` lets no two runs work in a crate at a time, nor in those below it, and
-# all stand on the same ones. With no words the program prints its usage.
+# The program's crate and all of the repository's that it stands on, by crates.txt.
+crates_of_program() {
+  found=mu
+  while :; do
+    more=$(for crate in $found; do echo "$crate"; sed -n "s/#.*//; s/^$crate://p" "$top/crates.txt"; done |
+      tr -s ' \t' '\n' | sort -u | while read -r name; do [ ! -d "$top/crates/${name:-.}/src" ] || echo "$name"; done)
+    [ "$more" = "$found" ] && break
+    found=$more
+  done
+  echo "$found"
+}
+
+# Copies a crate to a folder, without what was built there and without its wrong bodies.
+copy_crate() {
+  mkdir -p "$2/$1"
+  for part in "$top/crates/$1"/*; do
+    case ${part##*/} in
+    out | must-fail) ;;
+    *) cp -R "$part" "$2/$1/" ;;
+    esac
+  done
+}
+
+# Proves and links once, by `rt ci` over a copy of the crates that the program stands on, and no others: it proves side by side what
+# does not stand on one another, and what it proved is kept on the machine for the gate, and the other way round. What an earlier
+# build left is removed first, so a program that is there afterwards is of this one.
 make_program() {
   rm -f "$out/mu"
-  (cd "$top/crates/mu" && rt run) > "$out/build.log" 2>&1 < /dev/null
-  [ -x "$out/mu" ]
+  : > "$out/build.log"
+  room=$(mktemp -d) || return
+  trap 'rm -rf "$room"' EXIT
+  # (a shell that a signal ends does not do that by itself)
+  trap 'exit 14' HUP INT TERM
+  # Where rt runs as root, it runs the program there as another user.
+  umask 022
+  chmod 755 "$room"
+  cp "$top/HANDLES" "$room/HANDLES"
+  for crate in $(crates_of_program); do
+    copy_crate "$crate" "$room/crates"
+    grep "^$crate:" "$top/crates.txt" >> "$room/crates.txt"
+  done
+  (cd "$room" && rt ci 9>&-) > "$out/build.log" 2>&1 < /dev/null && cp "$room/crates/mu/out/mu" "$out/mu"
+  made=$?
+  rm -rf "$room"
+  return "$made"
 }
 
 # Builds the program that has the number of its sources in its name: so no call runs an older one, or half of one. Where sources
 # change while they are built, nobody knows what was built, and it is done again.
 build() {
-  echo "mu: building the program; the first time this proves each crate, which takes half an hour or more" >&2
+  echo "mu: building the program; the first time this proves each crate that it stands on, which takes half an hour or more" >&2
   while :; do
     number=$(number_of_sources)
     if ! make_program; then
