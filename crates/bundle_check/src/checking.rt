@@ -1,6 +1,6 @@
 // The check of a bundle.
 ghost use Rattle.std.specs.Prelude.{◌≡◌, None, map, IfOk};
-ghost use Rattle.demands.specs.Demands.{Judges, ◌⨾◌, first_unmet};
+ghost use Rattle.demands.specs.Demands.{Judges, Meets, ◌⨾◌, first_unmet};
 ghost use Rattle.bundle_names.specs.Globals.{globals_of};
 ghost use Rattle.bundle_tables.specs.Entries.{tables_of};
 ghost use Rattle.bundle_tables.specs.Rules.{item_demands};
@@ -57,6 +57,16 @@ fn constants(alloc: Global, tables: &Tables, items: &[Item]) -> Result<Listing<V
     ensures { IfOk result (λ values. map (λ v. v.members) values ≡ constant_values (bundle_tables items.now) items.now) }
 {
     values(alloc, tables, items)
+}
+
+/// Judges a bundle whose names are all defined, as `check` does, and keeps nothing of it. It makes no value of a constant, so it takes
+/// memory in proportion to the text and to the leaves of its types, however many members its constants have.
+pub fn judge(alloc: Global, names: Resolved) -> Result<(), CheckFault>
+    ensures { Meets (check_demands names) result }
+{
+    let (bundle, globals) = names.into_parts();
+    judged_whole(alloc, bundle.as_slice(), globals)?;
+    Ok(())
 }
 
 /// Judges a bundle whose names are all defined. The fault is the first demand that is not met: of types in three passes over the text

@@ -11,6 +11,6 @@ mod functions;
 mod numbering;
 
 pub use checked::Checked;
-pub use checking::check;
+pub use checking::{check, judge};
 pub use code::{BlockCode, Function};
 pub use fault::EntryFault;

@@ -16,13 +16,17 @@ use Rattle.model_laws.specs.Bounds.{HasEnding}
 use Rattle.loaded_programs.specs.Laws.{loaded_objects, IsScripted}
 use Rattle.ir_tree.specs.declared.items.Item.{Item}
 use Rattle.mu_texts.specs.Start.{Started}
-use Rattle.mu_texts.specs.Answer.{Part, line, refused, run_of}
+use Rattle.mu_texts.specs.Answer.{Part, ◌>>=◌, line, refused, checked, run_of}
 
 -- a result is what the part comes to; an early end is its answer, and want of memory says nothing
 abbrev pub Comes : {A : Type 0} → Part A → Result A Stop → Type 0
 Comes part (Ok x) = part ≡ Ok x
 Comes part (Err (Line text status)) = part ≡ Err (line text.items status)
 Comes part (Err Memory) = ⊤
+
+-- what `mu check` asks of a bundle whose names are defined, and of which it keeps nothing
+abbrev pub met_alone : List Item → Part Ready
+met_alone bundle = checked bundle >>= λ code. Ok ready.Accepted
 
 -- the same of a heap: the part comes to its objects
 abbrev pub Fills : Part (List HeapObject) → Result HeapContents Stop → Type 0

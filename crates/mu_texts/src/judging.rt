@@ -3,7 +3,7 @@ ghost use Rattle.std.specs.Prelude.{◌≡◌, ◌≤◌, None, Ok, IfOk, OnOk};
 ghost use Rattle.demands.specs.Demands.{first_unmet};
 ghost use Rattle.mu_texts.specs.Answer.{as_written, named, checked, accepted, entered, for_check, for_print, hail_part, client_part, scheduled};
 ghost use Rattle.loaded_programs.specs.Laws.{IsScripted};
-ghost use Rattle.mu_texts.specs.Comes.{Comes, IsRefusal, LoadedRunsEnd, CanBegin, CanRun};
+ghost use Rattle.mu_texts.specs.Comes.{Comes, met_alone, IsRefusal, LoadedRunsEnd, CanBegin, CanRun};
 
 use crate::ready::Ready;
 use crate::refusals::{
@@ -12,7 +12,7 @@ use crate::refusals::{
 };
 use crate::stop::Stop;
 use crate::what::What;
-use bundle_check::{Checked, check};
+use bundle_check::{Checked, check, judge};
 use bundle_names::{Resolved, resolve};
 use client_script::{RunClient, read_script};
 use demands::Fault;
@@ -81,6 +81,22 @@ fn judge_named(alloc: Global, names: Resolved) -> Result<Checked, Stop>
     }
 }
 
+// Judges all else of a bundle of which nothing is kept.
+fn judge_alone(alloc: Global, names: Resolved) -> Result<Ready, Stop>
+    ensures { Comes (met_alone names) result }
+{
+    match judge(alloc, names) {
+        Ok(()) => Ok(Ready::Accepted),
+        Err(Fault::Memory) => Err(Stop::Memory),
+        Err(Fault::At { kind, place }) => Err(refused(
+            alloc,
+            What::Bundle,
+            place,
+            check_fault_name(kind),
+        )?),
+    }
+}
+
 // Reads a bundle and judges it.
 fn accept(alloc: Global, bytes: &[u8]) -> Result<Checked, Stop>
     ensures { Comes (accepted bytes.now) result }
@@ -116,8 +132,9 @@ pub fn judge_for_check(alloc: Global, bytes: &[u8]) -> Result<Ready, Stop>
     ensures asked { Comes (for_check bytes.now) result }
     ensures there { IfOk result CanRun }
 {
-    accept(alloc, bytes)?;
-    Ok(Ready::Accepted)
+    let bundle = read(alloc, bytes)?;
+    let names = name(alloc, bundle)?;
+    judge_alone(alloc, names)
 }
 
 /// What `mu print` asks of a text: a bundle.
