@@ -1,5 +1,6 @@
 pub mod Rows
 pub mod Firsts
+pub mod Apart
 pub mod Rowed
 pub mod Runs
 pub mod LeafClasses

@@ -27,6 +27,10 @@ IsKnown many initials.Null = Unit {0}
 IsKnown many (initials.Zero width) = Unit {0}
 IsKnown many (initials.Given n) = n < many
 
+-- no two cells have the same number, so a scalar that was given is overwritten for one cell alone
+abbrev pub AreApart : List Initial → Type 0
+AreApart first = (i j n : ℕ) → slice_get first i ≡ Some (initials.Given n) → slice_get first j ≡ Some (initials.Given n) → i ≡ j
+
 -- the objects in rows of leaves and of initial scalars, where the first begins at `from` and each other one where the one before it ends
 abbrev pub objects_in : ℕ → List Extent → List ℕ → List Scalar → List HeapObject
 objects_in from [] cs ss = []
@@ -67,4 +71,5 @@ pub record IsRowed (leaves : List ℕ) (first : List Initial) (extents : List Ex
   pub cut : IsCut 0 extents (length leaves)
   pub few : length extents < 2 ^ 32
   pub known : All (IsKnown many) first
+  pub apart : AreApart first
   pub repeats : AllRepeat 0 extents leaves

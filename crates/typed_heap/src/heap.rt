@@ -17,7 +17,7 @@ use std::marker::Model;
 /// The objects of a run, numbered from 0 in the order in which they are made, and how many cells may still be made. Contracts see
 /// both, and `spare`, the number of initial scalars that `set` takes.
 ///
-/// A cell takes 20 bytes, and an object 32 besides; each initial scalar that was given takes 32 more. It keeps its allocator, so only
+/// A cell takes 20 bytes, and an object 32 besides; a cell that was given an initial scalar takes 32 more. It keeps its allocator, so only
 /// `new` asks for one. A call that finds no memory leaves all as it was.
 #[derive(Drop)]
 pub struct Heap {

@@ -19,7 +19,7 @@ pub(crate) enum Initial {
     Null,
     /// The integer 0 of that many bits.
     Zero(u32),
-    /// One of the scalars that were given, by its number.
+    /// One of the scalars that were given, by its number, which no other cell has.
     Given(usize),
 }
 
@@ -186,7 +186,7 @@ impl Objects {
         self.given.reserve(more)
     }
 
-    /// Gives a cell its initial scalar, into room that is there, in constant time.
+    /// Gives a cell its initial scalar, into room that is there, in constant time. A cell that is given one again takes no more memory.
     pub fn give(&mut self, n: u32, at: u32, scalar: Scalar)
         requires there { IsSomeAnd (slice_get self.old.objects n) (λ o. at < length o.leaves) }
         requires room { 0 < self.old.spare }
@@ -194,9 +194,16 @@ impl Objects {
         ensures spare { self.old.spare ≤ self.new.spare + 1 }
     {
         let (begin, _) = bounds(&self.leaves, &self.extents, n as usize);
-        let number = self.given.len();
-        self.given.push(scalar).unwrap();
-        self.initials[begin + at as usize] = Initial::Given(number);
+        let cell = begin + at as usize;
+        match self.initials[cell] {
+            // No other cell has this number.
+            Initial::Given(number) => self.given[number] = scalar,
+            Initial::Null | Initial::Zero(_) => {
+                let number = self.given.len();
+                self.given.push(scalar).unwrap();
+                self.initials[cell] = Initial::Given(number);
+            }
+        }
     }
 }
 

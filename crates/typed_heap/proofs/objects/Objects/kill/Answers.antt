@@ -19,7 +19,7 @@ invariant_of-self c =
     let many = counted o.extents.items o.leaves.items o.initials.items o.given.items _ _ c.self.view_is in
     let e = c.index_mut.result.now in
     let here = slice_get_read o.extents.items (length o.extents.items) c.args.n e refl (omega (arith, many, c.requires)) (search rules) in
-    record { even = c.self.invariant.even; cut = cut_killed 0 o.extents.items (length o.leaves.items) c.args.n e true here c.self.invariant.cut; few = rw length-set c.self.invariant.few; known = c.self.invariant.known; repeats = repeat_killed 0 o.extents.items o.leaves.items c.args.n e here c.self.invariant.repeats }
+    record { even = c.self.invariant.even; cut = cut_killed 0 o.extents.items (length o.leaves.items) c.args.n e true here c.self.invariant.cut; few = rw length-set c.self.invariant.few; known = c.self.invariant.known; apart = c.self.invariant.apart; repeats = repeat_killed 0 o.extents.items o.leaves.items c.args.n e here c.self.invariant.repeats }
 
 pub returns-clause-objects : goal.returns-clause-objects
 returns-clause-objects c =
