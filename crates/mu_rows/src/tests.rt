@@ -161,6 +161,8 @@ fn counts_cells(rt: HostRuntime) -> Result<(), Fail> {
         "run", "b", "--entry", "@main", "--steps", "10", "--cells", "0",
     ];
     each_answers_behind(&rt, rt.alloc(), without, &WITHOUT_CELLS)?;
+    let usual_steps = &["run", "b", "--entry", "@main", "--cells", "0"];
+    each_answers_behind(&rt, rt.alloc(), usual_steps, &WITHOUT_CELLS)?;
     Ok(())
 }
 
@@ -212,6 +214,97 @@ const CHECKS: [Row; 11] = [
 #[test]
 fn checks(rt: HostRuntime) -> Result<(), Fail> {
     each_answers(&rt, rt.alloc(), &["check", "b"], &CHECKS)?;
+    Ok(())
+}
+
+const CONSTANTS_AND_NUMBERS: [Row; 12] = [
+    // A member may come later.
+    (
+        ".typedef @i8 = int<8> .typedef @s = struct<@i8> .const @a <@s> = {@b} .const @b <@i8> = 1",
+        "ok\n",
+        Status::Done,
+    ),
+    (
+        ".typedef @i8 = int<8> .const @a <@i8> = 256",
+        "refused bundle 40 OutOfWidth\n",
+        Status::Refused,
+    ),
+    (
+        ".typedef @i8 = int<8> .const @a <@i8> = 255",
+        "ok\n",
+        Status::Done,
+    ),
+    (
+        ".typedef @i8 = int<8> .const @a <@i8> = -128",
+        "ok\n",
+        Status::Done,
+    ),
+    (
+        ".typedef @i8 = int<8> .const @a <@i8> = -129",
+        "refused bundle 40 OutOfWidth\n",
+        Status::Refused,
+    ),
+    (
+        ".typedef @i8 = int<8> .const @a <@i8> = NULL",
+        "refused bundle 40 NotNullable\n",
+        Status::Refused,
+    ),
+    (
+        ".typedef @i8 = int<8> .const @a <@i8> = {}",
+        "refused bundle 40 WrongShape\n",
+        Status::Refused,
+    ),
+    ("@", "refused bundle 0 BadName\n", Status::Refused),
+    (
+        ".typedef @a = int<340282366920938463463374607431768211456>",
+        "refused bundle 18 NumberTooLarge\n",
+        Status::Refused,
+    ),
+    (
+        ".typedef @a = int<09>",
+        "refused bundle 18 BadByte\n",
+        Status::Refused,
+    ),
+    (
+        ".typedef @a = int<012>",
+        "refused bundle 18 WrongArgument\n",
+        Status::Refused,
+    ),
+    // A length has at most 64 bits.
+    (
+        ".typedef @w = int<128> .typedef @i64 = int<64> .typedef @hy = hybrid<@i64> .funcsig @s = () -> () .const @n <@w> = 1 .funcdef @f VERSION %v <@s> { %e(): %o = NEWHYBRID <@hy @w> @n RET () }",
+        "refused bundle 173 OperandType\n",
+        Status::Refused,
+    ),
+];
+
+#[test]
+fn checks_constants_and_numbers(rt: HostRuntime) -> Result<(), Fail> {
+    each_answers(&rt, rt.alloc(), &["check", "b"], &CONSTANTS_AND_NUMBERS)?;
+    Ok(())
+}
+
+#[test]
+fn checks_a_byte_and_a_long_name(rt: HostRuntime) -> Result<(), Fail> {
+    answers(
+        &rt,
+        rt.alloc(),
+        &["check", "b"],
+        vec![in rt.alloc(); 0x80; 1]?,
+        "refused bundle 0 BadByte\n",
+        Status::Refused,
+    )?;
+    let letters = vec![in rt.alloc(); b'a'; 65_536]?;
+    let mut long = Vec::from_slice(rt.alloc(), b".typedef @")?;
+    long.extend_from_slice(&letters)?;
+    answers(
+        &rt,
+        rt.alloc(),
+        &["check", "b"],
+        long,
+        "refused bundle 9 TooLong\n",
+        Status::Refused,
+    )?;
     Ok(())
 }
 
@@ -403,6 +496,14 @@ fn files_at_the_limit(rt: HostRuntime) -> Result<(), Fail> {
         &rt,
         rt.alloc(),
         &["check", "b"],
+        1_048_577,
+        "too long bundle\n",
+        Status::TooLong,
+    )?;
+    blanks(
+        &rt,
+        rt.alloc(),
+        RUN,
         1_048_577,
         "too long bundle\n",
         Status::TooLong,
