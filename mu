@@ -125,10 +125,13 @@ if [ "${1-}" = --gate ]; then
 fi
 
 program=$out/program-$(number_of_sources)
-if [ ! -x "$program" ]; then
+# Sources may change right behind a build.
+for round in 1 2 3; do
+  [ ! -x "$program" ] || break
   alone build_if_needed || exit 14
   program=$out/program-$(number_of_sources)
-fi
+done
+[ -x "$program" ] || fail "the sources changed behind each of $round builds"
 
 case ${1-} in
 --build)
