@@ -12,5 +12,4 @@ pub mod Nested
 pub mod Referring
 pub mod Runs
 pub mod ScriptLoops
-pub mod Splices
 pub mod Steps

@@ -1,5 +1,5 @@
 -- To believe: what the commands of a script make, one after the other.
-use Rattle.std.specs.Prelude.{ℕ, ◌+◌, ◌-◌, nat_le, true, false, List, [], ◌∷◌, ◌++◌, length, take, drop, Option, Some, None, Result, Ok, Err, slice_get, slice_set, if◌then◌else◌}
+use Rattle.std.specs.Prelude.{ℕ, ◌-◌, nat_le, true, false, List, [], ◌∷◌, ◌++◌, length, Option, Some, None, Result, Ok, Err, slice_get, if◌then◌else◌}
 use Rattle.demands.specs.declared.fault.Fault.{Fault}
 use Rattle.demands.specs.declared.fault.Fault.TheVariants.{At}
 use Rattle.demands.specs.Names.{added, found}
@@ -7,7 +7,7 @@ use Rattle.mu_values.specs.declared.scalars.Scalar.{Scalar}
 use Rattle.ir_lex.specs.declared.name.Name.{Name}
 use Rattle.check_tables.specs.TypeTests.{is_hybrid, is_no_hybrid}
 use Rattle.check_tables.specs.Lookups.{written_number}
-use Rattle.typed_heap.specs.Objects.{HeapObject, object_of}
+use Rattle.typed_heap.specs.Objects.{object_of, with_filled}
 use Rattle.hail_load.specs.declared.fault.LoadKind.{LoadKind}
 use Rattle.hail_load.specs.declared.fault.LoadKind.TheVariants.{WrongType, HeapFull}
 use Rattle.hail_load.specs.declared.tree.Target.{Target}
@@ -51,14 +51,6 @@ newhybrid_of c s place n of_type many None = Err (At WrongType of_type.place)
 newhybrid_of c s place n of_type many (Some t) = if is_hybrid (slice_get c.graph t) then make c s place n (Hybrid t many) else Err (At WrongType of_type.place)
 
 -- ---- cells
-
--- the cells from an offset on begin with these scalars
-abbrev pub filled : ℕ → List Scalar → HeapObject → HeapObject
-filled at ss o = record o { initial = take at o.initial ++ ss ++ drop (at + length ss) o.initial }
-
-abbrev pub with_filled : List HeapObject → ℕ → ℕ → List Scalar → Option HeapObject → List HeapObject
-with_filled os n at ss None = os
-with_filled os n at ss (Some o) = slice_set os n (filled at ss o)
 
 abbrev pub fill : Store → Spot → List Scalar → Store
 fill s spot ss = record s { objects = with_filled s.objects spot.object spot.at ss (slice_get s.objects spot.object) }

@@ -1,13 +1,14 @@
 // What the commands of a script make.
-ghost use Rattle.std.specs.Prelude.{◌≡◌, ◌+◌, ◌-◌, ◌<◌, ◌≤◌, ◌^◌, Some, Err, length, slice_get, OnOk, OnErr, IsSomeAnd};
+ghost use Rattle.std.specs.Prelude.{◌≡◌, ◌+◌, ◌-◌, ◌<◌, ◌^◌, Some, Err, length, slice_get, OnOk, OnErr};
 ghost use Rattle.demands.specs.declared.fault.Fault.TheVariants.{At};
 ghost use Rattle.demands.specs.Names.{found, added};
 ghost use Rattle.check_tables.specs.TypeTests.{is_hybrid, is_no_hybrid};
 ghost use Rattle.check_tables.specs.Lookups.{written_number};
+ghost use Rattle.typed_heap.specs.Objects.{with_filled};
 ghost use Rattle.hail_load.specs.declared.parts.Part.TheVariants.{Value, Hybrid};
 ghost use Rattle.hail_load.specs.Code.{code_of};
 ghost use Rattle.hail_load.specs.Known.{IsKnown};
-ghost use Rattle.hail_load.specs.Loading.{make, new_of, newhybrid_of, with_filled, init_of, done};
+ghost use Rattle.hail_load.specs.Loading.{make, new_of, newhybrid_of, init_of, done};
 ghost use Rattle.hail_load.specs.LoadAnswers.{AreGlobals, Loads};
 ghost use Rattle.hail_load.specs.Answering.{Makes, AreThere, AreWhole, IsSame, not_made, store_of};
 
@@ -185,27 +186,8 @@ fn new_hybrid(
     }
 }
 
-/// The cells from an offset on begin with these scalars.
-#[tactic(auto, using(crate::proofs::Filling::fillings))]
-fn set_cells(heap: &mut Heap, object: u32, from: u32, scalars: &[Scalar])
-    requires whole { AreWhole heap.old.objects }
-    requires there { IsSomeAnd (slice_get heap.old.objects object) (λ o. from + length scalars.now ≤ length o.leaves) }
-    requires small { from + length scalars.now < 2 ^ 32 }
-    requires room { length scalars.now ≤ heap.old.spare }
-    ensures objects { heap.new.objects ≡ with_filled heap.old.objects object from scalars.now (slice_get heap.old.objects object) }
-    ensures left { heap.new.left ≡ heap.old.left }
-    ensures whole { AreWhole heap.new.objects }
-{
-    let mut at = from;
-    let mut left = scalars;
-    'each: while let [scalar, more @ ..] = left {
-        heap.set(CellId { object, at }, *scalar);
-        at += 1;
-        left = more;
-    }
-}
-
 /// Sets the cells of a part. No part has fewer cells than its source has scalars; where no memory is found nothing is set.
+#[tactic(auto, using(crate::proofs::Filling::filled_whole))]
 fn fill(heap: &mut Heap, spot: Spot, scalars: &[Scalar]) -> Result<(), AllocError>
     requires { AreWhole heap.old.objects }
     ensures objects { OnOk result (heap.new.objects ≡ with_filled heap.old.objects spot.object spot.at scalars.now (slice_get heap.old.objects spot.object)) }
@@ -220,7 +202,8 @@ fn fill(heap: &mut Heap, spot: Spot, scalars: &[Scalar]) -> Result<(), AllocErro
         return Err(AllocError);
     }
     heap.reserve(scalars.len())?;
-    set_cells(heap, spot.object, spot.at, scalars);
+    let Spot { object, at, .. } = spot;
+    heap.set_all(CellId { object, at }, scalars);
     Ok(())
 }
 

@@ -11,7 +11,7 @@ use Rattle.ir_lex.specs.declared.name.Name.{Name}
 use Rattle.check_tables.specs.TypeTests.{is_hybrid, is_no_hybrid}
 use Rattle.check_tables.specs.Lookups.{written_number}
 use Rattle.bundle_check.specs.Checking.{bundle_tables}
-use Rattle.typed_heap.specs.Objects.{HeapObject, object_of}
+use Rattle.typed_heap.specs.Objects.{HeapObject, object_of, filled, with_filled}
 use Rattle.hail_load.specs.declared.fault.LoadKind.TheVariants.{WrongType, HeapFull}
 use Rattle.hail_load.specs.declared.parts.Part.{Part}
 use Rattle.hail_load.specs.declared.parts.Part.TheVariants.{Value, Hybrid}
@@ -24,7 +24,7 @@ use Rattle.hail_load.specs.Code.{Code, code_of}
 use Rattle.hail_load.specs.Parts.{leaves_of, size_of, target_spot, ◌>>=◌}
 use Rattle.hail_load.specs.Fitting.{Store}
 use Rattle.hail_load.specs.Judging.{judged}
-use Rattle.hail_load.specs.Loading.{Stored, Loaded, with_object, make, new_of, newhybrid_of, filled, with_filled, fill, done, go_on, load}
+use Rattle.hail_load.specs.Loading.{Stored, Loaded, with_object, make, new_of, newhybrid_of, fill, done, go_on, load}
 use Rattle.hail_load.proofs.Steps.{hybrid_size}
 use Rattle.mu_model.specs.Run.{global_objects}
 use Rattle.loaded_programs.specs.Laws.{CellsAreCounted}

@@ -17,7 +17,7 @@ use Rattle.bundle_names.specs.declared.globals.Sort.{Sort}
 use Rattle.bundle_names.specs.declared.globals.Sort.TheVariants as sorts
 use Rattle.check_tables.specs.TypeTests.{is_hybrid, is_no_hybrid}
 use Rattle.check_tables.specs.Lookups.{written_number}
-use Rattle.typed_heap.specs.Objects.{HeapObject, leaf_classes, object_of}
+use Rattle.typed_heap.specs.Objects.{HeapObject, leaf_classes, object_of, filled, with_filled}
 use Rattle.typed_heap.specs.Fits.{World, ScalarsFit}
 use Rattle.typed_heap.specs.Laws.{ObjectFits, KeepsLeaves, Grows}
 use Rattle.typed_heap.proofs.Fitted.{has, some_and, object_fits, hybrid_fits, scalars_grow, added_keeps, set_keeps}
@@ -39,7 +39,7 @@ use Rattle.hail_load.specs.LoadAnswers.{AreGlobals}
 use Rattle.hail_load.specs.Parts.{leaves_of, size_of, indexed, made_spot, typed_spot, global_spot, root_spot, target_spot, ◌>>=◌}
 use Rattle.hail_load.specs.Fitting.{Store}
 use Rattle.hail_load.specs.Judging.{judged}
-use Rattle.hail_load.specs.Loading.{Stored, Loaded, with_object, make, new_of, newhybrid_of, filled, with_filled, fill, init_of, done, go_on, load}
+use Rattle.hail_load.specs.Loading.{Stored, Loaded, with_object, make, new_of, newhybrid_of, fill, init_of, done, go_on, load}
 use Rattle.loaded_programs.proofs.Filling.{FitFirst, first_behind, set_fits}
 use Rattle.loaded_programs.proofs.Parts.{went, Stands, indexed_stands}
 use Rattle.loaded_programs.proofs.Sources.{Lawful, world_of}

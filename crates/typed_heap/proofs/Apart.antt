@@ -1,8 +1,9 @@
 -- Cells that were given scalars of their own, when cells are added, taken away or given one.
-use Rattle.std.proofs.Common.{◌≡◌, ◌⊎◌, inl, inr, ℕ, zero, suc, ◌<◌, List, [], ◌∷◌, ◌++◌, length, take, map, Option, Some, None, slice_get, refl, sym, ap, subst, ◌∙◌, arith}
+use Rattle.std.proofs.Common.{◌≡◌, ◌⊎◌, inl, inr, ℕ, zero, suc, ◌+◌, ◌<◌, List, [], ◌∷◌, ◌++◌, length, take, map, Option, Some, None, slice_get, refl, sym, ap, subst, ◌∙◌, arith}
 use Rattle.std.specs.Prelude.{slice_set}
 use Rattle.std.specs.List.{All}
 use Rattle.std.proofs.lemmas.List.{get_or-set_same, get_or-set_other}
+use Rattle.std.proofs.lemmas.List.Elements.{All-set}
 use Rattle.std.proofs.lemmas.Option.{slice_get_within, get_or_from_slice_get}
 use Rattle.type_laws.specs.declared.definition.TypeDef.{TypeDef}
 use Rattle.mu_values.specs.Constants.{width_of}
@@ -10,7 +11,8 @@ use Rattle.mu_values.specs.declared.scalars.Scalar.{Scalar}
 use Rattle.mu_values.specs.declared.scalars.Scalar.TheVariants.{Null}
 use Rattle.typed_heap.specs.declared.objects.Initial.{Initial}
 use Rattle.typed_heap.specs.declared.objects.Initial.TheVariants as initials
-use Rattle.typed_heap.specs.Rows.{initial_of, IsKnown, AreApart, first_by, firsts}
+use Rattle.typed_heap.specs.Rows.{initial_of, IsKnown, AreApart, AreOwn, first_by, firsts}
+use Rattle.typed_heap.proofs.Firsts.{known_more}
 
 -- ---- cells that are added or taken away
 
@@ -64,7 +66,7 @@ known_at many is i n h e =
     let d = initials.Given n in
     subst (IsKnown many) (get_or_from_slice_get is i d d e) (h i d (slice_get_within is i d e))
 
-pub apart_given : (many : ℕ) (is : List Initial) (k : ℕ) → All (IsKnown many) is → AreApart is → AreApart (slice_set is k (initials.Given many))
+apart_given : (many : ℕ) (is : List Initial) (k : ℕ) → All (IsKnown many) is → AreApart is → AreApart (slice_set is k (initials.Given many))
 apart_given many is k known h i j n e f = go (get_of_set is k i (initials.Given many) (initials.Given n) e) (get_of_set is k j (initials.Given many) (initials.Given n) f)
   where
     go : ((i ≡ k) × (initials.Given many ≡ initials.Given n)) ⊎ (slice_get is i ≡ Some (initials.Given n)) → ((j ≡ k) × (initials.Given many ≡ initials.Given n)) ⊎ (slice_get is j ≡ Some (initials.Given n)) → i ≡ j
@@ -72,6 +74,15 @@ apart_given many is k known h i j n e f = go (get_of_set is k i (initials.Given 
     go (inl a) (inr b) = absurd (omega (arith, number_is many n a.1, known_at many is j n known b))
     go (inr a) (inl b) = absurd (omega (arith, number_is many n b.1, known_at many is i n known a))
     go (inr a) (inr b) = h i j n a b
+
+-- its scalar is its own
+pub own_given : (many : ℕ) (is : List Initial) (k : ℕ) → AreOwn is many → AreOwn (slice_set is k (initials.Given many)) (many + 1)
+own_given many is k h =
+    let low : IsKnown (many + 1) (initials.Given many) = omega arith in
+    record {
+      known = All-set (IsKnown (many + 1)) is k (initials.Given many) low (known_more many is h.known);
+      apart = apart_given many is k h.known h.apart;
+    }
 
 -- ---- a cell that is given another one
 

@@ -1,5 +1,5 @@
 -- What fits: new objects, changed ones, and in a world that grows.
-use Rattle.std.proofs.Common.{◌≡◌, ℕ, zero, suc, ◌-◌, true, List, [], ◌∷◌, ◌++◌, length, take, Option, Some, None, IsSomeAnd, slice_get, refl, sym, ap, subst, ◌∙◌, arith}
+use Rattle.std.proofs.Common.{◌≡◌, ℕ, zero, suc, ◌+◌, ◌-◌, true, List, [], ◌∷◌, ◌++◌, length, take, drop, Option, Some, None, IsSomeAnd, slice_get, refl, sym, ap, subst, ◌∙◌, arith}
 use Rattle.std.specs.Prelude.{slice_set}
 use Rattle.std.specs.List.{All}
 use Rattle.std.proofs.lemmas.List.{length-append, take_at}
@@ -13,12 +13,13 @@ use Rattle.mu_values.specs.Constants.{width_of}
 use Rattle.mu_values.specs.declared.scalars.Scalar.{Scalar}
 use Rattle.mu_values.specs.declared.scalars.Scalar.TheVariants.{Int, Null, Object, Place, Func, Stack, Thread}
 use Rattle.check_tables.specs.TypeTests.{is_scalar, repeated_of}
-use Rattle.typed_heap.specs.Objects.{HeapObject, leaf_classes, run_of, run_classes, object_of, zero_of, zeros}
+use Rattle.typed_heap.specs.Objects.{HeapObject, leaf_classes, run_of, run_classes, object_of, zero_of, zeros, replaced}
 use Rattle.typed_heap.specs.Fits.{World, fits, DefinitionFits, ScalarFits, ScalarsFit}
 use Rattle.typed_heap.specs.Heap.{hybrid_classes, newest_cells}
 use Rattle.typed_heap.specs.Offsets.{leaves_fit}
 use Rattle.typed_heap.specs.Laws.{ObjectFits, KeepsLeaves, Grows}
 use Rattle.typed_heap.proofs.LeafClasses.{classes_are_scalars, times_all}
+use Rattle.typed_heap.proofs.Filled.{replaced_nothing}
 
 -- ---- an option that has something
 
@@ -71,13 +72,24 @@ hybrid_fits g w t many i =
     let P = λ (x : ℕ). is_scalar (slice_get g x) ≡ true in
     zeros_fit g w (hybrid_classes g t many) (All-append P (leaf_classes g t) (times many (run_classes g t)) (classes_are_scalars g i t) (times_all P many (run_classes g t) (run_scalars g i (repeated_of (slice_get g t)))))
 
--- ---- a cell that is given another scalar
+-- ---- cells that are given other scalars
 
-pub given_fits : (g : List TypeDef) (w : World) (cs : List ℕ) (ss : List Scalar) (at c : ℕ) (s : Scalar) → ScalarsFit g w cs ss → slice_get cs at ≡ Some c → ScalarFits g w c s → ScalarsFit g w cs (slice_set ss at s)
-given_fits g w [] ss at c s h e f = cc
-given_fits g w (x ∷ xs) [] at c s h e f = h
-given_fits g w (x ∷ xs) (y ∷ ys) zero c s h e f = let same : x ≡ c = cc in (subst (λ (n : ℕ). ScalarFits g w n s) (sym same) f, h.1)
-given_fits g w (x ∷ xs) (y ∷ ys) (suc at) c s h e f = (h.0, given_fits g w xs ys at c s h.1 e f)
+first_fit : (g : List TypeDef) (w : World) (cs : List ℕ) (old ss : List Scalar) → ScalarsFit g w cs old → ScalarsFit g w (take (length ss) cs) ss → ScalarsFit g w cs (ss ++ drop (length ss) old)
+first_fit g w cs old [] h f = h
+first_fit g w [] old (s ∷ ss) h f = absurd f
+first_fit g w (c ∷ cs) [] (s ∷ ss) h f = absurd h
+first_fit g w (c ∷ cs) (x ∷ old) (s ∷ ss) h f = (f.0, first_fit g w cs old ss h.1 f.1)
+
+pub filled_fits : (g : List TypeDef) (w : World) (cs : List ℕ) (old : List Scalar) (at : ℕ) (ss : List Scalar) → ScalarsFit g w cs old → ScalarsFit g w (take (length ss) (drop at cs)) ss → ScalarsFit g w cs (replaced old at ss)
+filled_fits g w cs old at [] h f = subst (λ (xs : List Scalar). ScalarsFit g w cs xs) (sym (replaced_nothing old at)) h
+filled_fits g w cs old zero (s ∷ ss) h f =
+    let near : zero + length (s ∷ ss) ≡ length (s ∷ ss) = omega arith in
+    subst (λ (n : ℕ). ScalarsFit g w cs ((s ∷ ss) ++ drop n old)) (sym near) (first_fit g w cs old (s ∷ ss) h f)
+filled_fits g w [] old (suc at) (s ∷ ss) h f = absurd f
+filled_fits g w (c ∷ cs) [] (suc at) (s ∷ ss) h f = absurd h
+filled_fits g w (c ∷ cs) (x ∷ old) (suc at) (s ∷ ss) h f =
+    let far : suc at + length (s ∷ ss) ≡ suc (at + length (s ∷ ss)) = omega arith in
+    subst (λ (n : ℕ). ScalarsFit g w (c ∷ cs) ((x ∷ (take at old ++ (s ∷ ss))) ++ drop n (x ∷ old))) (sym far) (h.0, filled_fits g w cs old at (s ∷ ss) h.1 f)
 
 -- ---- a world that grows
 

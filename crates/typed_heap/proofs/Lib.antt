@@ -1,6 +1,7 @@
 pub mod Rows
 pub mod Firsts
 pub mod Apart
+pub mod Filled
 pub mod Rowed
 pub mod Runs
 pub mod LeafClasses

@@ -2,20 +2,20 @@
 use Rattle.std.proofs.Common.{◌≡◌, ℕ, zero, suc, ◌+◌, ◌-◌, ◌<◌, ◌≤◌, ◌^◌, Bool, true, false, List, [], ◌∷◌, ◌++◌, length, take, drop, map, Some, slice_get, sym, ap, subst, ◌∙◌, arith}
 use Rattle.std.specs.Prelude.{slice_set, slice_range}
 use Rattle.std.specs.List.{take-map}
-use Rattle.std.proofs.lemmas.List.{length-append, length-map, length-set, length-take, map-append, take-append-drop}
-use Rattle.std.proofs.lemmas.List.Elements.{All-append, All-set, All-take}
+use Rattle.std.proofs.lemmas.List.{length-append, length-map, length-take, map-append, take-append-drop}
+use Rattle.std.proofs.lemmas.List.Elements.{All-append, All-take}
 use Rattle.type_laws.specs.declared.definition.TypeDef.{TypeDef}
 use Rattle.mu_values.specs.Constants.{width_of}
 use Rattle.mu_values.specs.declared.scalars.Scalar.{Scalar}
-use Rattle.typed_heap.specs.Objects.{object_of, zeros, given}
+use Rattle.typed_heap.specs.Objects.{object_of, zeros, replaced, with_filled}
 use Rattle.typed_heap.specs.declared.objects.Initial.{Initial}
-use Rattle.typed_heap.specs.declared.objects.Initial.TheVariants as initials
 use Rattle.typed_heap.specs.declared.objects.Extent.{Extent}
-use Rattle.typed_heap.specs.Rows.{initial_of, shown, firsts, first_by, IsCut, IsKnown, IsRowed, begin}
+use Rattle.typed_heap.specs.Rows.{initial_of, shown, objects_in, firsts, first_by, IsCut, IsKnown, AreOwn, IsRowed, begin, end}
 use Rattle.typed_heap.specs.Repeating.{Repeats, AllRepeat}
-use Rattle.typed_heap.proofs.Rows.{part, within, range_kept, range_last, pushed, cut_pushed, front, cut_of_front, given_at}
-use Rattle.typed_heap.proofs.Firsts.{zeros_shown, firsts_known, known_more, given_shown}
-use Rattle.typed_heap.proofs.Apart.{apart_pushed, apart_front, apart_given, overwritten_shown}
+use Rattle.typed_heap.proofs.Rows.{within, range_kept, range_last, pushed, cut_pushed, front, cut_of_front}
+use Rattle.typed_heap.proofs.Firsts.{zeros_shown, firsts_known}
+use Rattle.typed_heap.proofs.Apart.{apart_pushed, apart_front}
+use Rattle.typed_heap.proofs.Filled.{object_filled}
 
 -- ---- leaves that repeat
 
@@ -100,29 +100,20 @@ shown_front cs is es gs many k n h l e =
     let even : length ss ≡ length cs = length-map is (initial_of gs) ∙ h.even in
     rw (sym (take-map (initial_of gs) n is)) (front es cs ss k n even h.cut l e)
 
--- a cell that has the next number
-pub rowed_given : (cs : List ℕ) (is : List Initial) (es : List Extent) (many k : ℕ) → IsRowed cs is es many → IsRowed cs (slice_set is k (initials.Given many)) es (many + 1)
-rowed_given cs is es many k h =
-    let low : IsKnown (many + 1) (initials.Given many) = omega arith in
+-- cells that were given other scalars
+pub rowed_filled : (cs : List ℕ) (is js : List Initial) (es : List Extent) (many more : ℕ) → IsRowed cs is es many → length js ≡ length is → AreOwn js more → IsRowed cs js es more
+rowed_filled cs is js es many more h long own =
     record {
-      even = length-set is k (initials.Given many) ∙ h.even;
+      even = long ∙ h.even;
       cut = h.cut;
       few = h.few;
-      known = All-set (IsKnown (many + 1)) is k (initials.Given many) low (known_more many is h.known);
-      apart = apart_given many is k h.known h.apart;
+      known = own.known;
+      apart = own.apart;
       repeats = h.repeats;
     }
 
--- a cell begins with another scalar
-pub shown_given : (cs : List ℕ) (is : List Initial) (es : List Extent) (gs : List Scalar) (n at : ℕ) (e : Extent) (s : Scalar) → IsRowed cs is es (length gs) → slice_get es n ≡ Some e → at < e.end - begin 0 es n →
-    shown es cs (slice_set is (begin 0 es n + at) (initials.Given (length gs))) (gs ++ s ∷ [])
-    ≡ slice_set (shown es cs is gs) n (given (part cs (map (initial_of gs) is) (begin 0 es n) e.end e.dead) at s)
-shown_given cs is es gs n at e s h there near =
-    rw (given_shown gs s is (begin 0 es n + at) h.known) (given_at 0 es cs (map (initial_of gs) is) (length cs) n e at s h.cut there near)
-
--- one that was given a scalar begins with another one
-pub shown_overwritten : (cs : List ℕ) (is : List Initial) (es : List Extent) (gs : List Scalar) (n at k : ℕ) (e : Extent) (s : Scalar) → IsRowed cs is es (length gs) → slice_get es n ≡ Some e → at < e.end - begin 0 es n →
-    k < length gs → slice_get is (begin 0 es n + at) ≡ Some (initials.Given k) →
-    shown es cs is (slice_set gs k s) ≡ slice_set (shown es cs is gs) n (given (part cs (map (initial_of gs) is) (begin 0 es n) e.end e.dead) at s)
-shown_overwritten cs is es gs n at k e s h there near low here =
-    rw (overwritten_shown gs k s is (begin 0 es n + at) low h.apart here) (given_at 0 es cs (map (initial_of gs) is) (length cs) n e at s h.cut there near)
+pub shown_filled : (cs : List ℕ) (is js : List Initial) (es : List Extent) (gs hs : List Scalar) (many n at : ℕ) (ss : List Scalar) → IsRowed cs is es many → n < length es → at + length ss ≤ end es n - begin 0 es n →
+    map (initial_of hs) js ≡ replaced (map (initial_of gs) is) (begin 0 es n + at) ss → shown es cs js hs ≡ with_filled (shown es cs is gs) n at ss (slice_get (shown es cs is gs) n)
+shown_filled cs is js es gs hs many n at ss h l near e =
+    let old = map (initial_of gs) is in
+    ap (λ (xs : List Scalar). objects_in 0 es cs xs) e ∙ object_filled es cs old n at ss (length-map is (initial_of gs) ∙ h.even) h.cut l near

@@ -236,20 +236,24 @@ pub there : (es : List Extent) (cs : List ℕ) (ss : List Scalar) (n : ℕ) (e :
     slice_get (objects_in 0 es cs ss) n ≡ Some (part cs ss (begin 0 es n) e.end e.dead)
 there es cs ss n e l h = object_at 0 es cs ss n e (slice_get_read es (length es) n e refl l h)
 
--- a cell that is there
-pub cell_there : (es : List Extent) (cs : List ℕ) (ss : List Scalar) (n at : ℕ) → IsCut 0 es (length cs) → IsSomeAnd (slice_get (objects_in 0 es cs ss) n) (λ o. at < length o.leaves) →
-    (n < length es) × (at < end es n - begin 0 es n)
-cell_there es cs ss n at h there = go (slice_get_cases es n).1
+-- cells that are there
+pub cells_there : (es : List Extent) (cs : List ℕ) (ss : List Scalar) (n k : ℕ) → IsCut 0 es (length cs) → IsSomeAnd (slice_get (objects_in 0 es cs ss) n) (λ o. k ≤ length o.leaves) →
+    (n < length es) × (k ≤ end es n - begin 0 es n)
+cells_there es cs ss n k h there = go (slice_get_cases es n).1
   where
-    go : ((x : Extent) × (n < length es) × (slice_get es n ≡ Some x) × (slice_index_or es n x ≡ x)) ⊎ ((length es ≤ n) × (slice_get es n ≡ None)) → (n < length es) × (at < end es n - begin 0 es n)
+    go : ((x : Extent) × (n < length es) × (slice_get es n ≡ Some x) × (slice_index_or es n x ≡ x)) ⊎ ((length es ≤ n) × (slice_get es n ≡ None)) → (n < length es) × (k ≤ end es n - begin 0 es n)
     go (inl (x, l, f, g)) =
-        let here : at < length (slice_range cs (begin 0 es n) x.end) = rw (object_at 0 es cs ss n x f) at there in
+        let here : k ≤ length (slice_range cs (begin 0 es n) x.end) = rw (object_at 0 es cs ss n x f) at there in
         let e : end es n ≡ x.end = rw f refl in
         let long = length-take (x.end - begin 0 es n) (drop (begin 0 es n) cs) in
         (l, omega (arith, here, long, e))
     go (inr (l, f)) =
         let none : slice_get (objects_in 0 es cs ss) n ≡ None = slice_get_past (objects_in 0 es cs ss) n (omega (arith, objects_length 0 es cs ss, l)) in
         absurd (rw none at there)
+
+pub cell_there : (es : List Extent) (cs : List ℕ) (ss : List Scalar) (n at : ℕ) → IsCut 0 es (length cs) → IsSomeAnd (slice_get (objects_in 0 es cs ss) n) (λ o. at < length o.leaves) →
+    (n < length es) × (at < end es n - begin 0 es n)
+cell_there es cs ss n at h there = let both = cells_there es cs ss n (suc at) h there in (both.0, omega (arith, both.1))
 
 -- what it begins with
 pub cell_begins : (es : List Extent) (cs : List ℕ) (ss : List Scalar) (n at : ℕ) (s : Scalar) → n < length es → at < end es n - begin 0 es n → slice_get ss (begin 0 es n + at) ≡ Some s →

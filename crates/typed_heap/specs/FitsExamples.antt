@@ -6,7 +6,7 @@ use Rattle.type_laws.specs.declared.definition.TypeDef.TheVariants as types
 use Rattle.type_laws.specs.Same.{alike}
 use Rattle.type_laws.specs.Leaves.{leaves_to}
 use Rattle.mu_values.specs.declared.scalars.Scalar.TheVariants.{Int, Null, Object, Place}
-use Rattle.typed_heap.specs.Objects.{HeapObject, leaf_classes, object_of}
+use Rattle.typed_heap.specs.Objects.{HeapObject, leaf_classes, object_of, filled}
 use Rattle.typed_heap.specs.Fits.{World, fits, place_fits, DefinitionFits}
 use Rattle.typed_heap.specs.Heap.{hybrid_classes}
 
@@ -26,6 +26,10 @@ leaves_by_class = refl
 pub new_cells : two_runs ≡ record { leaves = 1 ∷ 0 ∷ 0 ∷ 0 ∷ 0 ∷ []; initial = Int 8 0 ∷ Int 64 0 ∷ Int 64 0 ∷ Int 64 0 ∷ Int 64 0 ∷ []; dead = false }
 unfolding leaves_to alike
 new_cells = refl
+
+pub filled_cells : (filled 2 (Int 64 7 ∷ Int 64 8 ∷ []) two_runs).initial ≡ Int 8 0 ∷ Int 64 0 ∷ Int 64 7 ∷ Int 64 8 ∷ Int 64 0 ∷ []
+unfolding leaves_to alike
+filled_cells = refl
 
 -- ---- objects
 

@@ -1,5 +1,5 @@
 -- To believe: the objects of a heap, and what their cells begin with.
-use Rattle.std.specs.Prelude.{ℕ, Bool, true, false, List, [], Option, Some, None, map, slice_get, slice_set}
+use Rattle.std.specs.Prelude.{ℕ, ◌+◌, Bool, true, false, List, [], ◌++◌, length, take, drop, Option, Some, None, map, slice_get, slice_set}
 use Rattle.type_laws.specs.declared.definition.TypeDef.{TypeDef}
 use Rattle.type_laws.specs.Leaves.{leaves}
 use Rattle.type_laws.specs.Class.{class_of}
@@ -44,6 +44,15 @@ object_of graph cs = record { leaves = cs; initial = zeros graph cs; dead = fals
 abbrev pub killed : HeapObject → HeapObject
 killed o = record o { dead = true }
 
--- an object one of whose cells begins with another scalar
-abbrev pub given : HeapObject → ℕ → Scalar → HeapObject
-given o at s = record o { initial = slice_set o.initial at s }
+-- these in place of as many, from an offset on
+abbrev pub replaced : List Scalar → ℕ → List Scalar → List Scalar
+replaced old at ss = take at old ++ ss ++ drop (at + length ss) old
+
+-- an object whose cells from an offset on begin with these scalars
+abbrev pub filled : ℕ → List Scalar → HeapObject → HeapObject
+filled at ss o = record o { initial = replaced o.initial at ss }
+
+-- objects one of which, if it is there, is filled so
+abbrev pub with_filled : List HeapObject → ℕ → ℕ → List Scalar → Option HeapObject → List HeapObject
+with_filled os n at ss None = os
+with_filled os n at ss (Some o) = slice_set os n (filled at ss o)

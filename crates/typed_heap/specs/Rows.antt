@@ -31,6 +31,11 @@ IsKnown many (initials.Given n) = n < many
 abbrev pub AreApart : List Initial → Type 0
 AreApart first = (i j n : ℕ) → slice_get first i ≡ Some (initials.Given n) → slice_get first j ≡ Some (initials.Given n) → i ≡ j
 
+-- each scalar that was given is there, for one cell alone
+pub record AreOwn (first : List Initial) (many : ℕ) : Type 0 where
+  pub known : All (IsKnown many) first
+  pub apart : AreApart first
+
 -- the objects in rows of leaves and of initial scalars, where the first begins at `from` and each other one where the one before it ends
 abbrev pub objects_in : ℕ → List Extent → List ℕ → List Scalar → List HeapObject
 objects_in from [] cs ss = []

@@ -3,7 +3,7 @@ ghost use Rattle.std.specs.Prelude.{◌≡◌, ◌-◌, ◌<◌, ◌≤◌, leng
 ghost use Rattle.type_laws.specs.Same.{IsGraph};
 ghost use Rattle.check_tables.specs.TypeTests.{repeated_of};
 ghost use Rattle.typed_heap.specs.Fits.{begins, are_runs, fits};
-ghost use Rattle.typed_heap.specs.Repeating.{Repeats};
+ghost use Rattle.typed_heap.specs.Repeating.{Repeats, Enough};
 ghost use Rattle.typed_heap.specs.Offsets.{leaves_fit};
 
 use crate::objects::Rhythm;
@@ -63,8 +63,9 @@ fn begins(wanted: &[u32], found: &[u32]) -> bool
     found.starts_with(wanted)
 }
 
-/// Whether leaves are whole runs of others. As they repeat, the first of them tell all: those that do not repeat, one run of theirs, and
-/// one run of the others.
+/// Whether leaves are whole runs of others: they begin with those, and each leaf behind is the one that stands a run before it. As leaves
+/// repeat, the first of them tell all: those that do not repeat, one run of theirs, and, where it is no whole runs of the others, one of
+/// the others.
 fn are_runs(run: &[u32], found: &[u32], rhythm: Rhythm) -> bool
     requires { Repeats rhythm.fixed rhythm.run found.now }
     ensures { result ≡ are_runs run.now found.now }
@@ -75,14 +76,29 @@ fn are_runs(run: &[u32], found: &[u32], rhythm: Rhythm) -> bool
     if found.len() % run.len() != 0 {
         return false;
     }
-    let telling = rhythm
-        .fixed
-        .saturating_add(rhythm.run)
-        .saturating_add(run.len());
-    for i in 0..found.len().min(telling) {
-        if found[i] != run[i % run.len()] {
-            return false;
-        }
+    if found.is_empty() {
+        return true;
     }
-    true
+    if !begins(run, found) {
+        return false;
+    }
+    let telling = telling(run, found, rhythm);
+    &found[run.len()..telling] == &found[..telling - run.len()]
+}
+
+/// How many of the first leaves tell whether all are whole runs of others.
+fn telling(run: &[u32], found: &[u32], rhythm: Rhythm) -> usize
+    requires repeats { Repeats rhythm.fixed rhythm.run found.now }
+    requires some { 0 < length run.now }
+    requires long { length run.now ≤ length found.now }
+    ensures long { length run.now ≤ result }
+    ensures few { result ≤ length found.now }
+    ensures enough { Enough found.now (length run.now) rhythm.fixed rhythm.run result }
+{
+    let own = rhythm.fixed.saturating_add(rhythm.run).min(found.len());
+    if rhythm.run % run.len() == 0 {
+        own
+    } else {
+        own.saturating_add(run.len()).min(found.len())
+    }
 }

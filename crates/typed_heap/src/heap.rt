@@ -3,7 +3,7 @@ ghost use Rattle.std.specs.Prelude.{◌≡◌, ◌+◌, ◌-◌, ◌*◌, ◌^�
 ghost use Rattle.std.specs.List.{All};
 ghost use Rattle.type_laws.specs.Leaves.{times};
 ghost use Rattle.type_laws.specs.Same.{IsGraph};
-ghost use Rattle.typed_heap.specs.Objects.{leaf_classes, run_classes, object_of, killed, given};
+ghost use Rattle.typed_heap.specs.Objects.{leaf_classes, run_classes, object_of, killed, with_filled};
 ghost use Rattle.typed_heap.specs.Heap.{hybrid_classes, told_cells, newest_cells, AreNarrow};
 
 use crate::faults::HeapFault;
@@ -15,7 +15,7 @@ use std::alloc::{AllocError, Global};
 use std::marker::Model;
 
 /// The objects of a run, numbered from 0 in the order in which they are made, and how many cells may still be made. Contracts see
-/// both, and `spare`, the number of initial scalars that `set` takes.
+/// both, and `spare`, the number of initial scalars that `set_all` takes.
 ///
 /// A cell takes 20 bytes, and an object 32 besides; a cell that was given an initial scalar takes 32 more. It keeps its allocator, so only
 /// `new` asks for one. A call that finds no memory leaves all as it was.
@@ -171,15 +171,16 @@ impl Heap {
         self.objects.reserve(more)
     }
 
-    /// Gives a cell its initial scalar, into room that is there. It takes no memory.
-    pub fn set(&mut self, cell: CellId, scalar: Scalar)
-        requires there { IsSomeAnd (slice_get self.old.objects cell.object) (λ o. cell.at < length o.leaves) }
-        requires room { 0 < self.old.spare }
-        ensures objects { IfSome (slice_get self.old.objects cell.object) (λ o. self.new.objects ≡ slice_set self.old.objects cell.object (given o cell.at scalar)) }
+    /// Gives cells of an object their initial scalars, from a cell on, into room that is there. It takes constant time for each, and no
+    /// memory.
+    pub fn set_all(&mut self, cell: CellId, scalars: &[Scalar])
+        requires there { IsSomeAnd (slice_get self.old.objects cell.object) (λ o. cell.at + length scalars.now ≤ length o.leaves) }
+        requires room { length scalars.now ≤ self.old.spare }
+        ensures objects { self.new.objects ≡ with_filled self.old.objects cell.object cell.at scalars.now (slice_get self.old.objects cell.object) }
         ensures left { self.new.left ≡ self.old.left }
-        ensures spare { self.old.spare ≤ self.new.spare + 1 }
+        ensures spare { self.old.spare ≤ self.new.spare + length scalars.now }
     {
-        self.objects.give(cell.object, cell.at, scalar);
+        self.objects.give_all(cell.object, cell.at, scalars);
     }
 
     /// What a cell begins with, in constant time.

@@ -1,12 +1,12 @@
 // Laws of the definitions, each the contract of a function that does nothing.
-ghost use Rattle.std.specs.Prelude.{◌≡◌, ◌≢◌, ℕ, ◌-◌, ◌<◌, ◌⊎◌, true, false, List, Option, Some, Ok, Err, [], ◌∷◌, ◌++◌, length, take, slice_get, slice_set, IsSomeAnd};
+ghost use Rattle.std.specs.Prelude.{◌≡◌, ◌≢◌, ℕ, ◌-◌, ◌<◌, ◌⊎◌, true, false, List, Option, Some, Ok, Err, [], ◌∷◌, ◌++◌, length, take, drop, slice_get, slice_set, IsSomeAnd};
 ghost use Rattle.type_laws.specs.declared.definition.TypeDef.{TypeDef};
 ghost use Rattle.type_laws.specs.declared.definition.TypeDef.TheVariants.{Ref, Iref};
 ghost use Rattle.type_laws.specs.Same.{IsGraph};
 ghost use Rattle.mu_values.specs.declared.scalars.Scalar.{Scalar};
 ghost use Rattle.typed_heap.specs.declared.faults.PlaceFault.{PlaceFault};
 ghost use Rattle.heap_cells.specs.declared.cells.CellId.{CellId};
-ghost use Rattle.typed_heap.specs.Objects.{HeapObject, leaf_classes, object_of, killed, given};
+ghost use Rattle.typed_heap.specs.Objects.{HeapObject, leaf_classes, object_of, killed, filled};
 ghost use Rattle.typed_heap.specs.Fits.{World, place_fits, DefinitionFits, ScalarFits, ScalarsFit, ValueFits};
 ghost use Rattle.typed_heap.specs.Places.{Move, find_place, cast, cell_of};
 ghost use Rattle.typed_heap.specs.Heap.{hybrid_classes, newest_cells};
@@ -18,9 +18,9 @@ pub fn new_objects_fit()
     ensures hybrid { (graph : List TypeDef) (w : World) (t many : ℕ) → IsGraph graph → ObjectFits graph w (object_of graph (hybrid_classes graph t many)) }
 {}
 
-/// An object goes on to have one fitting scalar for each leaf when a cell is given another one that fits, and when its cells die.
+/// An object goes on to have one fitting scalar for each leaf when cells are given others that fit, and when its cells die.
 pub fn changed_objects_fit()
-    ensures given { (graph : List TypeDef) (w : World) (o : HeapObject) (at c : ℕ) (s : Scalar) → ObjectFits graph w o → slice_get o.leaves at ≡ Some c → ScalarFits graph w c s → ObjectFits graph w (given o at s) }
+    ensures filled { (graph : List TypeDef) (w : World) (o : HeapObject) (at : ℕ) (ss : List Scalar) → ObjectFits graph w o → ScalarsFit graph w (take (length ss) (drop at o.leaves)) ss → ObjectFits graph w (filled at ss o) }
     ensures killed { (graph : List TypeDef) (w : World) (o : HeapObject) → ObjectFits graph w o → ObjectFits graph w (killed o) }
 {}
 
@@ -32,11 +32,11 @@ pub fn what_fits_stays()
     ensures value { (graph : List TypeDef) (w v : World) (c : ℕ) (ss : List Scalar) → Grows w v → ValueFits graph w c ss → ValueFits graph v c ss }
 {}
 
-/// The objects keep their leaves when one is added, when the cells of one die, and when a cell is given another scalar.
+/// The objects keep their leaves when one is added, when the cells of one die, and when cells are given other scalars.
 pub fn calls_keep_leaves()
     ensures added { (os : List HeapObject) (o : HeapObject) → KeepsLeaves os (os ++ o ∷ []) }
     ensures killed { (os : List HeapObject) (n : ℕ) (o : HeapObject) → slice_get os n ≡ Some o → KeepsLeaves os (slice_set os n (killed o)) }
-    ensures given { (os : List HeapObject) (n : ℕ) (o : HeapObject) (at : ℕ) (s : Scalar) → slice_get os n ≡ Some o → KeepsLeaves os (slice_set os n (given o at s)) }
+    ensures filled { (os : List HeapObject) (n : ℕ) (o : HeapObject) (at : ℕ) (ss : List Scalar) → slice_get os n ≡ Some o → KeepsLeaves os (slice_set os n (filled at ss o)) }
 {}
 
 /// Taking back the newest object undoes the making of it.

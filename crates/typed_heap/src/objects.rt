@@ -1,12 +1,12 @@
 // The objects of a heap. Their cells stand in rows, object by object, so that an object takes little more than its cells do.
-ghost use Rattle.std.specs.Prelude.{◌≡◌, ◌+◌, ◌-◌, ◌^◌, ◌<◌, ◌≤◌, false, [], ◌∷◌, ◌++◌, Some, length, take, slice_get, slice_set, OnOk, OnErr, IsSomeAnd, IfSome};
+ghost use Rattle.std.specs.Prelude.{◌≡◌, ◌+◌, ◌-◌, ◌^◌, ◌<◌, ◌≤◌, false, [], ◌∷◌, ◌++◌, Some, length, map, take, slice_get, slice_set, OnOk, OnErr, IsSomeAnd, IfSome, vec_len, vec_capacity};
 ghost use Rattle.std.specs.List.{All};
 ghost use Rattle.type_laws.specs.Leaves.{times};
 ghost use Rattle.mu_values.specs.Constants.{width_of};
-ghost use Rattle.typed_heap.specs.Objects.{object_of, killed, given};
+ghost use Rattle.typed_heap.specs.Objects.{object_of, killed, replaced, with_filled};
 ghost use Rattle.typed_heap.specs.Heap.{AreNarrow};
 ghost use Rattle.typed_heap.specs.Repeating.{Repeats};
-ghost use Rattle.typed_heap.specs.Rows.{initial_of, begin, end, first_by, firsts, IsCut, IsKnown};
+ghost use Rattle.typed_heap.specs.Rows.{initial_of, begin, end, first_by, firsts, IsCut, IsKnown, AreOwn};
 
 use mu_types::{Classes, TypeDef};
 use mu_values::Scalar;
@@ -186,24 +186,17 @@ impl Objects {
         self.given.reserve(more)
     }
 
-    /// Gives a cell its initial scalar, into room that is there, in constant time. A cell that is given one again takes no more memory.
-    pub fn give(&mut self, n: u32, at: u32, scalar: Scalar)
-        requires there { IsSomeAnd (slice_get self.old.objects n) (λ o. at < length o.leaves) }
-        requires room { 0 < self.old.spare }
-        ensures objects { IfSome (slice_get self.old.objects n) (λ o. self.new.objects ≡ slice_set self.old.objects n (given o at scalar)) }
-        ensures spare { self.old.spare ≤ self.new.spare + 1 }
+    /// Gives cells of an object their initial scalars, from an offset on, into room that is there. It takes constant time for each. A cell
+    /// that is given one again takes no more memory.
+    pub fn give_all(&mut self, n: u32, at: u32, scalars: &[Scalar])
+        requires there { IsSomeAnd (slice_get self.old.objects n) (λ o. at + length scalars.now ≤ length o.leaves) }
+        requires room { length scalars.now ≤ self.old.spare }
+        ensures objects { self.new.objects ≡ with_filled self.old.objects n at scalars.now (slice_get self.old.objects n) }
+        ensures spare { self.old.spare ≤ self.new.spare + length scalars.now }
     {
         let (begin, _) = bounds(&self.leaves, &self.extents, n as usize);
-        let cell = begin + at as usize;
-        match self.initials[cell] {
-            // No other cell has this number.
-            Initial::Given(number) => self.given[number] = scalar,
-            Initial::Null | Initial::Zero(_) => {
-                let number = self.given.len();
-                self.given.push(scalar).unwrap();
-                self.initials[cell] = Initial::Given(number);
-            }
-        }
+        let from = begin + at as usize;
+        give_cells(&mut self.initials, &mut self.given, from, scalars);
     }
 }
 
@@ -236,6 +229,42 @@ fn shown(given: &[Scalar], initial: Initial) -> Scalar
         Initial::Null => Scalar::Null,
         Initial::Zero(width) => Scalar::Int { width, bits: 0 },
         Initial::Given(number) => given[number],
+    }
+}
+
+/// Gives cells their initial scalars, from one on, into room that is there.
+fn give_cells(initials: &mut [Initial], given: &mut Vec<Scalar>, from: usize, scalars: &[Scalar])
+    requires cells { from + length scalars.now ≤ length initials.old }
+    requires own { AreOwn initials.old (length given.old.items) }
+    requires room { length scalars.now ≤ vec_capacity given.old - vec_len given.old }
+    ensures cells { length initials.new ≡ length initials.old }
+    ensures own { AreOwn initials.new (length given.new.items) }
+    ensures begins { map (initial_of given.new.items) initials.new ≡ replaced (map (initial_of given.old.items) initials.old) from scalars.now }
+    ensures room { vec_capacity given.old - vec_len given.old ≤ vec_capacity given.new - vec_len given.new + length scalars.now }
+{
+    for i in 0..scalars.len() {
+        give_cell(initials, given, from + i, scalars[i]);
+    }
+}
+
+/// Gives a cell its initial scalar, into room that is there.
+fn give_cell(initials: &mut [Initial], given: &mut Vec<Scalar>, cell: usize, scalar: Scalar)
+    requires cell { cell < length initials.old }
+    requires own { AreOwn initials.old (length given.old.items) }
+    requires room { 0 < vec_capacity given.old - vec_len given.old }
+    ensures cells { length initials.new ≡ length initials.old }
+    ensures own { AreOwn initials.new (length given.new.items) }
+    ensures begins { map (initial_of given.new.items) initials.new ≡ slice_set (map (initial_of given.old.items) initials.old) cell scalar }
+    ensures room { vec_capacity given.old - vec_len given.old ≤ vec_capacity given.new - vec_len given.new + 1 }
+{
+    match initials[cell] {
+        // No other cell has this number.
+        Initial::Given(number) => given[number] = scalar,
+        Initial::Null | Initial::Zero(_) => {
+            let number = given.len();
+            given.push(scalar).unwrap();
+            initials[cell] = Initial::Given(number);
+        }
     }
 }
 

@@ -1,5 +1,5 @@
-use Rattle.typed_heap.proofs.Fitted.{given_fits}
+use Rattle.typed_heap.proofs.Fitted.{filled_fits}
 use Rattle.typed_heap.proofs.laws.changed_objects_fit.Goals as goal
 
-pub returns-clause-given : goal.returns-clause-given
-returns-clause-given c = λ g w o at k s. given_fits g w o.leaves o.initial at k s
+pub returns-clause-filled : goal.returns-clause-filled
+returns-clause-filled c = λ g w o at ss. filled_fits g w o.leaves o.initial at ss
