@@ -23,6 +23,15 @@ pub const DEFINITIONS: &str =
 /// A bundle, or the text of a file beside one, what is written, and the status.
 pub type Row = (&'static str, &'static str, Status);
 
+/// What the program is to write, and the status that it is to end with.
+#[derive(Clone, Copy)]
+pub struct Wanted<'a> {
+    /// All that is written.
+    pub text: &'a str,
+    /// The status.
+    pub status: Status,
+}
+
 /// These words, one after another.
 pub fn words_of(alloc: Global, all: &[&str]) -> Result<Words, AllocError> {
     let mut words = Words::new(alloc);
@@ -60,13 +69,12 @@ pub fn writes(
     all: &[&str],
     mut inputs: MemoryInputs,
     mut out: MemorySink,
-    text: &str,
-    status: Status,
+    wanted: Wanted,
 ) -> Result<(), AllocError> {
     let words = words_of(alloc, all)?;
     let answer = mu(alloc, &words, &mut inputs, &mut out);
-    assert_eq!(rt; out.bytes(), text.as_bytes());
-    assert!(rt; answer == status);
+    assert_eq!(rt; out.bytes(), wanted.text.as_bytes());
+    assert!(rt; answer == wanted.status);
     Ok(())
 }
 
@@ -76,12 +84,11 @@ pub fn answers(
     alloc: Global,
     all: &[&str],
     bytes: Vec<u8>,
-    text: &str,
-    status: Status,
+    wanted: Wanted,
 ) -> Result<(), AllocError> {
     let inputs = file(alloc, bytes, &[])?;
     let out = MemorySink::new(alloc, Vec::new(alloc));
-    writes(rt, alloc, all, inputs, out, text, status)
+    writes(rt, alloc, all, inputs, out, wanted)
 }
 
 /// What is written of each bundle, and the status. The rows of a table stand in a constant that is only lent: a proof that builds
@@ -94,7 +101,11 @@ pub fn each_answers(
 ) -> Result<(), AllocError> {
     for (bundle, text, status) in rows {
         let bytes = Vec::from_slice(alloc, bundle.as_bytes())?;
-        answers(rt, alloc, all, bytes, text, *status)?;
+        let wanted = Wanted {
+            text: *text,
+            status: *status,
+        };
+        answers(rt, alloc, all, bytes, wanted)?;
     }
     Ok(())
 }
@@ -115,7 +126,11 @@ pub fn each_answers_behind(
 ) -> Result<(), AllocError> {
     for (bundle, text, status) in rows {
         let bytes = behind_definitions(alloc, bundle)?;
-        answers(rt, alloc, all, bytes, text, *status)?;
+        let wanted = Wanted {
+            text: *text,
+            status: *status,
+        };
+        answers(rt, alloc, all, bytes, wanted)?;
     }
     Ok(())
 }
@@ -132,7 +147,11 @@ pub fn each_answers_beside(
         let bytes = behind_definitions(alloc, bundle)?;
         let inputs = two_files(alloc, bytes, other)?;
         let out = MemorySink::new(alloc, Vec::new(alloc));
-        writes(rt, alloc, all, inputs, out, text, *status)?;
+        let wanted = Wanted {
+            text: *text,
+            status: *status,
+        };
+        writes(rt, alloc, all, inputs, out, wanted)?;
     }
     Ok(())
 }
@@ -149,7 +168,11 @@ pub fn each_text_answers(
         let bytes = behind_definitions(alloc, bundle)?;
         let inputs = two_files(alloc, bytes, other)?;
         let out = MemorySink::new(alloc, Vec::new(alloc));
-        writes(rt, alloc, all, inputs, out, text, *status)?;
+        let wanted = Wanted {
+            text: *text,
+            status: *status,
+        };
+        writes(rt, alloc, all, inputs, out, wanted)?;
     }
     Ok(())
 }

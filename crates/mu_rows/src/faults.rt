@@ -1,5 +1,5 @@
 // Faults of files and of the sink where a run has all four files, and where it writes many pieces.
-use crate::calls::{RUN, behind_definitions, file, named, words_of, writes};
+use crate::calls::{RUN, Wanted, behind_definitions, file, named, words_of, writes};
 use crate::swaps::HANDED_ON;
 use crate::tests::ADDS_40_AND_2;
 use mu_base::{MemoryInputs, MemorySink, Status};
@@ -103,15 +103,11 @@ fn each_fault_comes_to(
         let bytes = Vec::from_slice(alloc, ADDS_40_AND_2.as_bytes())?;
         let inputs = four_files(alloc, bytes, fault.fetches)?;
         let out = MemorySink::new(alloc, Vec::from_slice(alloc, fault.puts)?);
-        writes(
-            rt,
-            alloc,
-            WITH_ALL_FILES,
-            inputs,
-            out,
-            fault.text,
-            fault.status,
-        )?;
+        let wanted = Wanted {
+            text: fault.text,
+            status: fault.status,
+        };
+        writes(rt, alloc, WITH_ALL_FILES, inputs, out, wanted)?;
     }
     Ok(())
 }
@@ -140,14 +136,10 @@ const BEFORE_PIECE_3: &str =
 fn a_run_ends_where_a_piece_is_not_taken(rt: HostRuntime) -> Result<(), Fail> {
     let inputs = file(rt.alloc(), behind_definitions(rt.alloc(), HANDED_ON)?, &[])?;
     let out = MemorySink::new(rt.alloc(), Vec::from_slice(rt.alloc(), &[3])?);
-    writes(
-        &rt,
-        rt.alloc(),
-        RUN,
-        inputs,
-        out,
-        BEFORE_PIECE_3,
-        Status::SinkFault,
-    )?;
+    let wanted = Wanted {
+        text: BEFORE_PIECE_3,
+        status: Status::SinkFault,
+    };
+    writes(&rt, rt.alloc(), RUN, inputs, out, wanted)?;
     Ok(())
 }

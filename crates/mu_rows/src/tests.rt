@@ -1,6 +1,8 @@
 // What `mu` writes, and its status, where no clause of its contract says it: whole texts, faults of files and of the sink, the limit of
 // a file. More texts are shown by the cases of the built program.
-use crate::calls::{RUN, Row, answers, each_answers, each_answers_behind, file, words_of, writes};
+use crate::calls::{
+    RUN, Row, Wanted, answers, each_answers, each_answers_behind, file, words_of, writes,
+};
 use mu_base::{MemorySink, Status};
 use mu_command::mu;
 use std::alloc::{AllocError, Global};
@@ -284,27 +286,34 @@ fn checks_constants_and_numbers(rt: HostRuntime) -> Result<(), Fail> {
     Ok(())
 }
 
+// The beginning of a type's definition, whose name is `@` and that many letters.
+fn begins_a_name(alloc: Global, letters: usize) -> Result<Vec<u8>, AllocError> {
+    let name = vec![in alloc; b'a'; letters]?;
+    let mut bytes = Vec::from_slice(alloc, b".typedef @")?;
+    bytes.extend_from_slice(&name)?;
+    Ok(bytes)
+}
+
 #[test]
-fn checks_a_byte_and_a_long_name(rt: HostRuntime) -> Result<(), Fail> {
-    answers(
-        &rt,
-        rt.alloc(),
-        &["check", "b"],
-        vec![in rt.alloc(); 0x80; 1]?,
-        "refused bundle 0 BadByte\n",
-        Status::Refused,
-    )?;
-    let letters = vec![in rt.alloc(); b'a'; 65_536]?;
-    let mut long = Vec::from_slice(rt.alloc(), b".typedef @")?;
-    long.extend_from_slice(&letters)?;
-    answers(
-        &rt,
-        rt.alloc(),
-        &["check", "b"],
-        long,
-        "refused bundle 9 TooLong\n",
-        Status::Refused,
-    )?;
+fn checks_a_byte_and_long_names(rt: HostRuntime) -> Result<(), Fail> {
+    let check = &["check", "b"];
+    let bad = Wanted {
+        text: "refused bundle 0 BadByte\n",
+        status: Status::Refused,
+    };
+    answers(&rt, rt.alloc(), check, vec![in rt.alloc(); 0x80; 1]?, bad)?;
+    let ends = Wanted {
+        text: "refused bundle 65545 Unexpected\n",
+        status: Status::Refused,
+    };
+    let longest = begins_a_name(rt.alloc(), 65_535)?;
+    answers(&rt, rt.alloc(), check, longest, ends)?;
+    let past = Wanted {
+        text: "refused bundle 9 TooLong\n",
+        status: Status::Refused,
+    };
+    let too_long = begins_a_name(rt.alloc(), 65_536)?;
+    answers(&rt, rt.alloc(), check, too_long, past)?;
     Ok(())
 }
 
@@ -451,7 +460,11 @@ fn each_comes_to(rt: &impl Abort, alloc: Global, calls: &[Call]) -> Result<(), A
         let bytes = Vec::from_slice(alloc, ADDS_40_AND_2.as_bytes())?;
         let inputs = file(alloc, bytes, call.failing_fetches)?;
         let out = MemorySink::new(alloc, Vec::from_slice(alloc, call.failing_puts)?);
-        writes(rt, alloc, call.words, inputs, out, call.text, call.status)?;
+        let wanted = Wanted {
+            text: call.text,
+            status: call.status,
+        };
+        writes(rt, alloc, call.words, inputs, out, wanted)?;
     }
     Ok(())
 }
@@ -468,45 +481,28 @@ fn blanks(
     alloc: Global,
     all: &[&str],
     count: usize,
-    text: &str,
-    status: Status,
+    wanted: Wanted,
 ) -> Result<(), AllocError> {
-    answers(rt, alloc, all, vec![in alloc; b' '; count]?, text, status)
+    answers(rt, alloc, all, vec![in alloc; b' '; count]?, wanted)
 }
 
 #[test]
 fn files_at_the_limit(rt: HostRuntime) -> Result<(), Fail> {
-    blanks(
-        &rt,
-        rt.alloc(),
-        RUN,
-        1_048_576,
-        "refused entry Unknown\n",
-        Status::Refused,
-    )?;
-    blanks(
-        &rt,
-        rt.alloc(),
-        &["check", "b"],
-        1_048_576,
-        "ok\n",
-        Status::Done,
-    )?;
-    blanks(
-        &rt,
-        rt.alloc(),
-        &["check", "b"],
-        1_048_577,
-        "too long bundle\n",
-        Status::TooLong,
-    )?;
-    blanks(
-        &rt,
-        rt.alloc(),
-        RUN,
-        1_048_577,
-        "too long bundle\n",
-        Status::TooLong,
-    )?;
+    let empty = Wanted {
+        text: "refused entry Unknown\n",
+        status: Status::Refused,
+    };
+    blanks(&rt, rt.alloc(), RUN, 1_048_576, empty)?;
+    let ok = Wanted {
+        text: "ok\n",
+        status: Status::Done,
+    };
+    blanks(&rt, rt.alloc(), &["check", "b"], 1_048_576, ok)?;
+    let too_long = Wanted {
+        text: "too long bundle\n",
+        status: Status::TooLong,
+    };
+    blanks(&rt, rt.alloc(), &["check", "b"], 1_048_577, too_long)?;
+    blanks(&rt, rt.alloc(), RUN, 1_048_577, too_long)?;
     Ok(())
 }

@@ -1,6 +1,7 @@
 // Threads that share cells: what they read by the orders of their accesses, and how many there may be.
 use crate::calls::{
-    RUN, Row, SCHEDULED, answers, behind_definitions, each_answers_behind, each_answers_beside,
+    RUN, Row, SCHEDULED, Wanted, answers, behind_definitions, each_answers_behind,
+    each_answers_beside,
 };
 use mu_base::Status;
 use std::alloc::{AllocError, Global};
@@ -281,13 +282,10 @@ fn lines_of_all_threads(alloc: Global) -> Result<String, AllocError> {
 fn no_65th_thread_is_made(rt: HostRuntime) -> Result<(), Fail> {
     let bytes = behind_definitions(rt.alloc(), WITHOUT_END)?;
     let text = lines_of_all_threads(rt.alloc())?;
-    answers(
-        &rt,
-        rt.alloc(),
-        RUN,
-        bytes,
-        text.as_str(),
-        Status::ThreadsFull,
-    )?;
+    let wanted = Wanted {
+        text: text.as_str(),
+        status: Status::ThreadsFull,
+    };
+    answers(&rt, rt.alloc(), RUN, bytes, wanted)?;
     Ok(())
 }
