@@ -217,28 +217,10 @@ exited_so bundle s v w x f1 rest s1 s2 lg after rl kept ls client view there wai
     let here : replying bundle v w x Exit ≢ Stuck = subst (λ (s : Held). replying bundle s w x Exit ≢ Stuck) (sym view) there in
     ended ∙ sym (reply_exits bundle v w x here) ∙ ap (λ (s : Held). past s (replying bundle s w x Exit)) view
 
--- the same of a change that is seen so
-pub exited_with : (bundle : List Item) (s v : Held) (w : Awaited) (x y : Change) (f1 rest : Chain) (s1 s2 : Seats) (lg after : List Event) (rl kept : Rule) (ls : List Line) (client : Client)
-    → y ≡ x → v ≡ s → replying bundle s w x Exit ≢ Stuck → f1 ≡ record v.frames { top = with_awaited v.frames.top w } → s1 ≡ record v.seats { stacks = slice_set v.seats.stacks v.stack (Active v.thread (frames_of f1)) }
-    → s2 ≡ record s1 { threads = slice_set s1.threads v.thread None; stacks = changed left_ready v.stack s1.stacks } → lg ≡ v.log → rl ≡ v.rule → after ≡ leaves v ∷ lg → kept ≡ rl → client ≡ advanced v.client
-    → ls ≡ y.lines ++ lines.Note (Exited v.thread) ∷ []
-    → answers (Went ls) (record v { left = false; frames = rest; seats = s2; log = after; rule = kept; watched = y.watched; client = client; steps = v.steps + 1 }) ≡ past s (replying bundle s w x Exit)
-exited_with bundle s v w x y f1 rest s1 s2 lg after rl kept ls client seen view there waits first second log rule added still gone told =
-    exited_so bundle s v w y f1 rest s1 s2 lg after rl kept ls client view (subst (λ x. replying bundle s w x Exit ≢ Stuck) (sym seen) there) waits first second log rule added still gone told ∙ ap (λ x. past s (replying bundle s w x Exit)) seen
-
 pub exit_waits : (s0 s1 : Seats) (i k : ℕ) (c f0 : Chain) (w : Awaited) (cs ws : List ℕ) → k < length s0.stacks → s1 ≡ record s0 { stacks = slice_set s0.stacks k (Active i (frames_of c)) } → c ≡ record f0 { top = with_awaited f0.top w } → cs ≡ ws → ws ≡ w.waits
     → WaitsFor (slice_get s1.stacks k) cs
 exit_waits s0 s1 i k c f0 w cs ws low first is copied waits =
     subst (λ (s : Seats). WaitsFor (slice_get s.stacks k) cs) (sym first) (waits_there s0.stacks i k c cs low (ap (λ (c : Chain). c.top.waits) is ∙ sym waits ∙ sym copied))
-
-pub resumed_with : (s v : Held) (w : Awaited) (x y : Change) (a : Arrival) (vs : List Value) (f1 f3 : Chain) (os : List HeapObject) (cells number : ℕ) (lg after : List Event) (rl kept : Rule) (ls : List Line) (client : Client)
-    → y ≡ x → v ≡ s → s.left ≡ true → IsOn v.seats v.thread v.stack → v.stack < length v.seats.stacks → f1 ≡ record v.frames { top = with_awaited v.frames.top w }
-    → arrives a (frames_of f1) vs ≡ Some (record { frames = frames_of f3; ended = take a.above (frames_of f1) }) → os ≡ objects_end v.objects (frames_objects (take a.above (frames_of f1))) → cells ≡ v.cells
-    → lg ≡ v.log → rl ≡ v.rule → after ≡ entry v v.stack ∷ leaves v ∷ lg → kept ≡ rl → client ≡ advanced v.client → number ≡ length v.log → ls ≡ y.lines ++ lines.Event (number + 1) (entry v v.stack) ∷ []
-    → IfSome (arrives a (frames_of (waiting_frames s w)) vs) (λ r. answers (Went ls) (record (at_stack v v.stack f3 v.seats os cells after kept) { watched = y.watched; client = client }) ≡ past s (entering_then s w x s.stack r))
-resumed_with s v w x y a vs f1 f3 os cells number lg after rl kept ls client seen view left seated within waits arrived objects same log rule added still gone count told =
-    subst (λ z. IfSome (arrives a (frames_of (waiting_frames s w)) vs) (λ r. answers (Went ls) (record (at_stack v v.stack f3 v.seats os cells after kept) { watched = y.watched; client = client }) ≡ past s (entering_then s w z s.stack r))) seen
-    (resumed_so s v w y a vs f1 f3 os cells number lg after rl kept ls client view left seated within waits arrived objects same log rule added still gone count told)
 
 -- ---- what a client is shown
 
@@ -282,53 +264,51 @@ lands_again bundle s t w u e r a vs same waits is lands there =
 some_by : {A : Type 0} (P : A → Type 0) (o : Option A) (a : A) → o ≡ Some a → IfSome o P → P a
 some_by P o a e h = subst (λ o. IfSome o P) e h
 
-pub resume_answered : {E : Type 0} (bundle : List Item) (s t n : Held) (w u : Awaited) (x y : Change) (v : With TypedValues Classed) (e : Entering) (r : Found) (a : Arrival) (vs : List Value) (q : Result StepEnd E) → t ≡ s → u ≡ w → y ≡ x
+pub resume_answered : {E : Type 0} (bundle : List Item) (s t n : Held) (w u : Awaited) (x : Change) (v : With TypedValues Classed) (e : Entering) (r : Found) (a : Arrival) (vs : List Value) (q : Result StepEnd E) → t ≡ s → u ≡ w
     → replying bundle s w x (Resume v) ≢ Stuck → s.stack < length s.seats.stacks → entering_of (bundle_tables bundle) v ≡ Some e → entered_by bundle (frames_of (waiting_frames s w)) e ≡ found r (frames_of (waiting_frames s w)) vs → r ≡ Lands a
-    → IfOk q (λ end. IfSome (arrives a (frames_of (waiting_frames t u)) vs) (λ r. answers end n ≡ past t (entering_then t u y t.stack r))) → IfOk q (λ end. answers end n ≡ past s (replying bundle s w x (Resume v)))
-resume_answered bundle s t n w u x y v e r a vs (Err q) same waits seen there low brings is lands h = tt
-resume_answered bundle s t n w u x y v e r a vs (Ok end) same waits seen there low brings is lands h =
+    → IfOk q (λ end. IfSome (arrives a (frames_of (waiting_frames t u)) vs) (λ r. answers end n ≡ past t (entering_then t u x t.stack r))) → IfOk q (λ end. answers end n ≡ past s (replying bundle s w x (Resume v)))
+resume_answered bundle s t n w u x v e r a vs (Err q) same waits there low brings is lands h = tt
+resume_answered bundle s t n w u x v e r a vs (Ok end) same waits there low brings is lands h =
     let fs = frames_of (waiting_frames s w) in
     let l = lands_by (entered_by bundle fs e) (arrives a fs vs) (is ∙ ap (λ r. found r fs vs) lands) (resume_enters bundle s w x v there e low brings) in
-    let one = subst (λ (t : Held). IfSome (arrives a (frames_of (waiting_frames t u)) vs) (λ r. answers end n ≡ past t (entering_then t u y t.stack r))) same h in
-    let two = subst (λ u. IfSome (arrives a (frames_of (waiting_frames s u)) vs) (λ r. answers end n ≡ past s (entering_then s u y s.stack r))) waits one in
-    let three = subst (λ y. IfSome (arrives a (frames_of (waiting_frames s w)) vs) (λ r. answers end n ≡ past s (entering_then s w y s.stack r))) seen two in
-    some_by (λ r. answers end n ≡ past s (entering_then s w x s.stack r)) (arrives a fs vs) l.0 l.1 three ∙ ap (past s) (sym (resume_goes bundle s w x v there e l.0 low brings l.2))
+    let one = subst (λ (t : Held). IfSome (arrives a (frames_of (waiting_frames t u)) vs) (λ r. answers end n ≡ past t (entering_then t u x t.stack r))) same h in
+    let two = subst (λ u. IfSome (arrives a (frames_of (waiting_frames s u)) vs) (λ r. answers end n ≡ past s (entering_then s u x s.stack r))) waits one in
+    some_by (λ r. answers end n ≡ past s (entering_then s w x s.stack r)) (arrives a fs vs) l.0 l.1 two ∙ ap (past s) (sym (resume_goes bundle s w x v there e l.0 low brings l.2))
 
-pub resume_ended : (bundle : List Item) (s t n : Held) (w : Awaited) (x y : Change) (v : With TypedValues Classed) (e : Entering) (r : Found) (k : Case) (vs : List Value) (ending : Ending) → t ≡ s → y ≡ x → replying bundle s w x (Resume v) ≢ Stuck
+pub resume_ended : (bundle : List Item) (s t n : Held) (w : Awaited) (x : Change) (v : With TypedValues Classed) (e : Entering) (r : Found) (k : Case) (vs : List Value) (ending : Ending) → t ≡ s → replying bundle s w x (Resume v) ≢ Stuck
     → s.stack < length s.seats.stacks → entering_of (bundle_tables bundle) v ≡ Some e → entered_by bundle (frames_of (waiting_frames s w)) e ≡ found r (frames_of (waiting_frames s w)) vs → IsPlain r → r ≡ Refused k → ending ≡ undefined_at t k
-    → answers (Ended y.lines ending) n ≡ past s (replying bundle s w x (Resume v))
-resume_ended bundle s t n w x y v e r k vs ending same seen there low brings is plain refused told =
+    → answers (Ended x.lines ending) n ≡ past s (replying bundle s w x (Resume v))
+resume_ended bundle s t n w x v e r k vs ending same there low brings is plain refused told =
     let fs = frames_of (waiting_frames s w) in
-    answers_ended n y.lines x.lines ending (undefined_at s k) (ap (λ (x : Change). x.lines) seen) (told ∙ ap (λ (s : Held). undefined_at s k) same)
+    answers_ended n x.lines x.lines ending (undefined_at s k) refl (told ∙ ap (λ (s : Held). undefined_at s k) same)
     ∙ sym (resume_refuses bundle s w x v there e k low brings (is ∙ ap (λ r. found r fs vs) refused) (subst IsPlain refused plain))
 
-pub rebind_answered : {E : Type 0} (bundle : List Item) (s v0 n : Held) (w : Awaited) (x y : Change) (c : Classed) (v : With TypedValues Classed) (sc : Scalar) (k : ℕ) (e : Entering) (r : Found) (a : Arrival) (vs : List Value) (q : Result StepEnd E) → v0 ≡ s → y ≡ x
+pub rebind_answered : {E : Type 0} (bundle : List Item) (s v0 n : Held) (w : Awaited) (x : Change) (c : Classed) (v : With TypedValues Classed) (sc : Scalar) (k : ℕ) (e : Entering) (r : Found) (a : Arrival) (vs : List Value) (q : Result StepEnd E) → v0 ≡ s
     → replying bundle s w x (Rebind c v) ≢ Stuck → scalar_in (Some c.1) ≡ Some sc → sc ≡ scalars.Stack k → k ≢ s.stack → IsReady (slice_get s.seats.stacks k) → entering_of (bundle_tables bundle) v ≡ Some e
     → entered_by bundle (frames_at (slice_get v0.seats.stacks k)) e ≡ found r (frames_at (slice_get v0.seats.stacks k)) vs → r ≡ Lands a
-    → IfOk q (λ end. IfSome (arrives a (frames_at (slice_get s.seats.stacks k)) vs) (λ r. answers end n ≡ past s (entering_then s w y k r))) → IfOk q (λ end. answers end n ≡ past s (replying bundle s w x (Rebind c v)))
-rebind_answered bundle s v0 n w x y c v sc k e r a vs (Err q) view seen there named stack other ready brings is lands h = tt
-rebind_answered bundle s v0 n w x y c v sc k e r a vs (Ok end) view seen there named stack other ready brings at lands h =
+    → IfOk q (λ end. IfSome (arrives a (frames_at (slice_get s.seats.stacks k)) vs) (λ r. answers end n ≡ past s (entering_then s w x k r))) → IfOk q (λ end. answers end n ≡ past s (replying bundle s w x (Rebind c v)))
+rebind_answered bundle s v0 n w x c v sc k e r a vs (Err q) view there named stack other ready brings is lands h = tt
+rebind_answered bundle s v0 n w x c v sc k e r a vs (Ok end) view there named stack other ready brings at lands h =
     let is = subst (λ (s : Held). entered_by bundle (frames_at (slice_get s.seats.stacks k)) e ≡ found r (frames_at (slice_get s.seats.stacks k)) vs) view at in
     let fs = frames_at (slice_get s.seats.stacks k) in
     let name : scalar_in (Some c.1) ≡ Some (scalars.Stack k) = named ∙ ap Some stack in
     let l = lands_by (entered_by bundle fs e) (arrives a fs vs) (is ∙ ap (λ r. found r fs vs) lands) (rebind_looks bundle s w x c v there k e name other ready brings) in
-    let three = subst (λ y. IfSome (arrives a fs vs) (λ r. answers end n ≡ past s (entering_then s w y k r))) seen h in
-    some_by (λ r. answers end n ≡ past s (entering_then s w x k r)) (arrives a fs vs) l.0 l.1 three ∙ ap (past s) (sym (rebind_goes bundle s w x c v there k e l.0 name other ready brings l.2))
+    some_by (λ r. answers end n ≡ past s (entering_then s w x k r)) (arrives a fs vs) l.0 l.1 h ∙ ap (past s) (sym (rebind_goes bundle s w x c v there k e l.0 name other ready brings l.2))
 
-pub rebind_ended : (bundle : List Item) (s v0 n : Held) (w : Awaited) (x y : Change) (c : Classed) (v : With TypedValues Classed) (sc : Scalar) (k : ℕ) (e : Entering) (r : Found) (q : Case) (vs : List Value) (ending : Ending) → v0 ≡ s → y ≡ x
+pub rebind_ended : (bundle : List Item) (s v0 n : Held) (w : Awaited) (x : Change) (c : Classed) (v : With TypedValues Classed) (sc : Scalar) (k : ℕ) (e : Entering) (r : Found) (q : Case) (vs : List Value) (ending : Ending) → v0 ≡ s
     → replying bundle s w x (Rebind c v) ≢ Stuck → scalar_in (Some c.1) ≡ Some sc → sc ≡ scalars.Stack k → k ≢ s.stack → IsReady (slice_get s.seats.stacks k) → entering_of (bundle_tables bundle) v ≡ Some e
     → entered_by bundle (frames_at (slice_get v0.seats.stacks k)) e ≡ found r (frames_at (slice_get v0.seats.stacks k)) vs → IsPlain r → r ≡ Refused q → ending ≡ undefined_at s q
-    → answers (Ended y.lines ending) n ≡ past s (replying bundle s w x (Rebind c v))
-rebind_ended bundle s v0 n w x y c v sc k e r q vs ending view seen there named stack other ready brings at plain refused told =
+    → answers (Ended x.lines ending) n ≡ past s (replying bundle s w x (Rebind c v))
+rebind_ended bundle s v0 n w x c v sc k e r q vs ending view there named stack other ready brings at plain refused told =
     let is = subst (λ (s : Held). entered_by bundle (frames_at (slice_get s.seats.stacks k)) e ≡ found r (frames_at (slice_get s.seats.stacks k)) vs) view at in
     let fs = frames_at (slice_get s.seats.stacks k) in
-    answers_ended n y.lines x.lines ending (undefined_at s q) (ap (λ (x : Change). x.lines) seen) told
+    answers_ended n x.lines x.lines ending (undefined_at s q) refl told
     ∙ sym (rebind_refuses bundle s w x c v there k e q (named ∙ ap Some stack) other ready brings (is ∙ ap (λ r. found r fs vs) refused) (subst IsPlain refused plain))
 
-pub rebind_unready : (bundle : List Item) (s n : Held) (w : Awaited) (x y : Change) (c : Classed) (v : With TypedValues Classed) (sc : Scalar) (ending : Ending) → y ≡ x → replying bundle s w x (Rebind c v) ≢ Stuck → scalar_in (Some c.1) ≡ Some sc
-    → sc ≢ scalars.Stack s.stack → ready (held_stacks s) sc ≡ Some (Err StackNotReady) → ending ≡ undefined_at s StackNotReady → answers (Ended y.lines ending) n ≡ past s (replying bundle s w x (Rebind c v))
-rebind_unready bundle s n w x y c v sc ending seen there named other none told =
-    answers_ended n y.lines x.lines ending (undefined_at s StackNotReady) (ap (λ (x : Change). x.lines) seen) told ∙ sym (rebind_not_ready bundle s w x c v there sc named other none)
+pub rebind_unready : (bundle : List Item) (s n : Held) (w : Awaited) (x : Change) (c : Classed) (v : With TypedValues Classed) (sc : Scalar) (ending : Ending) → replying bundle s w x (Rebind c v) ≢ Stuck → scalar_in (Some c.1) ≡ Some sc
+    → sc ≢ scalars.Stack s.stack → ready (held_stacks s) sc ≡ Some (Err StackNotReady) → ending ≡ undefined_at s StackNotReady → answers (Ended x.lines ending) n ≡ past s (replying bundle s w x (Rebind c v))
+rebind_unready bundle s n w x c v sc ending there named other none told =
+    answers_ended n x.lines x.lines ending (undefined_at s StackNotReady) refl told ∙ sym (rebind_not_ready bundle s w x c v there sc named other none)
 
 -- the lines of a trap where nothing is recorded
 pub misuse_lines : (s v : Held) (number : ℕ) (ls : List Line) (note : Note) (notes : List Note) → v ≡ s → number ≡ length v.log → ls ≡ lines.Event number (leaves v) ∷ lines.Note note ∷ map lines.Note notes → notes ≡ []
@@ -362,16 +342,16 @@ unfolding answers swapped_with client_in
 client_kept (Went l) s t f k r ls h = ap (client_in s.client) h
 client_kept (Ended l e) s t f k r ls h = cc
 
-pub rebound_end : (end : StepEnd) (s t u v : Held) (w : Awaited) (x y : Change) (k number : ℕ) (o : Option EnteredFrames) (ls : List Line) (client : Client)
-    → y ≡ x → v ≡ s → u ≡ t → IfSome o (λ r. answers end t ≡ swapped_with s (with_awaited s.frames.top w) k r ls) → client ≡ advanced u.client
-    → number ≡ length v.log → ls ≡ y.lines ++ lines.Event (number + 1) (entry v k) ∷ [] → IfSome o (λ r. answers end (record u { watched = y.watched; client = client }) ≡ past s (entering_then s w x k r))
-rebound_end end s t u v w x y k number None ls client changed view same h gone count lined = tt
-rebound_end end s t u v w x y k number (Some r) ls client changed view same h gone count lined =
+pub rebound_end : (end : StepEnd) (s t u v : Held) (w : Awaited) (x : Change) (k number : ℕ) (o : Option EnteredFrames) (ls : List Line) (client : Client)
+    → v ≡ s → u ≡ t → IfSome o (λ r. answers end t ≡ swapped_with s (with_awaited s.frames.top w) k r ls) → client ≡ advanced u.client
+    → number ≡ length v.log → ls ≡ x.lines ++ lines.Event (number + 1) (entry v k) ∷ [] → IfSome o (λ r. answers end (record u { watched = x.watched; client = client }) ≡ past s (entering_then s w x k r))
+rebound_end end s t u v w x k number None ls client view same h gone count lined = tt
+rebound_end end s t u v w x k number (Some r) ls client view same h gone count lined =
     let kept : u.client ≡ s.client = ap (λ (t : Held). t.client) same ∙ client_kept end s t (with_awaited s.frames.top w) k r ls h in
     let counted : number ≡ length s.log = count ∙ ap (λ (s : Held). length s.log) view in
-    let all : ls ≡ y.lines ++ lines.Event (number + 1) (entry s k) ∷ [] = lined ∙ ap (λ (s : Held). y.lines ++ lines.Event (number + 1) (entry s k) ∷ []) view in
-    let done = entered_then end s t w y k number r ls client h (gone ∙ ap advanced kept) counted all in
-    ap (λ (t : Held). answers end (record t { watched = y.watched; client = client })) same ∙ done ∙ ap (λ x. past s (entering_then s w x k r)) changed
+    let all : ls ≡ x.lines ++ lines.Event (number + 1) (entry s k) ∷ [] = lined ∙ ap (λ (s : Held). x.lines ++ lines.Event (number + 1) (entry s k) ∷ []) view in
+    let done = entered_then end s t w x k number r ls client h (gone ∙ ap advanced kept) counted all in
+    ap (λ (t : Held). answers end (record t { watched = x.watched; client = client })) same ∙ done
 
 went_by : (end : StepEnd) (s t : Held) (f : Activation) (k : ℕ) (r : EnteredFrames) (ls : List Line) → answers end t ≡ swapped_with s f k r ls → (a b : Held) → Stays end a b
 unfolding answers swapped_with

@@ -17,12 +17,16 @@ use Rattle.mu_model.specs.Traps.{trap_note, taken, replied}
 use Rattle.model_numbers.specs.Numbered.{numbered}
 use Rattle.thread_acts.specs.Held.{Held}
 use Rattle.thread_acts.specs.Acting.{begun, turn, doing_of, with_awaited, Awaited}
+use Rattle.mu_step.specs.declared.trapping.Trapped.{Trapped}
 use Rattle.mu_step.specs.Entering.{nothing}
 
 -- what an answer changes before its reply: the watchpoints that are enabled, and the lines so far
 pub record Change : Type 0 where
   pub watched : List ℕ
   pub lines : List Line
+
+abbrev pub change_by : Trapped → Change
+change_by t = record { watched = t.watched; lines = t.lines }
 
 -- the top frame waits so
 abbrev pub waiting_frames : Held → Awaited → Chain

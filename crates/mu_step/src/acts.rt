@@ -13,6 +13,7 @@ ghost use Rattle.mu_step.specs.Rare.{is_rare, may_ask};
 
 use crate::entering::{leave_stack, swap};
 use crate::starting::start_thread;
+use crate::step::Lists;
 use crate::trapping::{choose, meet, trap};
 use crate::wakes::wake;
 use bundle_check::Checked;
@@ -20,7 +21,6 @@ use bundle_facts::widths_are_narrow;
 use client_hooks::Determined;
 use mem_axioms::Memory;
 use mu_model::StepEnd;
-use mu_values::Slots;
 use std::alloc::AllocError;
 use step_forms::{Act, Room, Variables, decide, forms_are_there};
 use thread_acts::making::Making;
@@ -32,29 +32,29 @@ fn perform<M: Memory, C: Determined>(
     state: &mut State<M, C>,
     code: &Checked,
     act: Act,
-    room: &mut Room,
-    out: &mut Slots,
+    lists: &mut Lists,
 ) -> Result<StepEnd, AllocError>
     requires left { state.old.left ≡ true }
     requires room { state.old.steps < state.old.budget }
     requires narrow { AreNarrow (graph_of code.now) }
     requires plain { may_ask act ≡ false }
     requires waits { GoesOn state.old }
-    requires classes { ActIsThere (graph_of code.now) (lists_of room.old) act }
-    requires there { acting code.now state.old (asked act (lists_of room.old)) ≢ Stuck }
-    ensures ok { IfOk result (λ end. answers end state.new ≡ acting code.now state.old (asked act (lists_of room.old))) }
+    requires classes { ActIsThere (graph_of code.now) (lists_of lists.old.room) act }
+    requires there { acting code.now state.old (asked act (lists_of lists.old.room)) ≢ Stuck }
+    ensures ok { IfOk result (λ end. answers end state.new ≡ acting code.now state.old (asked act (lists_of lists.old.room))) }
     ensures err { OnErr result (state.new ≡ state.old) }
     ensures stays { IfOk result (λ end. Stays end state.old state.new) }
 {
-    let values = &mut room.values;
+    let values = &mut lists.room.values;
+    let out = &mut lists.out;
     match act {
         Act::Gives(scalar) => state.give_scalar(code, scalar, values, out),
         Act::GivesValues => state.give(code, values, out),
         Act::Faults(case) => state.refuse(code, case, out),
         Act::Goes { block } => Ok(state.go(block, values)),
-        Act::Calls { function } => state.call(code, function, room),
+        Act::Calls { function } => state.call(code, function, &mut lists.room),
         Act::Replaces { function } => Ok(state.call_in_place(code, function, values)),
-        Act::Returns => state.give_back(code, room, out),
+        Act::Returns => state.give_back(code, &mut lists.room, out),
         Act::Throws(exception) => state.throw(code, exception, out),
         Act::Casts { class, scalar } => state.cast(code, class, scalar, values, out),
         Act::Finds { way, scalar } => state.find(code, way, scalar, values, out),
@@ -69,7 +69,7 @@ fn perform<M: Memory, C: Determined>(
             watchpoint,
             disabled,
             enabled,
-        } => Ok(choose(state, code, watchpoint, disabled, enabled, room)),
+        } => Ok(choose(state, code, watchpoint, disabled, enabled, &mut lists.room)),
         Act::Traps | Act::Watches { .. } => unreachable!(),
         Act::Swaps { .. }
         | Act::Leaves { .. }
@@ -81,7 +81,7 @@ fn perform<M: Memory, C: Determined>(
         | Act::SetsOwn(_)
         | Act::TellsOwn
         | Act::Waits { .. }
-        | Act::Wakes { .. } => perform_rare(state, code, act, room, out),
+        | Act::Wakes { .. } => perform_rare(state, code, act, lists),
     }
 }
 
@@ -90,38 +90,39 @@ fn perform_rare<M: Memory, C: Determined>(
     state: &mut State<M, C>,
     code: &Checked,
     act: Act,
-    room: &mut Room,
-    out: &mut Slots,
+    lists: &mut Lists,
 ) -> Result<StepEnd, AllocError>
     requires left { state.old.left ≡ true }
     requires room { state.old.steps < state.old.budget }
     requires waits { GoesOn state.old }
     requires rare { is_rare act ≡ true }
-    requires there { acting code.now state.old (asked act (lists_of room.old)) ≢ Stuck }
-    ensures ok { IfOk result (λ end. answers end state.new ≡ acting code.now state.old (asked act (lists_of room.old))) }
+    requires there { acting code.now state.old (asked act (lists_of lists.old.room)) ≢ Stuck }
+    ensures ok { IfOk result (λ end. answers end state.new ≡ acting code.now state.old (asked act (lists_of lists.old.room))) }
     ensures err { OnErr result (state.new ≡ state.old) }
     ensures stays { IfOk result (λ end. Stays end state.old state.new) }
 {
+    let values = &mut lists.room.values;
+    let out = &mut lists.out;
     match act {
-        Act::Swaps { stack, entering } => swap(state, code, stack, entering, room, out),
-        Act::Leaves { stack, entering } => { leave_stack(state, code, stack, entering, room, out) }
+        Act::Swaps { stack, entering } => swap(state, code, stack, entering, lists),
+        Act::Leaves { stack, entering } => { leave_stack(state, code, stack, entering, lists) }
         Act::Starts {
             stack,
             own,
             entering,
-        } => start_thread(state, code, stack, own, entering, room, out),
+        } => start_thread(state, code, stack, own, entering, lists),
         Act::Waits {
             timed,
             expected,
             cell,
-        } => state.wait(code, timed, expected, cell, &mut room.values, out),
-        Act::Wakes { many, cell } => wake(state, code, many, cell, &mut room.values, out),
-        Act::MakesStack { function } => { state.make_stack(code, function, &mut room.values, out) }
-        Act::KillsStack { stack } => { state.kill_stack(code, stack, &mut room.values, out) }
-        Act::Tells => state.tell_stack(code, &mut room.values, out),
+        } => state.wait(code, timed, expected, cell, values, out),
+        Act::Wakes { many, cell } => wake(state, code, many, cell, values, out),
+        Act::MakesStack { function } => { state.make_stack(code, function, values, out) }
+        Act::KillsStack { stack } => { state.kill_stack(code, stack, values, out) }
+        Act::Tells => state.tell_stack(code, values, out),
         Act::Exits => state.exit(code),
-        Act::SetsOwn(own) => state.set_own(code, own, &mut room.values, out),
-        Act::TellsOwn => state.tell_own(code, &mut room.values, out),
+        Act::SetsOwn(own) => state.set_own(code, own, values, out),
+        Act::TellsOwn => state.tell_own(code, values, out),
         _ => unreachable!(),
     }
 }
@@ -157,8 +158,7 @@ fn asks<M: Memory, C: Determined>(
 pub(crate) fn run<M: Memory, C: Determined>(
     state: &mut State<M, C>,
     code: &Checked,
-    room: &mut Room,
-    out: &mut Slots,
+    lists: &mut Lists,
 ) -> Result<StepEnd, AllocError>
     requires left { state.old.left ≡ true }
     requires room { state.old.steps < state.old.budget }
@@ -170,9 +170,9 @@ pub(crate) fn run<M: Memory, C: Determined>(
 {
     let _items = code.items();
     widths_are_narrow();
-    match asks(state, code, room)? {
-        Act::Traps => trap(state, code, None, room, out),
-        Act::Watches { watchpoint, block } => { meet(state, code, watchpoint, block, room, out) }
-        act => perform(state, code, act, room, out),
+    match asks(state, code, &mut lists.room)? {
+        Act::Traps => trap(state, code, None, lists),
+        Act::Watches { watchpoint, block } => { meet(state, code, watchpoint, block, lists) }
+        act => perform(state, code, act, lists),
     }
 }

@@ -29,6 +29,13 @@ pub(crate) struct Arrival {
     pub(crate) place: Place,
 }
 
+/// Which stack a step lands on, and how that goes on.
+#[derive(Clone, Copy, Debug, PartialEq, Eq)]
+pub(crate) struct Landing {
+    pub(crate) stack: u32,
+    pub(crate) arrival: Arrival,
+}
+
 /// Where a stack goes on, or why it does not.
 #[derive(Clone, Copy, Debug, PartialEq, Eq)]
 pub(crate) enum Found {

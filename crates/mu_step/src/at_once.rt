@@ -12,11 +12,10 @@ ghost use Rattle.thread_acts.specs.Outcome.{outcome_of};
 ghost use Rattle.thread_acts.specs.Acting.{answers, acting, stepping, told};
 ghost use Rattle.thread_acts.specs.StepLaws.{GoesOn};
 
-use crate::step::{pick_thread, settle};
+use crate::step::{Lists, pick_thread, settle};
 use bundle_check::Checked;
 use client_hooks::Determined;
 use mem_axioms::Memory;
-use mu_values::Slots;
 use step_forms::{AtOnce, CaseRows, Room, Variables, decide_at_once};
 use thread_acts::state::State;
 
@@ -55,8 +54,7 @@ fn run_at_once<M: Memory, C: Determined>(
     state: &mut State<M, C>,
     code: &Checked,
     rows: &mut CaseRows,
-    room: &mut Room,
-    out: &mut Slots,
+    lists: &mut Lists,
 ) -> bool
     requires code { rows.old ≡ code.now }
     requires left { state.old.left ≡ true }
@@ -67,14 +65,14 @@ fn run_at_once<M: Memory, C: Determined>(
     ensures left { result ≡ false → state.new ≡ state.old }
     ensures same { rows.new ≡ rows.old }
 {
-    match asks_at_once(state, code, rows, room) {
+    match asks_at_once(state, code, rows, &mut lists.room) {
         AtOnce::Gives(scalar) => state.give_at_once(code, scalar),
         AtOnce::Goes { block } => {
-            state.go_at_once(block, &mut room.values);
+            state.go_at_once(block, &mut lists.room.values);
             true
         }
-        AtOnce::Calls { function } => state.call_at_once(code, function, room),
-        AtOnce::Returns => state.return_at_once(code, room, out),
+        AtOnce::Calls { function } => state.call_at_once(code, function, &mut lists.room),
+        AtOnce::Returns => state.return_at_once(code, &mut lists.room, &mut lists.out),
         AtOnce::Other => false,
     }
 }
@@ -85,8 +83,7 @@ fn turn_at_once<M: Memory, C: Determined>(
     state: &mut State<M, C>,
     code: &Checked,
     rows: &mut CaseRows,
-    room: &mut Room,
-    out: &mut Slots,
+    lists: &mut Lists,
 ) -> bool
     requires code { rows.old ≡ code.now }
     requires left { state.old.left ≡ true }
@@ -98,7 +95,7 @@ fn turn_at_once<M: Memory, C: Determined>(
 {
     match state.seats.waiting(state.thread) {
         Some(_cell) => false,
-        None => run_at_once(state, code, rows, room, out),
+        None => run_at_once(state, code, rows, lists),
     }
 }
 
@@ -107,8 +104,7 @@ pub(crate) fn step_at_once<M: Memory, C: Determined>(
     state: &mut State<M, C>,
     code: &Checked,
     rows: &mut CaseRows,
-    room: &mut Room,
-    out: &mut Slots,
+    lists: &mut Lists,
 ) -> bool
     requires code { rows.old ≡ code.now }
     requires whole { state.old.skip ≡ 0 }
@@ -123,7 +119,7 @@ pub(crate) fn step_at_once<M: Memory, C: Determined>(
         return false;
     }
     pick_thread(state, many);
-    let made = turn_at_once(state, code, rows, room, out);
+    let made = turn_at_once(state, code, rows, lists);
     settle(state, made);
     made
 }

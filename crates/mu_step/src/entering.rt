@@ -14,21 +14,21 @@ ghost use Rattle.thread_acts.specs.Held.{held_stacks};
 ghost use Rattle.thread_acts.specs.Acting.{answers, acting, with_awaited};
 ghost use Rattle.mu_step.specs.Entering.{entered_by, arrives, frames_at, found, IsPlain, swapped_with, left_dead};
 
-use crate::arriving::{Arrival, Found, arrive, prepare};
-use crate::moving::{copied, hand_back, hand_over, lines_of, log_two, switch, switch_ending};
+use crate::arriving::{Found, Landing, arrive, prepare};
+use crate::moving::{
+    Seat, copied, hand_back, hand_over, lines_of, log_other, log_two, switch, switch_ending,
+};
+use crate::step::Lists;
 use bundle_check::Checked;
 use client_hooks::Determined;
 use mem_axioms::{Event, Kind, Memory};
-use mu_base::Types;
 use mu_model::{Case, Lines, StepEnd};
 use mu_values::{Scalar, Slots};
 use seats::Seats;
 use stacks::Entered;
 use std::alloc::AllocError;
-use std::marker::Brand;
-use std::sync::ledger::Blank;
 use step_forms::{Entering, Room};
-use thread_acts::accessing::{commit_other, line_of};
+use thread_acts::accessing::line_of;
 use thread_acts::objects::end_frames;
 use thread_acts::state::State;
 use thread_acts::waiting::{Wait, exchange_on_top, waiting_for};
@@ -61,13 +61,12 @@ pub(crate) fn swap<M: Memory, C: Determined>(
     code: &Checked,
     stack: Scalar,
     entering: Entering,
-    room: &mut Room,
-    out: &mut Slots,
+    lists: &mut Lists,
 ) -> Result<StepEnd, AllocError>
     requires left { state.old.left ≡ true }
     requires room { state.old.steps < state.old.budget }
-    requires there { acting code.now state.old (acts.Swaps stack room.old.waits.members (entering_of entering room.old.types.members room.old.values.values)) ≢ Stuck }
-    ensures ok { IfOk result (λ end. answers end state.new ≡ acting code.now state.old (acts.Swaps stack room.old.waits.members (entering_of entering room.old.types.members room.old.values.values))) }
+    requires there { acting code.now state.old (acts.Swaps stack lists.old.room.waits.members (entering_of entering lists.old.room.types.members lists.old.room.values.values)) ≢ Stuck }
+    ensures ok { IfOk result (λ end. answers end state.new ≡ acting code.now state.old (acts.Swaps stack lists.old.room.waits.members (entering_of entering lists.old.room.types.members lists.old.room.values.values))) }
     ensures err { OnErr result (state.new ≡ state.old) }
     ensures stays { IfOk result (λ end. Stays end state.old state.new) }
 {
@@ -75,9 +74,22 @@ pub(crate) fn swap<M: Memory, C: Determined>(
     let Some(to) = state.ready_stack(stack) else {
         return Ok(state.undefined(Case::StackNotReady));
     };
-    match look(&state.seats, to, code, entering, room, out)? {
+    match look(
+        &state.seats,
+        to,
+        code,
+        entering,
+        &lists.room,
+        &mut lists.out,
+    )? {
         Found::Refused(case) => Ok(state.undefined(case)),
-        Found::Lands(arrival) => swap_to(state, code, to, arrival, entering, room, out),
+        Found::Lands(arrival) => swap_to(
+            state,
+            code,
+            Landing { stack: to, arrival },
+            entering,
+            lists,
+        ),
     }
 }
 
@@ -85,36 +97,35 @@ pub(crate) fn swap<M: Memory, C: Determined>(
 fn swap_to<M: Memory, C: Determined>(
     state: &mut State<M, C>,
     code: &Checked,
-    to: u32,
-    arrival: Arrival,
+    landing: Landing,
     entering: Entering,
-    room: &mut Room,
-    out: &mut Slots,
+    lists: &mut Lists,
 ) -> Result<StepEnd, AllocError>
     requires left { state.old.left ≡ true }
     requires room { state.old.steps < state.old.budget }
-    requires other { to ≢ state.old.stack }
-    requires ready { IsReady (slice_get state.old.seats.stacks to) }
-    requires lands { entered_by code.now (frames_at (slice_get state.old.seats.stacks to)) (entering_of entering room.old.types.members room.old.values.values) ≡ found (Found.Lands arrival) (frames_at (slice_get state.old.seats.stacks to)) out.old.values }
-    requires there { acting code.now state.old (acts.Swaps (scalars.Stack to) room.old.waits.members (entering_of entering room.old.types.members room.old.values.values)) ≢ Stuck }
-    ensures ok { IfOk result (λ end. answers end state.new ≡ acting code.now state.old (acts.Swaps (scalars.Stack to) room.old.waits.members (entering_of entering room.old.types.members room.old.values.values))) }
+    requires other { landing.stack ≢ state.old.stack }
+    requires ready { IsReady (slice_get state.old.seats.stacks landing.stack) }
+    requires lands { entered_by code.now (frames_at (slice_get state.old.seats.stacks landing.stack)) (entering_of entering lists.old.room.types.members lists.old.room.values.values) ≡ found (Found.Lands landing.arrival) (frames_at (slice_get state.old.seats.stacks landing.stack)) lists.old.out.values }
+    requires there { acting code.now state.old (acts.Swaps (scalars.Stack landing.stack) lists.old.room.waits.members (entering_of entering lists.old.room.types.members lists.old.room.values.values)) ≢ Stuck }
+    ensures ok { IfOk result (λ end. answers end state.new ≡ acting code.now state.old (acts.Swaps (scalars.Stack landing.stack) lists.old.room.waits.members (entering_of entering lists.old.room.types.members lists.old.room.values.values))) }
     ensures err { OnErr result (state.new ≡ state.old) }
     ensures stays { IfOk result (λ end. Stays end state.old state.new) }
 {
-    let waits = copied(state.alloc, &room.waits)?;
-    let again = copied(state.alloc, &room.waits)?;
-    let wait = waiting_for(state.alloc, code, state.frames.top(), again)?;
-    let handing = hand_over(state.alloc, entering, room)?;
+    let waits = copied(state.alloc, &lists.room.waits)?;
+    let wait = waiting_for(state.alloc, code, state.frames.top(), waits)?;
+    let handing = hand_over(state.alloc, entering, &mut lists.room)?;
     let leave = Event {
         thread: state.thread,
         kind: Kind::Leave { stack: state.stack },
     };
     let enter = Event {
         thread: state.thread,
-        kind: Kind::Enter { stack: to },
+        kind: Kind::Enter {
+            stack: landing.stack,
+        },
     };
     let lines = lines_of(state.alloc, state.events, leave, enter)?;
-    move_to(state, lines, to, arrival, wait, waits, handing, room, out)
+    move_to(state, lines, landing, wait, handing, lists)
 }
 
 /// The thread's top frame waits so, and the thread moves to another stack, which goes on so, with the values in the list. What is
@@ -122,24 +133,21 @@ fn swap_to<M: Memory, C: Determined>(
 pub(crate) fn move_to<M: Memory, C: Determined>(
     state: &mut State<M, C>,
     lines: Lines,
-    to: u32,
-    arrival: Arrival,
+    landing: Landing,
     mut wait: Wait,
-    waits: Types,
     handing: Entered,
-    room: &mut Room,
-    out: &mut Slots,
+    lists: &mut Lists,
 ) -> Result<StepEnd, AllocError>
     requires left { state.old.left ≡ true }
     requires room { state.old.steps < state.old.budget }
-    requires other { to ≢ state.old.stack }
-    requires waits { wait.waits ≡ waits.members }
-    requires takes { IsReadyFor (slice_get state.old.seats.stacks to) handing }
-    requires lands { IsSome (arrives arrival (frames_at (slice_get state.old.seats.stacks to)) out.old.values) }
-    ensures ok { IfOk result (λ end. IfSome (arrives arrival (frames_at (slice_get state.old.seats.stacks to)) out.old.values) (λ r. answers end state.new ≡ swapped_with state.old (with_awaited state.old.frames.top wait) to r lines)) }
+    requires other { landing.stack ≢ state.old.stack }
+    requires takes { IsReadyFor (slice_get state.old.seats.stacks landing.stack) handing }
+    requires lands { IsSome (arrives landing.arrival (frames_at (slice_get state.old.seats.stacks landing.stack)) lists.old.out.values) }
+    ensures ok { IfOk result (λ end. IfSome (arrives landing.arrival (frames_at (slice_get state.old.seats.stacks landing.stack)) lists.old.out.values) (λ r. answers end state.new ≡ swapped_with state.old (with_awaited state.old.frames.top wait) landing.stack r lines)) }
     ensures err { OnErr result (state.new ≡ state.old) }
     ensures stays { IfOk result (λ end. Stays end state.old state.new) }
 {
+    let Landing { stack: to, arrival } = landing;
     let leave = Event {
         thread: state.thread,
         kind: Kind::Leave { stack: state.stack },
@@ -148,19 +156,23 @@ pub(crate) fn move_to<M: Memory, C: Determined>(
         thread: state.thread,
         kind: Kind::Enter { stack: to },
     };
+    let seat = Seat {
+        thread: state.thread,
+        stack: state.stack,
+    };
+    let waits = copied(state.alloc, wait.waits())?;
     state.memory.reserve(state.thread, None, 2)?;
     exchange_on_top(&mut state.frames, &mut wait);
     let passed = switch(
         &mut state.seats,
-        state.thread,
-        state.stack,
+        seat,
         &mut state.frames,
         waits,
         to,
         handing,
     );
-    hand_back(passed, room);
-    arrive(&mut state.frames, &mut state.heap, arrival, out);
+    hand_back(passed, &mut lists.room);
+    arrive(&mut state.frames, &mut state.heap, arrival, &mut lists.out);
     log_two(&mut state.memory, leave, enter);
     state.stack = to;
     state.events += 2;
@@ -175,22 +187,34 @@ pub(crate) fn leave_stack<M: Memory, C: Determined>(
     code: &Checked,
     stack: Scalar,
     entering: Entering,
-    room: &mut Room,
-    out: &mut Slots,
+    lists: &mut Lists,
 ) -> Result<StepEnd, AllocError>
     requires left { state.old.left ≡ true }
     requires room { state.old.steps < state.old.budget }
-    requires there { acting code.now state.old (acts.Leaves stack (entering_of entering room.old.types.members room.old.values.values)) ≢ Stuck }
-    ensures ok { IfOk result (λ end. answers end state.new ≡ acting code.now state.old (acts.Leaves stack (entering_of entering room.old.types.members room.old.values.values))) }
+    requires there { acting code.now state.old (acts.Leaves stack (entering_of entering lists.old.room.types.members lists.old.room.values.values)) ≢ Stuck }
+    ensures ok { IfOk result (λ end. answers end state.new ≡ acting code.now state.old (acts.Leaves stack (entering_of entering lists.old.room.types.members lists.old.room.values.values))) }
     ensures err { OnErr result (state.new ≡ state.old) }
     ensures stays { IfOk result (λ end. Stays end state.old state.new) }
 {
     let Some(to) = state.ready_stack(stack) else {
         return Ok(state.undefined(Case::StackNotReady));
     };
-    match look(&state.seats, to, code, entering, room, out)? {
+    match look(
+        &state.seats,
+        to,
+        code,
+        entering,
+        &lists.room,
+        &mut lists.out,
+    )? {
         Found::Refused(case) => Ok(state.undefined(case)),
-        Found::Lands(arrival) => leave_for(state, code, to, arrival, entering, room, out),
+        Found::Lands(arrival) => leave_for(
+            state,
+            code,
+            Landing { stack: to, arrival },
+            entering,
+            lists,
+        ),
     }
 }
 
@@ -198,63 +222,57 @@ pub(crate) fn leave_stack<M: Memory, C: Determined>(
 fn leave_for<M: Memory, C: Determined>(
     state: &mut State<M, C>,
     code: &Checked,
-    to: u32,
-    arrival: Arrival,
+    landing: Landing,
     entering: Entering,
-    room: &mut Room,
-    out: &mut Slots,
+    lists: &mut Lists,
 ) -> Result<StepEnd, AllocError>
     requires left { state.old.left ≡ true }
     requires room { state.old.steps < state.old.budget }
-    requires other { to ≢ state.old.stack }
-    requires ready { IsReady (slice_get state.old.seats.stacks to) }
-    requires lands { entered_by code.now (frames_at (slice_get state.old.seats.stacks to)) (entering_of entering room.old.types.members room.old.values.values) ≡ found (Found.Lands arrival) (frames_at (slice_get state.old.seats.stacks to)) out.old.values }
-    requires there { acting code.now state.old (acts.Leaves (scalars.Stack to) (entering_of entering room.old.types.members room.old.values.values)) ≢ Stuck }
-    ensures ok { IfOk result (λ end. answers end state.new ≡ acting code.now state.old (acts.Leaves (scalars.Stack to) (entering_of entering room.old.types.members room.old.values.values))) }
+    requires other { landing.stack ≢ state.old.stack }
+    requires ready { IsReady (slice_get state.old.seats.stacks landing.stack) }
+    requires lands { entered_by code.now (frames_at (slice_get state.old.seats.stacks landing.stack)) (entering_of entering lists.old.room.types.members lists.old.room.values.values) ≡ found (Found.Lands landing.arrival) (frames_at (slice_get state.old.seats.stacks landing.stack)) lists.old.out.values }
+    requires there { acting code.now state.old (acts.Leaves (scalars.Stack landing.stack) (entering_of entering lists.old.room.types.members lists.old.room.values.values)) ≢ Stuck }
+    ensures ok { IfOk result (λ end. answers end state.new ≡ acting code.now state.old (acts.Leaves (scalars.Stack landing.stack) (entering_of entering lists.old.room.types.members lists.old.room.values.values))) }
     ensures err { OnErr result (state.new ≡ state.old) }
     ensures stays { IfOk result (λ end. Stays end state.old state.new) }
 {
-    let handing = hand_over(state.alloc, entering, room)?;
-    die_to(state, to, arrival, handing, room, out)
+    let handing = hand_over(state.alloc, entering, &mut lists.room)?;
+    die_to(state, landing, handing, lists)
 }
 
 /// The thread's stack dies, and the thread moves to another one, which goes on so, with the values in the list. What is handed to
 /// that comes back to the room.
 fn die_to<M: Memory, C: Determined>(
     state: &mut State<M, C>,
-    to: u32,
-    arrival: Arrival,
+    landing: Landing,
     handing: Entered,
-    room: &mut Room,
-    out: &mut Slots,
+    lists: &mut Lists,
 ) -> Result<StepEnd, AllocError>
     requires left { state.old.left ≡ true }
     requires room { state.old.steps < state.old.budget }
-    requires other { to ≢ state.old.stack }
-    requires takes { IsReadyFor (slice_get state.old.seats.stacks to) handing }
-    requires lands { IsSome (arrives arrival (frames_at (slice_get state.old.seats.stacks to)) out.old.values) }
-    ensures ok { IfOk result (λ end. IfSome (arrives arrival (frames_at (slice_get state.old.seats.stacks to)) out.old.values) (λ r. answers end state.new ≡ left_dead state.old to r)) }
+    requires other { landing.stack ≢ state.old.stack }
+    requires takes { IsReadyFor (slice_get state.old.seats.stacks landing.stack) handing }
+    requires lands { IsSome (arrives landing.arrival (frames_at (slice_get state.old.seats.stacks landing.stack)) lists.old.out.values) }
+    ensures ok { IfOk result (λ end. IfSome (arrives landing.arrival (frames_at (slice_get state.old.seats.stacks landing.stack)) lists.old.out.values) (λ r. answers end state.new ≡ left_dead state.old landing.stack r)) }
     ensures err { OnErr result (state.new ≡ state.old) }
     ensures stays { IfOk result (λ end. Stays end state.old state.new) }
 {
+    let Landing { stack: to, arrival } = landing;
     let enter = Event {
         thread: state.thread,
         kind: Kind::Enter { stack: to },
     };
+    let seat = Seat {
+        thread: state.thread,
+        stack: state.stack,
+    };
     let lines = line_of(state.alloc, state.events, enter)?;
     state.memory.reserve(state.thread, None, 1)?;
-    let (ended, passed) = switch_ending(
-        &mut state.seats,
-        state.thread,
-        state.stack,
-        &mut state.frames,
-        to,
-        handing,
-    );
-    hand_back(passed, room);
+    let (ended, passed) = switch_ending(&mut state.seats, seat, &mut state.frames, to, handing);
+    hand_back(passed, &mut lists.room);
     end_frames(&ended, &mut state.heap);
-    arrive(&mut state.frames, &mut state.heap, arrival, out);
-    commit_other::<M, Brand>(&mut state.memory, enter, Blank::new(1));
+    arrive(&mut state.frames, &mut state.heap, arrival, &mut lists.out);
+    log_other(&mut state.memory, enter);
     state.stack = to;
     state.events += 1;
     state.steps += 1;

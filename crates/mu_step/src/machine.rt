@@ -10,17 +10,16 @@ ghost use Rattle.mu_step.specs.Running.{gives_ending, without_lines};
 ghost use Rattle.thread_acts.specs.Outcome.{outcome_of, Stays};
 
 use crate::at_once::step_at_once;
-use crate::step::step;
+use crate::step::{Lists, step};
 use bundle_check::Checked;
 use client_hooks::Determined;
 use mem_axioms::Memory;
 use model_numbers::programs_are_same;
 use mu_model::{Ending, Lines, StepEnd};
 use mu_threads::Schedule;
-use mu_values::Slots;
 use std::alloc::{AllocError, Global};
 use std::marker::Model;
-use step_forms::{CaseRows, Room};
+use step_forms::CaseRows;
 use thread_acts::state::State;
 use typed_heap::Heap;
 
@@ -31,9 +30,7 @@ pub struct Machine<'a, M: Memory, C: Determined> {
     code: &'a Checked,
     state: State<M, C>,
     rows: CaseRows<'a>,
-    // What these hold between steps means nothing.
-    room: Room,
-    spare: Slots,
+    lists: Lists,
     ended: bool,
 }
 
@@ -79,8 +76,7 @@ impl<'a, M: Memory + Drop, C: Determined + Drop> Machine<'a, M, C> {
             code,
             state,
             rows: CaseRows::new(alloc, code),
-            room: Room::new(alloc),
-            spare: Slots::new(alloc),
+            lists: Lists::new(alloc),
             ended: false,
         })
     }
@@ -100,13 +96,7 @@ impl<'a, M: Memory + Drop, C: Determined + Drop> Machine<'a, M, C> {
         let _items = self.code.items();
         programs_are_same();
         let code = self.code;
-        step_at_once(
-            &mut self.state,
-            code,
-            &mut self.rows,
-            &mut self.room,
-            &mut self.spare,
-        )
+        step_at_once(&mut self.state, code, &mut self.rows, &mut self.lists)
     }
 
     /// Tells the ending: the first time with the lines of its step, and then with none.
@@ -138,7 +128,7 @@ impl<'a, M: Memory + Drop, C: Determined + Drop> Machine<'a, M, C> {
         let _items = self.code.items();
         programs_are_same();
         let code = self.code;
-        let made = step(&mut self.state, code, &mut self.room, &mut self.spare);
+        let made = step(&mut self.state, code, &mut self.lists);
         match made {
             Ok(StepEnd::Went(lines)) => Ok(StepEnd::Went(lines)),
             Ok(StepEnd::Ended(lines, ending)) => Ok(self.end(lines, ending)),

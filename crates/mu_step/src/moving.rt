@@ -1,5 +1,5 @@
 // A thread that moves from its stack to another one.
-ghost use Rattle.std.specs.Prelude.{◌≡◌, ◌≢◌, ◌+◌, ◌<◌, ◌∷◌, [], Some, IfOk, length, slice_get, false};
+ghost use Rattle.std.specs.Prelude.{◌≡◌, ◌≢◌, ◌+◌, ◌-◌, ◌<◌, ◌∷◌, [], Some, IfOk, length, slice_get, false};
 ghost use Rattle.frames.specs.Chains.{frames_of};
 ghost use Rattle.mem_axioms.specs.EventFits.{EventFits};
 ghost use Rattle.mem_axioms.specs.Lemmas.Kept.{is_any_access};
@@ -23,6 +23,13 @@ use std::sync::ledger::Blank;
 use step_forms::{Entering, Room};
 use thread_acts::accessing::commit_other;
 use thread_acts::results::taken;
+
+/// A thread, and the stack that it is on.
+#[derive(Clone, Copy, Debug, PartialEq, Eq)]
+pub(crate) struct Seat {
+    pub(crate) thread: u32,
+    pub(crate) stack: u32,
+}
 
 /// The same classes.
 pub(crate) fn copied(alloc: Global, types: &Types) -> Result<Types, AllocError>
@@ -86,25 +93,24 @@ pub(crate) fn hand_back(passed: Entered, room: &mut Room) {
 #[tactic(auto, using(crate::specs::EnteringLaws::moving))]
 pub(crate) fn switch(
     seats: &mut Seats,
-    thread: u32,
-    stack: u32,
+    seat: Seat,
     frames: &mut Frames,
     waits: Types,
     to: u32,
     with_: Entered,
 ) -> Entered
-    requires on { IsOn seats.old thread stack }
-    requires within { stack < length seats.old.stacks }
-    requires other { to ≢ stack }
+    requires on { IsOn seats.old seat.thread seat.stack }
+    requires within { seat.stack < length seats.old.stacks }
+    requires other { to ≢ seat.stack }
     requires waits { frames.old.top.waits ≡ waits.members }
     requires takes { IsReadyFor (slice_get seats.old.stacks to) with_ }
     ensures passed { result ≡ with_ }
     ensures frames { slice_get seats.old.stacks to ≡ Some (Ready (frames_of frames.new)) }
-    ensures moved { IsMoved seats.old seats.new thread stack to (Ready (frames_of frames.old)) }
+    ensures moved { IsMoved seats.old seats.new seat.thread seat.stack to (Ready (frames_of frames.old)) }
 {
-    seats.exchange(thread, stack, frames);
-    let passed = seats.leave_to(thread, stack, waits, to, with_);
-    seats.exchange(thread, to, frames);
+    seats.exchange(seat.thread, seat.stack, frames);
+    let passed = seats.leave_to(seat.thread, seat.stack, waits, to, with_);
+    seats.exchange(seat.thread, to, frames);
     passed
 }
 
@@ -113,24 +119,23 @@ pub(crate) fn switch(
 #[tactic(auto, using(crate::specs::EnteringLaws::moving))]
 pub(crate) fn switch_ending(
     seats: &mut Seats,
-    thread: u32,
-    stack: u32,
+    seat: Seat,
     frames: &mut Frames,
     to: u32,
     with_: Entered,
 ) -> (Frames, Entered)
-    requires on { IsOn seats.old thread stack }
-    requires within { stack < length seats.old.stacks }
-    requires other { to ≢ stack }
+    requires on { IsOn seats.old seat.thread seat.stack }
+    requires within { seat.stack < length seats.old.stacks }
+    requires other { to ≢ seat.stack }
     requires takes { IsReadyFor (slice_get seats.old.stacks to) with_ }
     ensures ended { frames_of result.0 ≡ frames_of frames.old }
     ensures passed { result.1 ≡ with_ }
     ensures frames { slice_get seats.old.stacks to ≡ Some (Ready (frames_of frames.new)) }
-    ensures moved { IsMoved seats.old seats.new thread stack to Dead }
+    ensures moved { IsMoved seats.old seats.new seat.thread seat.stack to Dead }
 {
-    seats.exchange(thread, stack, frames);
-    let (ended, passed) = seats.end_to(thread, stack, to, with_);
-    seats.exchange(thread, to, frames);
+    seats.exchange(seat.thread, seat.stack, frames);
+    let (ended, passed) = seats.end_to(seat.thread, seat.stack, to, with_);
+    seats.exchange(seat.thread, to, frames);
     (ended, passed)
 }
 
@@ -139,30 +144,42 @@ pub(crate) fn switch_ending(
 #[tactic(auto, using(crate::specs::EnteringLaws::moving))]
 pub(crate) fn switch_starting(
     seats: &mut Seats,
-    thread: u32,
-    stack: u32,
+    seat: Seat,
     frames: &mut Frames,
-    number: u32,
     own: Scalar,
     to: u32,
     with_: Entered,
 ) -> Entered
-    requires on { IsOn seats.old thread stack }
-    requires number { number ≡ length seats.old.threads }
+    requires on { IsOn seats.old seat.thread seat.stack }
     requires few { length seats.old.threads < 64 }
-    requires other { to ≢ stack }
+    requires other { to ≢ seat.stack }
     requires takes { IsReadyFor (slice_get seats.old.stacks to) with_ }
     ensures passed { result ≡ with_ }
     ensures frames { slice_get seats.old.stacks to ≡ Some (Ready (frames_of frames.new)) }
-    ensures started { IsStarted seats.old seats.new stack to own (Active thread (frames_of frames.old)) }
+    ensures started { IsStarted seats.old seats.new seat.stack to own (Active seat.thread (frames_of frames.old)) }
 {
-    seats.exchange(thread, stack, frames);
+    let number = seats.made();
+    seats.exchange(seat.thread, seat.stack, frames);
     let passed = seats.start(to, own, with_);
     seats.exchange(number, to, frames);
     passed
 }
 
-/// A memory gets two events that are no accesses.
+/// A memory gets an event that is no access.
+pub(crate) fn log_other<M: Memory>(memory: &mut M, event: Event)
+    requires other { is_any_access event ≡ false }
+    requires fits { EventFits (M.rule memory.old) (M.objects memory.old) (M.log memory.old) event }
+    requires room { 0 < (M.room memory.old).events }
+    requires count { length (M.log memory.old) + 1 < 4294967295 }
+    ensures added { M.log memory.new ≡ event ∷ M.log memory.old }
+    ensures left { (M.room memory.new).events ≡ (M.room memory.old).events - 1 }
+    ensures same_objects { M.objects memory.new ≡ M.objects memory.old }
+    ensures same_rule { M.rule memory.new ≡ M.rule memory.old }
+{
+    commit_other::<M, Brand>(memory, event, Blank::new(1));
+}
+
+/// The same of two events.
 pub(crate) fn log_two<M: Memory>(memory: &mut M, first: Event, second: Event)
     requires first { is_any_access first ≡ false }
     requires second { is_any_access second ≡ false }
@@ -174,6 +191,6 @@ pub(crate) fn log_two<M: Memory>(memory: &mut M, first: Event, second: Event)
     ensures same_objects { M.objects memory.new ≡ M.objects memory.old }
     ensures same_rule { M.rule memory.new ≡ M.rule memory.old }
 {
-    commit_other::<M, Brand>(memory, first, Blank::new(1));
-    commit_other::<M, Brand>(memory, second, Blank::new(1));
+    log_other(memory, first);
+    log_other(memory, second);
 }

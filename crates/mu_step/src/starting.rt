@@ -10,9 +10,10 @@ ghost use Rattle.thread_acts.specs.Outcome.{Stays};
 ghost use Rattle.thread_acts.specs.Acting.{answers, acting};
 ghost use Rattle.mu_step.specs.Entering.{entered_by, arrives, frames_at, found, begins};
 
-use crate::arriving::{Arrival, Found, arrive};
+use crate::arriving::{Found, Landing, arrive};
 use crate::entering::look;
-use crate::moving::{hand_back, hand_over, lines_of, log_two, switch_starting};
+use crate::moving::{Seat, hand_back, hand_over, lines_of, log_two, switch_starting};
+use crate::step::Lists;
 use bundle_check::Checked;
 use client_hooks::Determined;
 use mem_axioms::{Event, Kind, Memory};
@@ -20,7 +21,7 @@ use mu_model::{Case, Ending, StepEnd};
 use mu_values::{Scalar, Slots};
 use stacks::Entered;
 use std::alloc::{AllocError, Global};
-use step_forms::{Entering, Room};
+use step_forms::Entering;
 use thread_acts::flow::{Place, passing, stand};
 use thread_acts::state::State;
 
@@ -41,21 +42,20 @@ pub(crate) fn start_thread<M: Memory, C: Determined>(
     stack: Scalar,
     own: Scalar,
     entering: Entering,
-    room: &mut Room,
-    out: &mut Slots,
+    lists: &mut Lists,
 ) -> Result<StepEnd, AllocError>
     requires left { state.old.left ≡ true }
     requires room { state.old.steps < state.old.budget }
-    requires there { acting code.now state.old (acts.Starts stack own (entering_of entering room.old.types.members room.old.values.values)) ≢ Stuck }
-    ensures ok { IfOk result (λ end. answers end state.new ≡ acting code.now state.old (acts.Starts stack own (entering_of entering room.old.types.members room.old.values.values))) }
+    requires there { acting code.now state.old (acts.Starts stack own (entering_of entering lists.old.room.types.members lists.old.room.values.values)) ≢ Stuck }
+    ensures ok { IfOk result (λ end. answers end state.new ≡ acting code.now state.old (acts.Starts stack own (entering_of entering lists.old.room.types.members lists.old.room.values.values))) }
     ensures err { OnErr result (state.new ≡ state.old) }
     ensures stays { IfOk result (λ end. Stays end state.old state.new) }
 {
     if !state.seats.has_room() {
         let thread = state.thread;
-        return state.fault(code, Ending::ThreadsFull { thread }, out);
+        return state.fault(code, Ending::ThreadsFull { thread }, &mut lists.out);
     }
-    start_one(state, code, stack, own, entering, room, out)
+    start_one(state, code, stack, own, entering, lists)
 }
 
 /// The same, where there is room for one more.
@@ -66,83 +66,83 @@ fn start_one<M: Memory, C: Determined>(
     stack: Scalar,
     own: Scalar,
     entering: Entering,
-    room: &mut Room,
-    out: &mut Slots,
+    lists: &mut Lists,
 ) -> Result<StepEnd, AllocError>
     requires left { state.old.left ≡ true }
     requires room { state.old.steps < state.old.budget }
     requires few { nat_lt (length state.old.seats.threads) 64 ≡ true }
-    requires there { acting code.now state.old (acts.Starts stack own (entering_of entering room.old.types.members room.old.values.values)) ≢ Stuck }
-    ensures ok { IfOk result (λ end. answers end state.new ≡ acting code.now state.old (acts.Starts stack own (entering_of entering room.old.types.members room.old.values.values))) }
+    requires there { acting code.now state.old (acts.Starts stack own (entering_of entering lists.old.room.types.members lists.old.room.values.values)) ≢ Stuck }
+    ensures ok { IfOk result (λ end. answers end state.new ≡ acting code.now state.old (acts.Starts stack own (entering_of entering lists.old.room.types.members lists.old.room.values.values))) }
     ensures err { OnErr result (state.new ≡ state.old) }
     ensures stays { IfOk result (λ end. Stays end state.old state.new) }
 {
     let Some(to) = state.ready_stack(stack) else {
         return Ok(state.undefined(Case::StackNotReady));
     };
-    match look(&state.seats, to, code, entering, room, out)? {
+    match look(
+        &state.seats,
+        to,
+        code,
+        entering,
+        &lists.room,
+        &mut lists.out,
+    )? {
         Found::Refused(case) => Ok(state.undefined(case)),
         Found::Lands(arrival) => {
-            let number = state.seats.made();
-            start_on(state, code, number, to, own, arrival, entering, room, out)
+            let landing = Landing { stack: to, arrival };
+            start_on(state, code, landing, own, entering, lists)
         }
     }
 }
 
-/// The thread starts the next one, which has that number, on another stack that is ready and goes on so, with the values in the
-/// list.
+/// The thread starts the next one on another stack that is ready and goes on so, with the values in the list.
 pub(crate) fn start_on<M: Memory, C: Determined>(
     state: &mut State<M, C>,
     code: &Checked,
-    number: u32,
-    to: u32,
+    landing: Landing,
     own: Scalar,
-    arrival: Arrival,
     entering: Entering,
-    room: &mut Room,
-    out: &mut Slots,
+    lists: &mut Lists,
 ) -> Result<StepEnd, AllocError>
     requires left { state.old.left ≡ true }
     requires room { state.old.steps < state.old.budget }
-    requires number { number ≡ length state.old.seats.threads }
     requires few { length state.old.seats.threads < 64 }
-    requires other { to ≢ state.old.stack }
-    requires ready { IsReady (slice_get state.old.seats.stacks to) }
-    requires lands { entered_by code.now (frames_at (slice_get state.old.seats.stacks to)) (entering_of entering room.old.types.members room.old.values.values) ≡ found (Found.Lands arrival) (frames_at (slice_get state.old.seats.stacks to)) out.old.values }
-    requires there { acting code.now state.old (acts.Starts (scalars.Stack to) own (entering_of entering room.old.types.members room.old.values.values)) ≢ Stuck }
-    ensures ok { IfOk result (λ end. answers end state.new ≡ acting code.now state.old (acts.Starts (scalars.Stack to) own (entering_of entering room.old.types.members room.old.values.values))) }
+    requires other { landing.stack ≢ state.old.stack }
+    requires ready { IsReady (slice_get state.old.seats.stacks landing.stack) }
+    requires lands { entered_by code.now (frames_at (slice_get state.old.seats.stacks landing.stack)) (entering_of entering lists.old.room.types.members lists.old.room.values.values) ≡ found (Found.Lands landing.arrival) (frames_at (slice_get state.old.seats.stacks landing.stack)) lists.old.out.values }
+    requires there { acting code.now state.old (acts.Starts (scalars.Stack landing.stack) own (entering_of entering lists.old.room.types.members lists.old.room.values.values)) ≢ Stuck }
+    ensures ok { IfOk result (λ end. answers end state.new ≡ acting code.now state.old (acts.Starts (scalars.Stack landing.stack) own (entering_of entering lists.old.room.types.members lists.old.room.values.values))) }
     ensures err { OnErr result (state.new ≡ state.old) }
     ensures stays { IfOk result (λ end. Stays end state.old state.new) }
 {
-    let handing = hand_over(state.alloc, entering, room)?;
+    let handing = hand_over(state.alloc, entering, &mut lists.room)?;
+    let number = state.seats.made();
     let results = one(state.alloc, Scalar::Thread(number))?;
-    let place = passing(code, state.frames.top(), &results, &mut room.others)?;
-    begin(state, number, to, own, arrival, place, handing, room, out)
+    let place = passing(code, state.frames.top(), &results, &mut lists.room.others)?;
+    begin(state, landing, own, place, handing, lists)
 }
 
 /// The same, where the thread goes on at that place, with the values of the room's second list.
 fn begin<M: Memory, C: Determined>(
     state: &mut State<M, C>,
-    number: u32,
-    to: u32,
+    landing: Landing,
     own: Scalar,
-    arrival: Arrival,
     place: Place,
     handing: Entered,
-    room: &mut Room,
-    out: &mut Slots,
+    lists: &mut Lists,
 ) -> Result<StepEnd, AllocError>
     requires left { state.old.left ≡ true }
     requires room { state.old.steps < state.old.budget }
-    requires number { number ≡ length state.old.seats.threads }
     requires few { length state.old.seats.threads < 64 }
-    requires other { to ≢ state.old.stack }
-    requires takes { IsReadyFor (slice_get state.old.seats.stacks to) handing }
-    requires lands { IsSome (arrives arrival (frames_at (slice_get state.old.seats.stacks to)) out.old.values) }
-    ensures ok { IfOk result (λ end. IfSome (arrives arrival (frames_at (slice_get state.old.seats.stacks to)) out.old.values) (λ r. answers end state.new ≡ begins state.old own to r (stands state.old.frames.top place.block place.at room.old.others.values))) }
+    requires other { landing.stack ≢ state.old.stack }
+    requires takes { IsReadyFor (slice_get state.old.seats.stacks landing.stack) handing }
+    requires lands { IsSome (arrives landing.arrival (frames_at (slice_get state.old.seats.stacks landing.stack)) lists.old.out.values) }
+    ensures ok { IfOk result (λ end. IfSome (arrives landing.arrival (frames_at (slice_get state.old.seats.stacks landing.stack)) lists.old.out.values) (λ r. answers end state.new ≡ begins state.old own landing.stack r (stands state.old.frames.top place.block place.at lists.old.room.others.values))) }
     ensures err { OnErr result (state.new ≡ state.old) }
     ensures stays { IfOk result (λ end. Stays end state.old state.new) }
 {
+    let Landing { stack: to, arrival } = landing;
+    let number = state.seats.made();
     let made = Event {
         thread: state.thread,
         kind: Kind::NewThread { child: number },
@@ -151,21 +151,16 @@ fn begin<M: Memory, C: Determined>(
         thread: number,
         kind: Kind::Enter { stack: to },
     };
+    let seat = Seat {
+        thread: state.thread,
+        stack: state.stack,
+    };
     let lines = lines_of(state.alloc, state.events, made, enter)?;
     state.memory.reserve(state.thread, None, 2)?;
-    stand(&mut state.frames, place, &mut room.others);
-    let passed = switch_starting(
-        &mut state.seats,
-        state.thread,
-        state.stack,
-        &mut state.frames,
-        number,
-        own,
-        to,
-        handing,
-    );
-    hand_back(passed, room);
-    arrive(&mut state.frames, &mut state.heap, arrival, out);
+    stand(&mut state.frames, place, &mut lists.room.others);
+    let passed = switch_starting(&mut state.seats, seat, &mut state.frames, own, to, handing);
+    hand_back(passed, &mut lists.room);
+    arrive(&mut state.frames, &mut state.heap, arrival, &mut lists.out);
     log_two(&mut state.memory, made, enter);
     state.thread = number;
     state.stack = to;

@@ -18,9 +18,28 @@ use client_hooks::Determined;
 use mem_axioms::Memory;
 use mu_model::{Ending, StepEnd};
 use mu_values::Slots;
-use std::alloc::AllocError;
+use std::alloc::{AllocError, Global};
 use step_forms::Room;
 use thread_acts::state::{State, ended};
+
+/// The lists that a step works in. What they hold between steps means nothing.
+#[derive(Drop)]
+pub(crate) struct Lists {
+    /// Operands, and what is handed on of them.
+    pub(crate) room: Room,
+    /// What the variables of a frame become that goes on elsewhere.
+    pub(crate) out: Slots,
+}
+
+impl Lists {
+    /// Empty lists. They take no memory yet.
+    pub(crate) fn new(alloc: Global) -> Lists {
+        Lists {
+            room: Room::new(alloc),
+            out: Slots::new(alloc),
+        }
+    }
+}
 
 /// Whether the step was made, and gave no ending.
 fn is_made(end: &Result<StepEnd, AllocError>) -> bool
@@ -109,8 +128,7 @@ fn none_runs<M: Memory, C: Determined>(state: &State<M, C>) -> Result<StepEnd, A
 fn turn<M: Memory, C: Determined>(
     state: &mut State<M, C>,
     code: &Checked,
-    room: &mut Room,
-    out: &mut Slots,
+    lists: &mut Lists,
 ) -> Result<StepEnd, AllocError>
     requires left { state.old.left ≡ true }
     requires room { state.old.steps < state.old.budget }
@@ -120,8 +138,8 @@ fn turn<M: Memory, C: Determined>(
     ensures stays { IfOk result (λ end. Stays end state.old state.new) }
 {
     match state.seats.waiting(state.thread) {
-        Some(cell) => state.time_out(code, cell, &mut room.values, out),
-        None => run(state, code, room, out),
+        Some(cell) => state.time_out(code, cell, &mut lists.room.values, &mut lists.out),
+        None => run(state, code, lists),
     }
 }
 
@@ -130,8 +148,7 @@ fn make_step<M: Memory, C: Determined>(
     state: &mut State<M, C>,
     code: &Checked,
     many: u32,
-    room: &mut Room,
-    out: &mut Slots,
+    lists: &mut Lists,
 ) -> Result<StepEnd, AllocError>
     requires many { many ≡ length (runnable_of state.old.seats) }
     requires some { 0 < many }
@@ -144,7 +161,7 @@ fn make_step<M: Memory, C: Determined>(
     ensures whole { state.new.skip ≡ 0 }
 {
     pick_thread(state, many);
-    let end = turn(state, code, room, out);
+    let end = turn(state, code, lists);
     settle(state, is_made(&end));
     end
 }
@@ -154,8 +171,7 @@ fn make_step<M: Memory, C: Determined>(
 pub(crate) fn step<M: Memory, C: Determined>(
     state: &mut State<M, C>,
     code: &Checked,
-    room: &mut Room,
-    out: &mut Slots,
+    lists: &mut Lists,
 ) -> Result<StepEnd, AllocError>
     requires whole { state.old.skip ≡ 0 }
     requires there { told code.now state.old.client (step (numbered code.now) (configuration state.old)) ≢ Stuck }
@@ -170,7 +186,7 @@ pub(crate) fn step<M: Memory, C: Determined>(
     }
     let steps = state.steps;
     if steps < state.budget {
-        return make_step(state, code, many, room, out);
+        return make_step(state, code, many, lists);
     }
     Ok(ended(state.alloc, Ending::Budget { steps }))
 }

@@ -24,38 +24,30 @@ ghost use Rattle.thread_acts.specs.Outcome.{Stays};
 ghost use Rattle.thread_acts.specs.Acting.{answers, acting, told, trapping, undefined_at};
 ghost use Rattle.thread_acts.specs.Making.{graph_of};
 ghost use Rattle.mu_step.specs.Entering.{entered_by, arrives, frames_at, found, IsPlain};
-ghost use Rattle.mu_step.specs.Trapping.{waiting_frames, seen, note_of, replying, past, entering_then};
+ghost use Rattle.mu_step.specs.Trapping.{waiting_frames, seen, note_of, replying, past, entering_then, change_by};
 
-use crate::arriving::{Arrival, Found, arrive, prepare};
+use crate::arriving::{Arrival, Found, Landing, arrive, prepare};
 use crate::entering::{look, move_to};
-use crate::moving::{copied, hand_over, log_two};
+use crate::moving::{copied, hand_over, log_other, log_two};
+use crate::step::Lists;
 use bundle_check::Checked;
 use client_hooks::{ClassedValue, Determined, End, Notes, Plan, TrapView, With};
 use mem_axioms::{Event, Kind, Memory};
 use mu_model::{Case, Ending, Line, Lines, Note, StepEnd};
 use mu_values::{Scalar, Slots};
 use std::alloc::AllocError;
-use std::marker::{Brand, Model};
-use std::sync::ledger::Blank;
 use step_forms::{Entering, Room};
-use thread_acts::accessing::commit_other;
 use thread_acts::state::State;
 use thread_acts::waiting::{Wait, exchange_on_top, waiting_for};
 use trap_answers::{Watched, ask, bring, target, trap_lines};
 
-/// What an answer changes before its reply: the watchpoints that are enabled, and the lines of the step so far.
+/// A trap whose answer is taken: how the thread's top frame waits, which watchpoints are enabled from then on, and the lines of the
+/// step so far.
 #[derive(Drop)]
-struct Change {
+struct Trapped {
+    wait: Wait,
     watched: Watched,
     lines: Lines,
-}
-
-impl Model for Change {
-    ghost use Rattle.mu_step.specs.Trapping as seen;
-
-    ghost Value = { seen.Change };
-
-    ghost view = { λ x. record { watched = x.watched; lines = x.lines } };
 }
 
 /// Whether a scalar is a reference to the stack with that number.
@@ -92,27 +84,26 @@ pub(crate) fn trap<M: Memory, C: Determined>(
     state: &mut State<M, C>,
     code: &Checked,
     watchpoint: Option<u32>,
-    room: &mut Room,
-    out: &mut Slots,
+    lists: &mut Lists,
 ) -> Result<StepEnd, AllocError>
     requires left { state.old.left ≡ true }
     requires room { state.old.steps < state.old.budget }
     requires narrow { AreNarrow (graph_of code.now) }
-    requires classes { All (λ c. c < length (graph_of code.now)) room.old.waits.members }
-    requires there { told code.now state.old.client (trapping code.now state.old watchpoint room.old.waits.members) ≢ Stuck }
-    ensures ok { IfOk result (λ end. answers end state.new ≡ told code.now state.old.client (trapping code.now state.old watchpoint room.old.waits.members)) }
+    requires classes { All (λ c. c < length (graph_of code.now)) lists.old.room.waits.members }
+    requires there { told code.now state.old.client (trapping code.now state.old watchpoint lists.old.room.waits.members) ≢ Stuck }
+    ensures ok { IfOk result (λ end. answers end state.new ≡ told code.now state.old.client (trapping code.now state.old watchpoint lists.old.room.waits.members)) }
     ensures err { OnErr result (state.new ≡ state.old) }
     ensures stays { IfOk result (λ end. Stays end state.old state.new) }
 {
     let _items = code.items();
-    let asked = copied(state.alloc, &room.waits)?;
-    let awaited = copied(state.alloc, &room.waits)?;
+    let asked = copied(state.alloc, &lists.room.waits)?;
+    let awaited = copied(state.alloc, &lists.room.waits)?;
     let mut wait = waiting_for(state.alloc, code, state.frames.top(), awaited)?;
     let view = TrapView::new(state.alloc, code.tables(), state.thread, watchpoint, asked)?;
     let note = trap_note(state, watchpoint);
     match consult(state, &view, &mut wait)? {
         None => misuse(state, note),
-        Some(plan) => take(state, code, plan, note, wait, room, out),
+        Some(plan) => take(state, code, plan, note, wait, lists),
     }
 }
 
@@ -177,8 +168,7 @@ fn take<M: Memory, C: Determined>(
     plan: Plan,
     note: Note,
     wait: Wait,
-    room: &mut Room,
-    out: &mut Slots,
+    lists: &mut Lists,
 ) -> Result<StepEnd, AllocError>
     requires left { state.old.left ≡ true }
     requires room { state.old.steps < state.old.budget }
@@ -196,17 +186,16 @@ fn take<M: Memory, C: Determined>(
         thread: state.thread,
         kind: Kind::Leave { stack: state.stack },
     };
-    let change = Change {
+    let trapped = Trapped {
+        wait,
         watched: state.watched.after(state.alloc, &watches)?,
         lines: trap_lines(state.alloc, state.events, leave, note, notes)?,
     };
     match end {
-        End::Stop => Ok(StepEnd::Ended(change.lines, Ending::Stop)),
-        End::Exit => exit_ready(state, code, wait, change),
-        End::Resume(with) => resume(state, code, with, wait, change, room, out),
-        End::Rebind { target, with } => {
-            rebind(state, code, target, with, wait, change, room, out)
-        }
+        End::Stop => Ok(StepEnd::Ended(trapped.lines, Ending::Stop)),
+        End::Exit => exit_ready(state, code, trapped),
+        End::Resume(with) => resume(state, code, with, trapped, lists),
+        End::Rebind { target, with } => rebind(state, code, target, with, trapped, lists),
     }
 }
 
@@ -214,31 +203,30 @@ fn take<M: Memory, C: Determined>(
 fn exit_ready<M: Memory, C: Determined>(
     state: &mut State<M, C>,
     code: &Checked,
-    mut wait: Wait,
-    change: Change,
+    mut trapped: Trapped,
 ) -> Result<StepEnd, AllocError>
     requires left { state.old.left ≡ true }
     requires room { state.old.steps < state.old.budget }
-    requires there { replying code.now state.old wait change clients.Exit ≢ Stuck }
-    ensures ok { IfOk result (λ end. answers end state.new ≡ past state.old (replying code.now state.old wait change clients.Exit)) }
+    requires there { replying code.now state.old trapped.wait (change_by trapped) clients.Exit ≢ Stuck }
+    ensures ok { IfOk result (λ end. answers end state.new ≡ past state.old (replying code.now state.old trapped.wait (change_by trapped) clients.Exit)) }
     ensures err { OnErr result (state.new ≡ state.old) }
     ensures stays { IfOk result (λ end. Stays end state.old state.new) }
 {
     let thread = state.thread;
-    let waits = copied(state.alloc, wait.waits())?;
-    let mut lines = change.lines;
+    let waits = copied(state.alloc, trapped.wait.waits())?;
+    let mut lines = trapped.lines;
     lines.push(Line::Note(Note::Exited { thread }))?;
     state.memory.reserve(thread, None, 1)?;
     let leave = Event {
         thread: state.thread,
         kind: Kind::Leave { stack: state.stack },
     };
-    exchange_on_top(&mut state.frames, &mut wait);
+    exchange_on_top(&mut state.frames, &mut trapped.wait);
     state.seats.exchange(thread, state.stack, &mut state.frames);
     state.seats.exit(thread, state.stack, waits);
     state.left = false;
-    commit_other::<M, Brand>(&mut state.memory, leave, Blank::new(1));
-    state.watched = change.watched;
+    log_other(&mut state.memory, leave);
+    state.watched = trapped.watched;
     state.client.advance();
     state.events += 1;
     state.steps += 1;
@@ -251,24 +239,29 @@ fn resume<M: Memory, C: Determined>(
     state: &mut State<M, C>,
     code: &Checked,
     with: With,
-    mut wait: Wait,
-    change: Change,
-    room: &mut Room,
-    out: &mut Slots,
+    mut trapped: Trapped,
+    lists: &mut Lists,
 ) -> Result<StepEnd, AllocError>
     requires left { state.old.left ≡ true }
     requires room { state.old.steps < state.old.budget }
-    requires there { replying code.now state.old wait change (clients.Resume (way_of with)) ≢ Stuck }
-    ensures ok { IfOk result (λ end. answers end state.new ≡ past state.old (replying code.now state.old wait change (clients.Resume (way_of with)))) }
+    requires there { replying code.now state.old trapped.wait (change_by trapped) (clients.Resume (way_of with)) ≢ Stuck }
+    ensures ok { IfOk result (λ end. answers end state.new ≡ past state.old (replying code.now state.old trapped.wait (change_by trapped) (clients.Resume (way_of with)))) }
     ensures err { OnErr result (state.new ≡ state.old) }
     ensures stays { IfOk result (λ end. Stays end state.old state.new) }
 {
     // The thread in hand is on its stack.
     let _ = &state.thread;
-    let entering = bring(code, with, room);
-    match look_back(state, code, entering, &mut wait, room, out)? {
-        Found::Refused(case) => Ok(StepEnd::Ended(change.lines, state.case_ending(case))),
-        Found::Lands(arrival) => resume_at(state, arrival, wait, change, out),
+    let entering = bring(code, with, &mut lists.room);
+    match look_back(
+        state,
+        code,
+        entering,
+        &mut trapped.wait,
+        &lists.room,
+        &mut lists.out,
+    )? {
+        Found::Refused(case) => Ok(StepEnd::Ended(trapped.lines, state.case_ending(case))),
+        Found::Lands(arrival) => resume_at(state, arrival, trapped, &mut lists.out),
     }
 }
 
@@ -298,14 +291,13 @@ fn look_back<M: Memory, C: Determined>(
 fn resume_at<M: Memory, C: Determined>(
     state: &mut State<M, C>,
     arrival: Arrival,
-    mut wait: Wait,
-    change: Change,
+    mut trapped: Trapped,
     out: &mut Slots,
 ) -> Result<StepEnd, AllocError>
     requires left { state.old.left ≡ true }
     requires room { state.old.steps < state.old.budget }
-    requires lands { IsSome (arrives arrival (frames_of (waiting_frames state.old wait)) out.old.values) }
-    ensures ok { IfOk result (λ end. IfSome (arrives arrival (frames_of (waiting_frames state.old wait)) out.old.values) (λ r. answers end state.new ≡ past state.old (entering_then state.old wait (record { watched = change.watched; lines = change.lines }) state.old.stack r))) }
+    requires lands { IsSome (arrives arrival (frames_of (waiting_frames state.old trapped.wait)) out.old.values) }
+    ensures ok { IfOk result (λ end. IfSome (arrives arrival (frames_of (waiting_frames state.old trapped.wait)) out.old.values) (λ r. answers end state.new ≡ past state.old (entering_then state.old trapped.wait (change_by trapped) state.old.stack r))) }
     ensures err { OnErr result (state.new ≡ state.old) }
     ensures stays { IfOk result (λ end. Stays end state.old state.new) }
 {
@@ -317,16 +309,16 @@ fn resume_at<M: Memory, C: Determined>(
         thread: state.thread,
         kind: Kind::Enter { stack: state.stack },
     };
-    let mut lines = change.lines;
+    let mut lines = trapped.lines;
     lines.push(Line::Event {
         number: state.events + 1,
         event: enter,
     })?;
     state.memory.reserve(state.thread, None, 2)?;
-    exchange_on_top(&mut state.frames, &mut wait);
+    exchange_on_top(&mut state.frames, &mut trapped.wait);
     arrive(&mut state.frames, &mut state.heap, arrival, out);
     log_two(&mut state.memory, leave, enter);
-    state.watched = change.watched;
+    state.watched = trapped.watched;
     state.client.advance();
     state.events += 2;
     state.steps += 1;
@@ -340,31 +332,37 @@ fn rebind<M: Memory, C: Determined>(
     code: &Checked,
     stack: ClassedValue,
     with: With,
-    wait: Wait,
-    change: Change,
-    room: &mut Room,
-    out: &mut Slots,
+    trapped: Trapped,
+    lists: &mut Lists,
 ) -> Result<StepEnd, AllocError>
     requires left { state.old.left ≡ true }
     requires room { state.old.steps < state.old.budget }
-    requires there { replying code.now state.old wait change (clients.Rebind (classed stack) (way_of with)) ≢ Stuck }
-    ensures ok { IfOk result (λ end. answers end state.new ≡ past state.old (replying code.now state.old wait change (clients.Rebind (classed stack) (way_of with)))) }
+    requires there { replying code.now state.old trapped.wait (change_by trapped) (clients.Rebind (classed stack) (way_of with)) ≢ Stuck }
+    ensures ok { IfOk result (λ end. answers end state.new ≡ past state.old (replying code.now state.old trapped.wait (change_by trapped) (clients.Rebind (classed stack) (way_of with)))) }
     ensures err { OnErr result (state.new ≡ state.old) }
     ensures stays { IfOk result (λ end. Stays end state.old state.new) }
 {
     let scalar = target(&stack);
     if names(scalar, state.stack) {
-        return resume(state, code, with, wait, change, room, out);
+        return resume(state, code, with, trapped, lists);
     }
-    let entering = bring(code, with, room);
+    let entering = bring(code, with, &mut lists.room);
     let Some(to) = state.ready_stack(scalar) else {
         let ending = state.case_ending(Case::StackNotReady);
-        return Ok(StepEnd::Ended(change.lines, ending));
+        return Ok(StepEnd::Ended(trapped.lines, ending));
     };
-    match look(&state.seats, to, code, entering, room, out)? {
-        Found::Refused(case) => Ok(StepEnd::Ended(change.lines, state.case_ending(case))),
+    match look(
+        &state.seats,
+        to,
+        code,
+        entering,
+        &lists.room,
+        &mut lists.out,
+    )? {
+        Found::Refused(case) => Ok(StepEnd::Ended(trapped.lines, state.case_ending(case))),
         Found::Lands(arrival) => {
-            rebind_to(state, code, to, arrival, entering, wait, change, room, out)
+            let landing = Landing { stack: to, arrival };
+            rebind_to(state, code, landing, entering, trapped, lists)
         }
     }
 }
@@ -373,37 +371,35 @@ fn rebind<M: Memory, C: Determined>(
 fn rebind_to<M: Memory, C: Determined>(
     state: &mut State<M, C>,
     code: &Checked,
-    to: u32,
-    arrival: Arrival,
+    landing: Landing,
     entering: Entering,
-    wait: Wait,
-    change: Change,
-    room: &mut Room,
-    out: &mut Slots,
+    trapped: Trapped,
+    lists: &mut Lists,
 ) -> Result<StepEnd, AllocError>
     requires left { state.old.left ≡ true }
     requires room { state.old.steps < state.old.budget }
-    requires other { to ≢ state.old.stack }
-    requires lands { entered_by code.now (frames_at (slice_get state.old.seats.stacks to)) (entering_of entering room.old.types.members room.old.values.values) ≡ found (Found.Lands arrival) (frames_at (slice_get state.old.seats.stacks to)) out.old.values }
-    requires ready { IsReady (slice_get state.old.seats.stacks to) }
-    requires there { IsSome (entered_by code.now (frames_at (slice_get state.old.seats.stacks to)) (entering_of entering room.old.types.members room.old.values.values)) }
-    ensures ok { IfOk result (λ end. IfSome (arrives arrival (frames_at (slice_get state.old.seats.stacks to)) out.old.values) (λ r. answers end state.new ≡ past state.old (entering_then state.old wait change to r))) }
+    requires other { landing.stack ≢ state.old.stack }
+    requires lands { entered_by code.now (frames_at (slice_get state.old.seats.stacks landing.stack)) (entering_of entering lists.old.room.types.members lists.old.room.values.values) ≡ found (Found.Lands landing.arrival) (frames_at (slice_get state.old.seats.stacks landing.stack)) lists.old.out.values }
+    requires ready { IsReady (slice_get state.old.seats.stacks landing.stack) }
+    requires there { IsSome (entered_by code.now (frames_at (slice_get state.old.seats.stacks landing.stack)) (entering_of entering lists.old.room.types.members lists.old.room.values.values)) }
+    ensures ok { IfOk result (λ end. IfSome (arrives landing.arrival (frames_at (slice_get state.old.seats.stacks landing.stack)) lists.old.out.values) (λ r. answers end state.new ≡ past state.old (entering_then state.old trapped.wait (change_by trapped) landing.stack r))) }
     ensures err { OnErr result (state.new ≡ state.old) }
     ensures stays { IfOk result (λ end. Stays end state.old state.new) }
 {
-    let waits = copied(state.alloc, wait.waits())?;
-    let handing = hand_over(state.alloc, entering, room)?;
-    let mut lines = change.lines;
+    let handing = hand_over(state.alloc, entering, &mut lists.room)?;
+    let mut lines = trapped.lines;
     let enter = Event {
         thread: state.thread,
-        kind: Kind::Enter { stack: to },
+        kind: Kind::Enter {
+            stack: landing.stack,
+        },
     };
     lines.push(Line::Event {
         number: state.events + 1,
         event: enter,
     })?;
-    let end = move_to(state, lines, to, arrival, wait, waits, handing, room, out)?;
-    state.watched = change.watched;
+    let end = move_to(state, lines, landing, trapped.wait, handing, lists)?;
+    state.watched = trapped.watched;
     state.client.advance();
     Ok(end)
 }
@@ -415,22 +411,21 @@ pub(crate) fn meet<M: Memory, C: Determined>(
     code: &Checked,
     watchpoint: u32,
     block: u32,
-    room: &mut Room,
-    out: &mut Slots,
+    lists: &mut Lists,
 ) -> Result<StepEnd, AllocError>
     requires left { state.old.left ≡ true }
     requires room { state.old.steps < state.old.budget }
     requires narrow { AreNarrow (graph_of code.now) }
-    requires classes { All (λ c. c < length (graph_of code.now)) room.old.waits.members }
-    requires there { told code.now state.old.client (acting code.now state.old (acts.Watches watchpoint room.old.waits.members (record { block = block; values = room.old.values.values }))) ≢ Stuck }
-    ensures ok { IfOk result (λ end. answers end state.new ≡ told code.now state.old.client (acting code.now state.old (acts.Watches watchpoint room.old.waits.members (record { block = block; values = room.old.values.values })))) }
+    requires classes { All (λ c. c < length (graph_of code.now)) lists.old.room.waits.members }
+    requires there { told code.now state.old.client (acting code.now state.old (acts.Watches watchpoint lists.old.room.waits.members (record { block = block; values = lists.old.room.values.values }))) ≢ Stuck }
+    ensures ok { IfOk result (λ end. answers end state.new ≡ told code.now state.old.client (acting code.now state.old (acts.Watches watchpoint lists.old.room.waits.members (record { block = block; values = lists.old.room.values.values })))) }
     ensures err { OnErr result (state.new ≡ state.old) }
     ensures stays { IfOk result (λ end. Stays end state.old state.new) }
 {
     if state.watched.contains(watchpoint) {
-        trap(state, code, Some(watchpoint), room, out)
+        trap(state, code, Some(watchpoint), lists)
     } else {
-        Ok(state.go(block, &mut room.values))
+        Ok(state.go(block, &mut lists.room.values))
     }
 }
 

@@ -1,8 +1,7 @@
 // Wakes.
 ghost use Rattle.std.specs.Prelude.{◌≡◌, ◌≢◌, ◌+◌, ◌-◌, ◌<◌, ◌≤◌, ◌∷◌, ◌++◌, IsSome, IsSomeAnd, Some, IfOk, OnOk, OnErr, length, slice_set, true, false};
 ghost use Rattle.mem_axioms.specs.Objects.{HasCell};
-ghost use Rattle.mem_axioms.specs.EventFits.{EventFits, is_thread, wakes_at};
-ghost use Rattle.mem_axioms.specs.Lemmas.Kept.{is_any_access};
+ghost use Rattle.mem_axioms.specs.EventFits.{is_thread, wakes_at};
 ghost use Rattle.mu_model.specs.declared.lines.Line.TheVariants as written;
 ghost use Rattle.mu_model.specs.Configuration.{Active};
 ghost use Rattle.seats.specs.Seats.{IsOn};
@@ -15,6 +14,7 @@ ghost use Rattle.thread_acts.specs.StepLaws.{GoesOn};
 ghost use Rattle.mu_step.specs.WakeLaws.{waking_at};
 ghost use Rattle.mu_step.specs.Waking.{frames_at, behind, stood, goes_behind, all_go, AreDistinct, AreThreads, wake_event, woken_event, logs_woken, woken_lines};
 
+use crate::moving::log_other;
 use bundle_check::Checked;
 use client_hooks::Determined;
 use frames::Frames;
@@ -24,9 +24,6 @@ use mu_model::{Line, Lines, StepEnd};
 use mu_values::{Scalar, Slots};
 use seats::Seats;
 use std::alloc::{AllocError, Global};
-use std::marker::Brand;
-use std::sync::ledger::Blank;
-use thread_acts::accessing::commit_other;
 use thread_acts::finding::case_of;
 use thread_acts::flow::{Place, passing, stand};
 use thread_acts::futexes::tell;
@@ -94,20 +91,6 @@ fn go_on_all(
             Ok(())
         }
     }
-}
-
-/// An event that is no access.
-fn log_other<M: Memory>(memory: &mut M, event: Event)
-    requires other { is_any_access event ≡ false }
-    requires fits { EventFits (M.rule memory.old) (M.objects memory.old) (M.log memory.old) event }
-    requires room { 0 < (M.room memory.old).events }
-    requires count { length (M.log memory.old) + 1 < 4294967295 }
-    ensures added { M.log memory.new ≡ event ∷ M.log memory.old }
-    ensures left { (M.room memory.new).events ≡ (M.room memory.old).events - 1 }
-    ensures same_objects { M.objects memory.new ≡ M.objects memory.old }
-    ensures same_rule { M.rule memory.new ≡ M.rule memory.old }
-{
-    commit_other::<M, Brand>(memory, event, Blank::new(1));
 }
 
 /// The events of those that are woken by an event with that number.

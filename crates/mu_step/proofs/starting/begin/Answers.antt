@@ -1,4 +1,4 @@
-use Rattle.std.proofs.Common.{ap, sym, ◌∙◌}
+use Rattle.std.proofs.Common.{ap, sym, ◌∙◌, length}
 use Rattle.thread_acts.specs.Held.{Held}
 use Rattle.thread_acts.specs.Hand.{hand_made, hand_on}
 use Rattle.mu_step.specs.StartLaws.{new_enters}
@@ -10,18 +10,18 @@ pub switch_starting-passed-requires-clause-on : goal.switch_starting-passed-requ
 switch_starting-passed-requires-clause-on g c = hand_on _ _ _ _ _ c.state.invariant.5 (ap (λ (s : Held). s.left) c.state.view_is ∙ c.requires.left)
 
 pub arrive-requires : goal.arrive-requires
-arrive-requires g c = lands_low _ _ _ _ c.args.arrival _ c.state.view_is c.switch_starting-passed.ensures.frames c.requires.lands
+arrive-requires g c = lands_low _ _ _ _ c.args.landing.arrival _ c.state.view_is c.switch_starting-passed.ensures.frames c.requires.lands
 
 pub log_two-requires-clause-first_fits : goal.log_two-requires-clause-first_fits
 log_two-requires-clause-first_fits g c =
-    made_at c.args.state.now _ _ _ _ c.args.number c.state.view_is c.requires.number c.requires.few c.state.invariant.5 c.reserve.ensures.same_log (hand_made _ _ _ _ _ c.state.invariant.5 (ap (λ (s : Held). s.left) c.state.view_is ∙ c.requires.left))
+    made_at c.args.state.now _ _ _ _ _ c.state.view_is (c.made-number.ensures ∙ ap (λ (s : Held). length s.seats.threads) c.state.view_is) c.requires.few c.state.invariant.5 c.reserve.ensures.same_log (hand_made _ _ _ _ _ c.state.invariant.5 (ap (λ (s : Held). s.left) c.state.view_is ∙ c.requires.left))
 
 pub log_two-requires-clause-second_fits : goal.log_two-requires-clause-second_fits
 log_two-requires-clause-second_fits g c = new_enters _ _ _ _ _ _
 
 pub returns-clause-ok : goal.returns-clause-ok
 returns-clause-ok g c =
-    begins_so c.args.state.now _ _ _ _ c.args.arrival _ _ _ _ _ _ _ _ _ _ _ _ _ _ _ _ c.state.view_is c.requires.left c.requires.other c.requires.number c.stand.ensures c.switch_starting-passed.ensures.frames c.switch_starting-passed.ensures.started
+    begins_so c.args.state.now _ _ _ _ c.args.landing.arrival _ _ _ _ _ _ _ _ _ _ _ _ _ _ _ _ c.state.view_is c.requires.left c.requires.other (c.made-number.ensures ∙ ap (λ (s : Held). length s.seats.threads) c.state.view_is) c.stand.ensures c.switch_starting-passed.ensures.frames c.switch_starting-passed.ensures.started
     c.arrive.ensures.frames c.arrive.ensures.objects c.arrive.ensures.left c.reserve.ensures.same_log c.reserve.ensures.same_rule c.log_two.ensures.log c.log_two.ensures.same_rule c.state.invariant.1 c.in_ok-lines.ensures
 
 pub invariant_of-state-2 : goal.invariant_of-state-2
@@ -31,5 +31,5 @@ invariant_of-state-2 g c = (
   low_two _ _ c.state.invariant.2,
   steps_low _ _ c.state.view_is c.requires.room,
   c.state.invariant.4,
-  sound_at c.args.state.now _ c.args.number _ _ _ _ _ _ c.state.view_is c.requires.number c.state.invariant.5 c.switch_starting-passed.ensures.started c.reserve.ensures.same_log c.log_two.ensures.log,
+  sound_at c.args.state.now _ _ _ _ _ _ _ _ c.state.view_is (c.made-number.ensures ∙ ap (λ (s : Held). length s.seats.threads) c.state.view_is) c.state.invariant.5 c.switch_starting-passed.ensures.started c.reserve.ensures.same_log c.log_two.ensures.log,
 )

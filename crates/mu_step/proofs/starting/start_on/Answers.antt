@@ -1,4 +1,5 @@
-use Rattle.std.proofs.Common.{refl}
+use Rattle.std.proofs.Common.{refl, ap, ◌∙◌, length}
+use Rattle.thread_acts.specs.Held.{Held}
 use Rattle.mu_step.specs.StartLaws.{start_looks}
 use Rattle.mu_step.proofs.EnteringViews.{no_misfit, lands_there, ready_takes}
 use Rattle.mu_step.proofs.StartViews.{few_threads, started_results, started_answered}
@@ -6,21 +7,21 @@ use Rattle.mu_step.proofs.starting.start_on.Goals as goal
 
 pub passing-requires : goal.passing-requires
 passing-requires g c =
-    started_results c.args.code.now c.args.state.now _ _ _ c.args.own _ c.args.arrival _ _ _ c.state.view_is c.requires.there c.requires.number c.requires.few c.requires.other c.requires.ready c.requires.lands c.top.ensures c.in_ok-results.ensures
+    started_results c.args.code.now c.args.state.now _ _ _ c.args.own _ c.args.landing.arrival _ _ _ c.state.view_is c.requires.there (c.made-number.ensures ∙ ap (λ (s : Held). length s.seats.threads) c.state.view_is) c.requires.few c.requires.other c.requires.ready c.requires.lands c.top.ensures c.in_ok-results.ensures
 
 pub hand_over-requires : goal.hand_over-requires
 hand_over-requires g c =
-    no_misfit c.args.code.now _ _ c.args.arrival _ _ _ c.requires.lands (start_looks c.args.code.now _ _ _ _ c.requires.there (few_threads _ c.requires.few) _ refl c.requires.other c.requires.ready)
+    no_misfit c.args.code.now _ _ c.args.landing.arrival _ _ _ c.requires.lands (start_looks c.args.code.now _ _ _ _ c.requires.there (few_threads _ c.requires.few) _ refl c.requires.other c.requires.ready)
 
 pub begin-requires-clause-takes : goal.begin-requires-clause-takes
 begin-requires-clause-takes g c =
-    ready_takes c.args.code.now _ _ _ c.args.arrival _ c.requires.ready c.requires.lands (start_looks c.args.code.now _ _ _ _ c.requires.there (few_threads _ c.requires.few) _ refl c.requires.other c.requires.ready) c.in_ok-handing.ensures
+    ready_takes c.args.code.now _ _ _ c.args.landing.arrival _ c.requires.ready c.requires.lands (start_looks c.args.code.now _ _ _ _ c.requires.there (few_threads _ c.requires.few) _ refl c.requires.other c.requires.ready) c.in_ok-handing.ensures
 
 pub begin-requires-clause-lands : goal.begin-requires-clause-lands
 begin-requires-clause-lands g c =
-    lands_there c.args.code.now _ _ c.args.arrival _ c.requires.lands (start_looks c.args.code.now _ _ _ _ c.requires.there (few_threads _ c.requires.few) _ refl c.requires.other c.requires.ready)
+    lands_there c.args.code.now _ _ c.args.landing.arrival _ c.requires.lands (start_looks c.args.code.now _ _ _ _ c.requires.there (few_threads _ c.requires.few) _ refl c.requires.other c.requires.ready)
 
 pub returns-clause-ok : goal.returns-clause-ok
 returns-clause-ok g c =
-    started_answered c.args.code.now c.args.state.now _ _ _ _ c.args.own _ c.args.arrival _ _ _ _ _ _ c.begin.result c.state.view_is c.requires.there c.requires.number c.requires.few c.requires.other c.requires.ready c.requires.lands c.top.ensures
+    started_answered c.args.code.now c.args.state.now _ _ _ _ c.args.own _ c.args.landing.arrival _ _ _ _ _ _ c.begin.result c.state.view_is c.requires.there (c.made-number.ensures ∙ ap (λ (s : Held). length s.seats.threads) c.state.view_is) c.requires.few c.requires.other c.requires.ready c.requires.lands c.top.ensures
     c.in_ok-results.ensures c.in_ok-place.ensures c.begin.ensures.ok
