@@ -30,6 +30,14 @@ use std::alloc::{AllocError, Global};
 use text_forms::Listing;
 use typed_heap::Heap;
 
+/// What a source is judged by: the code of the bundle, the objects that there are, and those of the script by name.
+#[derive(Clone, Copy)]
+pub(crate) struct Scene<'a> {
+    pub(crate) code: &'a Checked,
+    pub(crate) heap: &'a Heap,
+    pub(crate) made: &'a Scope<Made>,
+}
+
 /// Whether an object fits what the type with this definition refers to.
 #[tactic(auto, using(crate::proofs::Casting::casts))]
 fn object_fits(classes: &Classes, heap: &Heap, t: u32, object: u32) -> bool
@@ -83,19 +91,19 @@ fn is_class(wanted: u32, class: Option<u32>) -> bool
 }
 
 /// Whether an object, a place or a function fits what a type refers to. It takes time for the leaves of that.
-fn refers(code: &Checked, heap: &Heap, t: u32, scalar: Scalar) -> bool
-    requires { t < length (code_of code.now).graph }
-    ensures { result ≡ refers (code_of code.now) heap.now.objects (slice_get (code_of code.now).graph t) scalar }
+fn refers(scene: Scene, t: u32, scalar: Scalar) -> bool
+    requires { t < length (code_of scene.code.now).graph }
+    ensures { result ≡ refers (code_of scene.entry.code.now) scene.entry.heap.now.objects (slice_get (code_of scene.entry.code.now).graph t) scalar }
 {
-    let classes = code.classes();
+    let classes = scene.code.classes();
     match (classes.definition(t), scalar) {
-        (TypeDef::Ref(_), Scalar::Object(object)) => object_fits(classes, heap, t, object),
+        (TypeDef::Ref(_), Scalar::Object(object)) => object_fits(classes, scene.heap, t, object),
         (TypeDef::Iref(_), Scalar::Place { object, at }) => {
-            place_fits(classes, heap, t, object, at)
+            place_fits(classes, scene.heap, t, object, at)
         }
         (TypeDef::FuncRef(s), Scalar::Func(function)) => is_class(
             classes.class(*s),
-            function_class(code.tables(), function),
+            function_class(scene.code.tables(), function),
         ),
         _ => false,
     }
@@ -228,29 +236,23 @@ fn add(scalars: &mut Vec<Scalar>, place: usize, fits: bool, scalar: Scalar) -> R
 }
 
 /// Adds what a global name stands for.
-fn named(
-    code: &Checked,
-    heap: &Heap,
-    t: u32,
-    name: &Name,
-    scalars: &mut Vec<Scalar>,
-) -> Result<(), LoadFault>
-    requires { t < length (code_of code.now).graph }
-    ensures { Makes (behind scalars.old.items (named_scalars (code_of code.now) heap.now.objects t name.now.place (found (code_of code.now).names name.now.text))) scalars.new.items result }
+fn named(scene: Scene, t: u32, name: &Name, scalars: &mut Vec<Scalar>) -> Result<(), LoadFault>
+    requires { t < length (code_of scene.code.now).graph }
+    ensures { Makes (behind scalars.old.items (named_scalars (code_of scene.entry.code.now) scene.entry.heap.now.objects t name.now.place (found (code_of scene.entry.code.now).names name.now.text))) scalars.new.items result }
 {
     let place = name.place;
-    match code.tables().globals.names.find(name.text.as_slice()) {
-        Some(Sort::Constant(n)) => constant(code, t, place, *n, scalars),
+    match scene.code.tables().globals.names.find(name.text.as_slice()) {
+        Some(Sort::Constant(n)) => constant(scene.code, t, place, *n, scalars),
         Some(Sort::GlobalCell(object)) => {
             let scalar = Scalar::Place {
                 object: *object,
                 at: 0,
             };
-            add(scalars, place, refers(code, heap, t, scalar), scalar)
+            add(scalars, place, refers(scene, t, scalar), scalar)
         }
         Some(Sort::Function(n)) => {
             let scalar = Scalar::Func(*n);
-            add(scalars, place, refers(code, heap, t, scalar), scalar)
+            add(scalars, place, refers(scene, t, scalar), scalar)
         }
         _ => Err(LoadFault::At {
             kind: LoadKind::WrongType,
@@ -260,88 +262,75 @@ fn named(
 }
 
 /// Adds the reference to an object of the script.
-fn object(
-    code: &Checked,
-    heap: &Heap,
-    made: &Scope<Made>,
-    t: u32,
-    name: &Name,
-    scalars: &mut Vec<Scalar>,
-) -> Result<(), LoadFault>
-    requires { t < length (code_of code.now).graph }
-    ensures { Makes (behind scalars.old.items (object_scalars (code_of code.now) heap.now.objects t name.now.place (found made.now name.now.text))) scalars.new.items result }
+fn object(scene: Scene, t: u32, name: &Name, scalars: &mut Vec<Scalar>) -> Result<(), LoadFault>
+    requires { t < length (code_of scene.code.now).graph }
+    ensures { Makes (behind scalars.old.items (object_scalars (code_of scene.entry.code.now) scene.entry.heap.now.objects t name.now.place (found scene.entry.made.now name.now.text))) scalars.new.items result }
 {
-    match made.find(name.text.as_slice()) {
+    match scene.made.find(name.text.as_slice()) {
         None => Err(LoadFault::At {
             kind: LoadKind::WrongType,
             place: name.place,
         }),
         Some(made) => {
             let scalar = Scalar::Object(made.object);
-            add(scalars, name.place, refers(code, heap, t, scalar), scalar)
+            add(scalars, name.place, refers(scene, t, scalar), scalar)
         }
     }
 }
 
 /// Adds the place that a target behind `&` names, with the pieces behind it.
 fn place(
-    code: &Checked,
-    heap: &Heap,
-    made: &Scope<Made>,
+    scene: Scene,
     t: u32,
     place: usize,
     root: &Root,
     more: &[Piece],
     scalars: &mut Vec<Scalar>,
 ) -> Result<(), LoadFault>
-    requires known { IsKnown (code_of code.now) }
-    requires made { AreThere (code_of code.now).graph made.now }
-    requires t { t < length (code_of code.now).graph }
-    ensures { Makes (behind scalars.old.items (place_scalars (code_of code.now) heap.now.objects t place (target_spot (code_of code.now) made.now root.now (next_indexes more.now)))) scalars.new.items result }
+    requires known { IsKnown (code_of scene.code.now) }
+    requires made { AreThere (code_of scene.code.now).graph scene.made.now }
+    requires t { t < length (code_of scene.code.now).graph }
+    ensures { Makes (behind scalars.old.items (place_scalars (code_of scene.entry.code.now) scene.entry.heap.now.objects t place (target_spot (code_of scene.entry.code.now) scene.entry.made.now root.now (next_indexes more.now)))) scalars.new.items result }
 {
-    if !is_iref(code.classes().definition(t)) {
+    if !is_iref(scene.code.classes().definition(t)) {
         return Err(LoadFault::At {
             kind: LoadKind::WrongType,
             place,
         });
     }
-    let spot = reference_spot(code, made, root, more)?;
+    let spot = reference_spot(scene.code, scene.made, root, more)?;
     let scalar = Scalar::Place {
         object: spot.object,
         at: spot.at,
     };
-    add(scalars, place, refers(code, heap, t, scalar), scalar)
+    add(scalars, place, refers(scene, t, scalar), scalar)
 }
 
 /// Adds the scalars of a source that is no list, by the type that it is for, with the pieces behind it.
 pub(crate) fn scalars_of(
     alloc: Global,
-    code: &Checked,
-    heap: &Heap,
-    made: &Scope<Made>,
+    scene: Scene,
     t: u32,
     piece: &Piece,
     more: &[Piece],
     scalars: &mut Vec<Scalar>,
 ) -> Result<(), LoadFault>
-    requires known { IsKnown (code_of code.now) }
-    requires made { AreThere (code_of code.now).graph made.now }
-    requires t { t < length (code_of code.now).graph }
-    ensures { Makes (behind scalars.old.items (scalars_of (code_of code.now) (store_of heap.now made.now) t piece.now more.now)) scalars.new.items result }
+    requires known { IsKnown (code_of scene.code.now) }
+    requires made { AreThere (code_of scene.code.now).graph scene.made.now }
+    requires t { t < length (code_of scene.code.now).graph }
+    ensures { Makes (behind scalars.old.items (scalars_of (code_of scene.entry.code.now) (store_of scene.entry.heap.now scene.entry.made.now) t piece.now more.now)) scalars.new.items result }
 {
     match piece {
-        Piece::Number(numeral) => number(alloc, code.classes(), t, numeral, scalars),
+        Piece::Number(numeral) => number(alloc, scene.code.classes(), t, numeral, scalars),
         Piece::Null { place } => add(
             scalars,
             *place,
-            is_reference(code.classes().definition(t)),
+            is_reference(scene.code.classes().definition(t)),
             Scalar::Null,
         ),
-        Piece::Global(name) => named(code, heap, t, name, scalars),
-        Piece::Object(name) => object(code, heap, made, t, name, scalars),
-        Piece::Reference { place: at, root } => {
-            place(code, heap, made, t, *at, root, more, scalars)
-        }
+        Piece::Global(name) => named(scene, t, name, scalars),
+        Piece::Object(name) => object(scene, t, name, scalars),
+        Piece::Reference { place: at, root } => { place(scene, t, *at, root, more, scalars) }
         Piece::Index(_) => Ok(()),
         Piece::List { place, .. } => Err(LoadFault::At {
             kind: LoadKind::WrongType,

@@ -11,16 +11,13 @@ ghost use Rattle.hail_load.specs.Judging.{piece_place, wanted_by, part_scalars, 
 ghost use Rattle.hail_load.specs.Answering.{Makes, GoesOn, behind, before, IsThere, AreThere, store_of};
 
 use crate::fault::{LoadFault, LoadKind};
-use crate::fitting::scalars_of;
-use crate::parts::{Made, Part};
+use crate::fitting::{Scene, scalars_of};
+use crate::parts::Part;
 use crate::pending::Pending;
 use crate::tree::Piece;
-use bundle_check::Checked;
-use demands::Scope;
 use mu_types::{Classes, TypeDef};
 use mu_values::Scalar;
 use std::alloc::Global;
-use typed_heap::Heap;
 
 /// Where a source begins.
 fn piece_place(piece: &Piece) -> usize
@@ -137,21 +134,19 @@ fn push_parts(
 /// Adds the scalars of a source that is no list, for a part.
 fn part_scalars(
     alloc: Global,
-    code: &Checked,
-    heap: &Heap,
-    made: &Scope<Made>,
+    scene: Scene,
     part: Part,
     piece: &Piece,
     more: &[Piece],
     scalars: &mut Vec<Scalar>,
 ) -> Result<(), LoadFault>
-    requires known { IsKnown (code_of code.now) }
-    requires made { AreThere (code_of code.now).graph made.now }
-    requires part { IsThere (code_of code.now).graph part }
-    ensures { Makes (behind scalars.old.items (part_scalars (code_of code.now) (store_of heap.now made.now) part piece.now more.now)) scalars.new.items result }
+    requires known { IsKnown (code_of scene.code.now) }
+    requires made { AreThere (code_of scene.code.now).graph scene.made.now }
+    requires part { IsThere (code_of scene.code.now).graph part }
+    ensures { Makes (behind scalars.old.items (part_scalars (code_of scene.entry.code.now) (store_of scene.entry.heap.now scene.entry.made.now) part piece.now more.now)) scalars.new.items result }
 {
     match part {
-        Part::Value(t) => scalars_of(alloc, code, heap, made, t, piece, more, scalars),
+        Part::Value(t) => scalars_of(alloc, scene, t, piece, more, scalars),
         _ => wrong_type(piece_place(piece)),
     }
 }
@@ -159,19 +154,17 @@ fn part_scalars(
 /// One piece, for the first of some parts.
 fn judge_piece(
     alloc: Global,
-    code: &Checked,
-    heap: &Heap,
-    made: &Scope<Made>,
+    scene: Scene,
     piece: &Piece,
     more: &[Piece],
     parts: &mut Pending,
     scalars: &mut Vec<Scalar>,
 ) -> Result<(), LoadFault>
-    requires known { IsKnown (code_of code.now) }
-    requires made { AreThere (code_of code.now).graph made.now }
-    requires parts { All (IsThere (code_of code.now).graph) parts.old }
-    ensures told { GoesOn (behind scalars.old.items (judged (code_of code.now) (store_of heap.now made.now) parts.old (piece.now ∷ more.now))) (behind scalars.new.items (judged (code_of code.now) (store_of heap.now made.now) parts.new more.now)) result }
-    ensures parts { OnOk result (All (IsThere (code_of code.now).graph) parts.new) }
+    requires known { IsKnown (code_of scene.code.now) }
+    requires made { AreThere (code_of scene.code.now).graph scene.made.now }
+    requires parts { All (IsThere (code_of scene.code.now).graph) parts.old }
+    ensures told { GoesOn (behind scalars.old.items (judged (code_of scene.entry.code.now) (store_of scene.entry.heap.now scene.entry.made.now) parts.old (piece.now ∷ more.now))) (behind scalars.new.items (judged (code_of scene.entry.code.now) (store_of scene.entry.heap.now scene.entry.made.now) parts.new more.now)) result }
+    ensures parts { OnOk result (All (IsThere (code_of scene.entry.code.now).graph) parts.new) }
 {
     if let Piece::Index(_) = piece {
         return Ok(());
@@ -180,32 +173,30 @@ fn judge_piece(
         return wrong_type(piece_place(piece));
     };
     if let Piece::List { place, length } = piece {
-        push_parts(code.classes(), part, *place, *length, parts)
+        push_parts(scene.code.classes(), part, *place, *length, parts)
     } else {
-        part_scalars(alloc, code, heap, made, part, piece, more, scalars)
+        part_scalars(alloc, scene, part, piece, more, scalars)
     }
 }
 
 /// Adds the scalars of a source for a part. It takes memory for the scalars and for the lists in one another.
 pub(crate) fn judge(
     alloc: Global,
-    code: &Checked,
-    heap: &Heap,
-    made: &Scope<Made>,
+    scene: Scene,
     part: Part,
     source: &[Piece],
     scalars: &mut Vec<Scalar>,
 ) -> Result<(), LoadFault>
-    requires known { IsKnown (code_of code.now) }
-    requires made { AreThere (code_of code.now).graph made.now }
-    requires part { IsThere (code_of code.now).graph part }
-    ensures { Makes (behind scalars.old.items (judged (code_of code.now) (store_of heap.now made.now) (part ∷ []) source.now)) scalars.new.items result }
+    requires known { IsKnown (code_of scene.code.now) }
+    requires made { AreThere (code_of scene.code.now).graph scene.made.now }
+    requires part { IsThere (code_of scene.code.now).graph part }
+    ensures { Makes (behind scalars.old.items (judged (code_of scene.entry.code.now) (store_of scene.entry.heap.now scene.entry.made.now) (part ∷ []) source.now)) scalars.new.items result }
 {
     let mut parts = Pending::new(alloc);
     parts.push(part, 1)?;
     let mut left = source;
     'each: while let [piece, more @ ..] = left {
-        judge_piece(alloc, code, heap, made, piece, more, &mut parts, scalars)?;
+        judge_piece(alloc, scene, piece, more, &mut parts, scalars)?;
         left = more;
     }
     Ok(())

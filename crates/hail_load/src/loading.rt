@@ -13,6 +13,7 @@ ghost use Rattle.hail_load.specs.LoadAnswers.{AreGlobals, Loads};
 ghost use Rattle.hail_load.specs.Answering.{Makes, AreThere, AreWhole, IsSame, not_made, store_of};
 
 use crate::fault::{LoadFault, LoadKind};
+use crate::fitting::Scene;
 use crate::judgement::judge;
 use crate::parts::{Made, Part, Spot};
 use crate::targets::target_spot;
@@ -225,7 +226,8 @@ fn init(
 {
     let spot = target_spot(code, made, &target.root, target.indexes.as_slice())?;
     let mut scalars = Vec::new(alloc);
-    judge(alloc, code, heap, made, spot.part, source, &mut scalars)?;
+    let scene = Scene { code, heap, made };
+    judge(alloc, scene, spot.part, source, &mut scalars)?;
     fill(heap, spot, &scalars)?;
     Ok(())
 }

@@ -7,8 +7,8 @@ use Rattle.hail_load.proofs.judgement.judge.Given as goal
 
 abbrev pub invariant-each : goal.invariant-each
 invariant-each l = record {
-  told : behind l.scalars.items (judged (code_of l.code) (store_of l.heap l.made) l.parts l.left) ≡ behind l.fn.scalars.items (judged (code_of l.code) (store_of l.heap l.made) (l.fn.part ∷ []) l.fn.source);
-  parts : All (IsThere (code_of l.code).graph) l.parts;
+  told : behind l.scalars.items (judged (code_of l.scene.code.now) (store_of l.scene.heap.now l.scene.made.now) l.parts l.left) ≡ behind l.fn.scalars.items (judged (code_of l.scene.code.now) (store_of l.scene.heap.now l.scene.made.now) (l.fn.part ∷ []) l.fn.source);
+  parts : All (IsThere (code_of l.scene.code.now).graph) l.parts;
 }
 
 abbrev pub decreases-each : goal.decreases-each

@@ -11,8 +11,8 @@ use Rattle.hail_load.proofs.judgement.judge_piece.Goals as goal
 
 pub returns-in-List : goal.returns-in-List
 returns-in-List c =
-    let code = code_of c.args.code.now in
-    let store = store_of c.args.heap.now c.args.made.now in
+    let code = code_of c.args.scene.code.now in
+    let store = store_of c.args.scene.heap.now c.args.scene.made.now in
     let first : c.args.parts.now ≡ c.in-Some.part ∷ c.next.new.self = rw c.in-Some.is at c.in_ok-part.ensures.some in
     let wanted = wanted_by c.in-List.place c.in-List.length (parts_of code.graph c.in-Some.part) in
     let pushed = rw c.classes.ensures.same at c.push_parts.ensures in
@@ -26,8 +26,8 @@ returns-in-List c =
 
 pub returns-in_default-piece : goal.returns-in_default-piece
 returns-in_default-piece c =
-    let code = code_of c.args.code.now in
-    let store = store_of c.args.heap.now c.args.made.now in
+    let code = code_of c.args.scene.code.now in
+    let store = store_of c.args.scene.heap.now c.args.scene.made.now in
     let first : c.args.parts.now ≡ c.in-Some.part ∷ c.next.new.self = rw c.in-Some.is at c.in_ok-part.ensures.some in
     let there = rw first at c.requires.parts in
     let plain = plain_is code store c.in-Some.part c.next.new.self c.args.piece.now c.args.more.now c.in_default.not-Index c.in_default-piece.not-List in
