@@ -3,6 +3,7 @@ ghost use Rattle.std.specs.Prelude.{◌≡◌, ◌≤◌, ℕ, true, None, Some}
 ghost use Rattle.mu_base.specs.Faults.{Rose};
 ghost use Rattle.mu_base.specs.Files.{Files};
 ghost use Rattle.text_programs.specs.Moments.{EndsSoundly};
+ghost use Rattle.text_programs.specs.Offers.{OffersExactly};
 ghost use Rattle.mu_texts.specs.Answer.{is_end};
 ghost use Rattle.mu_command.specs.Answer.{answer_of, read_fault_line, too_long_line};
 ghost use Rattle.mu_command.specs.Central.{Answered, MayFail, IsPast, IsUnfetched, OfJob, IsAccepted, IsRefused, IsQuiet, outcomes_of, OneAnswer, EachMoment, HasSoundLog, HasOneOwner, IsNotStuck};
@@ -87,6 +88,8 @@ pub fn mu<I: Inputs, S: Sink>(alloc: Global, words: &Words, inputs: &mut I, out:
     // What holds at each moment of the run that the words ask for, whatever bytes its files have.
     // The log meets the axioms of memory, no two of its events race, and each of its reads was an option of its past.
     ensures sound_logs { EachMoment HasSoundLog words.now }
+    // Whatever access comes next at a cell that is there is offered exactly what the axioms of memory let it take; a wait reads the newest.
+    ensures offered { EachMoment OffersExactly words.now }
     // No two threads are on one stack, and no thread is on two.
     ensures one_owner { EachMoment HasOneOwner words.now }
     // The next step has a rule.

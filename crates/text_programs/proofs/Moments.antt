@@ -20,6 +20,7 @@ use Rattle.text_programs.specs.Moments.{Reaches, here, onward, IsSoundMoment, Mo
 use Rattle.text_programs.proofs.Texts.{read_have_blocks}
 use Rattle.text_programs.proofs.Entered.{nothing_is_taken}
 use Rattle.text_programs.proofs.Endings.{ends_soundly}
+use Rattle.text_programs.proofs.Offers.{offers_exactly}
 
 module _ (p : Program) (t : Places) (typed : IsTyped p t) where
   stays_typed : (c d : Configuration) → WellTyped p t c → Reaches p c d → WellTyped p t d
@@ -39,6 +40,7 @@ module _ (p : Program) (t : Places) (typed : IsTyped p t) where
   sound : (c : Configuration) → WellTyped p t c → IsSoundMoment p c
   sound c well = record {
     log = record { axioms = meets p t c well; race_free = race_free p t c well; reads = reads_offered p t c well };
+    offers = offers_exactly p c (meets p t c well);
     owners = one_owner p t c well;
     rule = not_stuck (client_answers p c.client (step p c)) (clients_settle p t c typed well);
     ending = ends_soundly p t c well;

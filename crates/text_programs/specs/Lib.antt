@@ -1,4 +1,5 @@
 pub mod Laws
+pub mod Offers
 pub mod Moments
 pub mod Lines
 pub mod RunLogs

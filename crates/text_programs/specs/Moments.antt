@@ -30,6 +30,7 @@ use Rattle.model_laws.specs.Laws.{OneOwner}
 use Rattle.model_laws.specs.Bounds.{IsSmall}
 use Rattle.typed_programs.specs.Laws.{SettingFits}
 use Rattle.text_programs.specs.Laws.{OfAcceptedTexts}
+use Rattle.text_programs.specs.Offers.{OffersExactly}
 
 -- a run comes from one configuration to another by steps that go on
 pub data Reaches (p : Program) (c : Configuration) : Configuration → Type 0 where
@@ -72,6 +73,8 @@ EndsSoundly p c = (ls : List Line) (e : Ending) → client_answers p c.client (s
 
 pub record IsSoundMoment (p : Program) (c : Configuration) : Type 0 where
   pub log : IsSoundLog c.rule (initial c) c.log
+  -- an access is offered what the axioms of memory let it take, and nothing else
+  pub offers : OffersExactly p c
   -- no two threads are on one stack, and no thread is on two
   pub owners : OneOwner c
   -- the next step has a rule

@@ -4,6 +4,7 @@ use Rattle.mu_command.proofs.Completeness.{complete}
 use Rattle.mu_command.proofs.Moments.{of_sound}
 use Rattle.mu_command.specs.Central.{HasSoundLog, HasOneOwner, IsNotStuck}
 use Rattle.text_programs.specs.Moments.{EndsSoundly}
+use Rattle.text_programs.specs.Offers.{OffersExactly}
 use Rattle.mu_command.proofs.program.mu.Goals as goal
 
 pub returns-clause-refused : goal.returns-clause-refused
@@ -17,6 +18,9 @@ returns-clause-accepted g c = λ s. accepted_cause _ _ _ _ _ _ _ c.answer.ensure
 
 pub returns-clause-sound_logs : goal.returns-clause-sound_logs
 returns-clause-sound_logs g c = of_sound HasSoundLog (λ p c m. m.log) c.args.words.now (c.runs_are_sound.ensures c.args.words.now)
+
+pub returns-clause-offered : goal.returns-clause-offered
+returns-clause-offered g c = of_sound OffersExactly (λ p c m. m.offers) c.args.words.now (c.runs_are_sound.ensures c.args.words.now)
 
 pub returns-clause-one_owner : goal.returns-clause-one_owner
 returns-clause-one_owner g c = of_sound HasOneOwner (λ p c m. m.owners) c.args.words.now (c.runs_are_sound.ensures c.args.words.now)
