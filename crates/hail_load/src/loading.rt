@@ -29,6 +29,28 @@ use typed_heap::{CellId, Heap, HeapFault};
 /// No heap has more objects.
 const MOST_OBJECTS: u32 = 4294967293;
 
+/// What the commands of a script are carried out with.
+#[derive(Clone, Copy)]
+struct Loader<'a> {
+    alloc: Global,
+    code: &'a Checked,
+}
+
+/// What a directive that makes an object begins with: its place, and the object's name.
+#[derive(Clone, Copy)]
+struct Naming<'a> {
+    place: usize,
+    name: &'a Name,
+}
+
+impl<'a> Naming<'a> {
+    fn new(place: usize, name: &'a Name) -> Naming<'a>
+        ensures { result ≡ record { place = place; name = name.entry } }
+    {
+        Naming { place, name }
+    }
+}
+
 /// Keeps the name of the object that is made next.
 fn name_next(
     alloc: Global,
@@ -63,50 +85,52 @@ fn refused(fault: HeapFault, place: usize) -> LoadFault
 
 /// Makes an object of a type that is no hybrid.
 fn make_object(
-    alloc: Global,
-    code: &Checked,
+    loader: Loader,
     heap: &mut Heap,
     made: &mut Scope<Made>,
-    place: usize,
-    name: &Name,
+    naming: Naming,
     t: u32,
 ) -> Result<(), LoadFault>
-    requires known { IsKnown (code_of code.now) }
-    requires t { t < length (code_of code.now).graph }
-    ensures made { Makes (make (code_of code.now) (store_of heap.old made.old) place name.now (Value t)) (store_of heap.new made.new) result }
+    requires known { IsKnown (code_of loader.code.now) }
+    requires t { t < length (code_of loader.code.now).graph }
+    ensures made { Makes (make (code_of loader.entry.code.now) (store_of heap.old made.old) naming.entry.place naming.entry.name.now (Value t)) (store_of heap.new made.new) result }
     ensures err { OnErr result (heap.new ≡ heap.old) }
     ensures whole { AreWhole heap.old.objects → AreWhole heap.new.objects }
-    ensures there { OnOk result (AreThere (code_of code.now).graph made.old → AreThere (code_of code.now).graph made.new) }
+    ensures there { OnOk result (AreThere (code_of loader.entry.code.now).graph made.old → AreThere (code_of loader.entry.code.now).graph made.new) }
 {
-    name_next(alloc, heap, made, name, Part::Value(t))?;
-    match heap.new_object(code.classes(), t) {
+    name_next(loader.alloc, heap, made, naming.name, Part::Value(t))?;
+    match heap.new_object(loader.code.classes(), t) {
         Ok(_) => Ok(()),
-        Err(fault) => Err(refused(fault, place)),
+        Err(fault) => Err(refused(fault, naming.place)),
     }
 }
 
 /// Makes an object of a hybrid, with so many elements.
 fn make_hybrid(
-    alloc: Global,
-    code: &Checked,
+    loader: Loader,
     heap: &mut Heap,
     made: &mut Scope<Made>,
-    place: usize,
-    name: &Name,
+    naming: Naming,
     t: u32,
     many: u128,
 ) -> Result<(), LoadFault>
-    requires known { IsKnown (code_of code.now) }
-    requires t { t < length (code_of code.now).graph }
-    ensures made { Makes (make (code_of code.now) (store_of heap.old made.old) place name.now (Hybrid t many)) (store_of heap.new made.new) result }
+    requires known { IsKnown (code_of loader.code.now) }
+    requires t { t < length (code_of loader.code.now).graph }
+    ensures made { Makes (make (code_of loader.entry.code.now) (store_of heap.old made.old) naming.entry.place naming.entry.name.now (Hybrid t many)) (store_of heap.new made.new) result }
     ensures err { OnErr result (heap.new ≡ heap.old) }
     ensures whole { AreWhole heap.old.objects → AreWhole heap.new.objects }
-    ensures there { OnOk result (AreThere (code_of code.now).graph made.old → AreThere (code_of code.now).graph made.new) }
+    ensures there { OnOk result (AreThere (code_of loader.entry.code.now).graph made.old → AreThere (code_of loader.entry.code.now).graph made.new) }
 {
-    name_next(alloc, heap, made, name, Part::Hybrid { of_type: t, many })?;
-    match heap.new_hybrid(code.classes(), t, many) {
+    name_next(
+        loader.alloc,
+        heap,
+        made,
+        naming.name,
+        Part::Hybrid { of_type: t, many },
+    )?;
+    match heap.new_hybrid(loader.code.classes(), t, many) {
         Ok(_) => Ok(()),
-        Err(fault) => Err(refused(fault, place)),
+        Err(fault) => Err(refused(fault, naming.place)),
     }
 }
 
@@ -136,23 +160,21 @@ fn wrong_type(of_type: &Name) -> Result<(), LoadFault>
 
 /// `.new`
 fn new_object(
-    alloc: Global,
-    code: &Checked,
+    loader: Loader,
     heap: &mut Heap,
     made: &mut Scope<Made>,
-    place: usize,
-    name: &Name,
+    naming: Naming,
     of_type: &Name,
 ) -> Result<(), LoadFault>
-    requires known { IsKnown (code_of code.now) }
-    ensures made { Makes (new_of (code_of code.now) (store_of heap.old made.old) place name.now of_type.now (written_number (found (code_of code.now).names of_type.now.text))) (store_of heap.new made.new) result }
+    requires known { IsKnown (code_of loader.code.now) }
+    ensures made { Makes (new_of (code_of loader.entry.code.now) (store_of heap.old made.old) naming.entry.place naming.entry.name.now of_type.now (written_number (found (code_of loader.entry.code.now).names of_type.now.text))) (store_of heap.new made.new) result }
     ensures err { OnErr result (heap.new ≡ heap.old) }
     ensures whole { AreWhole heap.old.objects → AreWhole heap.new.objects }
-    ensures there { OnOk result (AreThere (code_of code.now).graph made.old → AreThere (code_of code.now).graph made.new) }
+    ensures there { OnOk result (AreThere (code_of loader.entry.code.now).graph made.old → AreThere (code_of loader.entry.code.now).graph made.new) }
 {
-    match code.tables().type_named(of_type) {
-        Some(t) => if is_no_hybrid(code.classes().definition(t)) {
-            make_object(alloc, code, heap, made, place, name, t)
+    match loader.code.tables().type_named(of_type) {
+        Some(t) => if is_no_hybrid(loader.code.classes().definition(t)) {
+            make_object(loader, heap, made, naming, t)
         } else {
             wrong_type(of_type)
         },
@@ -162,24 +184,22 @@ fn new_object(
 
 /// `.newhybrid`
 fn new_hybrid(
-    alloc: Global,
-    code: &Checked,
+    loader: Loader,
     heap: &mut Heap,
     made: &mut Scope<Made>,
-    place: usize,
-    name: &Name,
+    naming: Naming,
     of_type: &Name,
     many: u128,
 ) -> Result<(), LoadFault>
-    requires known { IsKnown (code_of code.now) }
-    ensures made { Makes (newhybrid_of (code_of code.now) (store_of heap.old made.old) place name.now of_type.now many (written_number (found (code_of code.now).names of_type.now.text))) (store_of heap.new made.new) result }
+    requires known { IsKnown (code_of loader.code.now) }
+    ensures made { Makes (newhybrid_of (code_of loader.entry.code.now) (store_of heap.old made.old) naming.entry.place naming.entry.name.now of_type.now many (written_number (found (code_of loader.entry.code.now).names of_type.now.text))) (store_of heap.new made.new) result }
     ensures err { OnErr result (heap.new ≡ heap.old) }
     ensures whole { AreWhole heap.old.objects → AreWhole heap.new.objects }
-    ensures there { OnOk result (AreThere (code_of code.now).graph made.old → AreThere (code_of code.now).graph made.new) }
+    ensures there { OnOk result (AreThere (code_of loader.entry.code.now).graph made.old → AreThere (code_of loader.entry.code.now).graph made.new) }
 {
-    match code.tables().type_named(of_type) {
-        Some(t) => if is_hybrid(code.classes().definition(t)) {
-            make_hybrid(alloc, code, heap, made, place, name, t, many)
+    match loader.code.tables().type_named(of_type) {
+        Some(t) => if is_hybrid(loader.code.classes().definition(t)) {
+            make_hybrid(loader, heap, made, naming, t, many)
         } else {
             wrong_type(of_type)
         },
@@ -208,69 +228,65 @@ fn fill(heap: &mut Heap, spot: Spot, scalars: &[Scalar]) -> Result<(), AllocErro
     Ok(())
 }
 
-/// `.init`: the target is found first, then the source is judged whole, and then its cells are set.
+/// `.init`: the target is found first, then the source is judged whole, and then its cells are set. What was in `scalars` is lost: one
+/// list is there for all commands, so that its memory is kept from one to the next.
 fn init(
-    alloc: Global,
-    code: &Checked,
+    loader: Loader,
     heap: &mut Heap,
     made: &Scope<Made>,
     target: &Target,
     source: &[Piece],
+    scalars: &mut Vec<Scalar>,
 ) -> Result<(), LoadFault>
-    requires known { IsKnown (code_of code.now) }
-    requires made { AreThere (code_of code.now).graph made.now }
+    requires known { IsKnown (code_of loader.code.now) }
+    requires made { AreThere (code_of loader.code.now).graph made.now }
     requires whole { AreWhole heap.old.objects }
-    ensures made { Makes (init_of (code_of code.now) (store_of heap.old made.now) target.now source.now) (store_of heap.new made.now) result }
+    ensures made { Makes (init_of (code_of loader.entry.code.now) (store_of heap.old made.now) target.now source.now) (store_of heap.new made.now) result }
     ensures err { OnErr result (IsSame heap.old heap.new) }
     ensures whole { AreWhole heap.new.objects }
 {
+    let code = loader.code;
     let spot = target_spot(code, made, &target.root, target.indexes.as_slice())?;
-    let mut scalars = Vec::new(alloc);
+    scalars.clear();
     let scene = Scene { code, heap, made };
-    judge(alloc, scene, spot.part, source, &mut scalars)?;
-    fill(heap, spot, &scalars)?;
+    judge(loader.alloc, scene, spot.part, source, scalars)?;
+    fill(heap, spot, scalars)?;
     Ok(())
 }
 
 /// One command. After a refusal the objects are as before.
 fn perform(
-    alloc: Global,
-    code: &Checked,
+    loader: Loader,
     heap: &mut Heap,
     made: &mut Scope<Made>,
     command: &Command,
+    scalars: &mut Vec<Scalar>,
 ) -> Result<(), LoadFault>
-    requires known { IsKnown (code_of code.now) }
-    requires there { AreThere (code_of code.now).graph made.old }
+    requires known { IsKnown (code_of loader.code.now) }
+    requires there { AreThere (code_of loader.code.now).graph made.old }
     requires whole { AreWhole heap.old.objects }
-    ensures made { Makes (done (code_of code.now) (store_of heap.old made.old) command.now) (store_of heap.new made.new) result }
+    ensures made { Makes (done (code_of loader.entry.code.now) (store_of heap.old made.old) command.now) (store_of heap.new made.new) result }
     ensures err { OnErr result (IsSame heap.old heap.new) }
     ensures whole { AreWhole heap.new.objects }
-    ensures there { OnOk result (AreThere (code_of code.now).graph made.new) }
+    ensures there { OnOk result (AreThere (code_of loader.entry.code.now).graph made.new) }
 {
     match command {
         Command::New {
             place,
             object,
             of_type,
-        } => new_object(alloc, code, heap, made, *place, object, of_type),
+        } => new_object(loader, heap, made, Naming::new(*place, object), of_type),
         Command::NewHybrid {
             place,
             object,
             of_type,
             length,
-        } => new_hybrid(
-            alloc,
-            code,
-            heap,
-            made,
-            *place,
-            object,
-            of_type,
-            length.number.magnitude,
-        ),
+        } => {
+            let naming = Naming::new(*place, object);
+            new_hybrid(loader, heap, made, naming, of_type, length.number.magnitude)
+        }
         Command::Init { target, source } => {
-            init(alloc, code, heap, made, target, source.as_slice())
+            init(loader, heap, made, target, source.as_slice(), scalars)
         }
     }
 }
@@ -313,9 +329,11 @@ pub fn load_hail(
     ensures { Loads (code_of code.now) hail.now heap.old heap.new result }
 {
     tell_known(code);
+    let loader = Loader { alloc, code };
     let mut made = Scope::new(alloc);
+    let mut scalars = Vec::new(alloc);
     for command in hail.as_slice() {
-        perform(alloc, code, heap, &mut made, command)?;
+        perform(loader, heap, &mut made, command, &mut scalars)?;
     }
     Ok(())
 }

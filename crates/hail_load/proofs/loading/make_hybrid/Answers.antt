@@ -7,10 +7,10 @@ pub returns-in-Ok-clause-made : goal.returns-in-Ok-clause-made
 returns-in-Ok-clause-made c =
     let objects = rw c.classes.ensures.same at c.in-Ok.ensures.objects in
     let left = rw c.classes.ensures.same at c.in-Ok.ensures.left in
-    rw c.in_ok-name_next.ensures.made (hybrid_done (code_of c.args.code.now) c.args.heap.now c.new_hybrid.new.self c.args.made.now c.args.place c.args.name.now c.args.t c.args.many objects left)
+    rw c.in_ok-name_next.ensures.made (hybrid_done (code_of c.args.loader.code.now) c.args.heap.now c.new_hybrid.new.self c.args.made.now c.args.naming.place c.args.naming.name.now c.args.t c.args.many objects left)
 
 pub returns-in-Err-clause-made : goal.returns-in-Err-clause-made
 returns-in-Err-clause-made c =
     let full = rw c.classes.ensures.same at c.new_hybrid.ensures.full in
     let enough = rw c.classes.ensures.same at c.new_hybrid.ensures.enough in
-    rw c.refused.ensures (hybrid_refused (code_of c.args.code.now) (store_of c.args.heap.now c.args.made.now) (store_of c.new_hybrid.new.self c.name_next.new.made) c.args.place c.args.name.now c.args.t c.args.many c.new_hybrid.result c.in-Err.fault _ _ c.in-Err.is full enough)
+    rw c.refused.ensures (hybrid_refused (code_of c.args.loader.code.now) (store_of c.args.heap.now c.args.made.now) (store_of c.new_hybrid.new.self c.name_next.new.made) c.args.naming.place c.args.naming.name.now c.args.t c.args.many c.new_hybrid.result c.in-Err.fault _ _ c.in-Err.is full enough)
