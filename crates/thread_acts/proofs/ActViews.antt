@@ -1,5 +1,5 @@
 -- Lemmas of acts, over the view of a state and its parts.
-use Rattle.std.proofs.Common.{◌≡◌, ◌≢◌, refl, Bool, true, ℕ, zero, suc, ◌+◌, ◌<◌, List, [], ◌∷◌, ◌++◌, None, Some, IsSome, Result, Ok, Err, IfOk, IfSome, IsSomeAnd, length, slice_get, slice_index_or, take, drop, sym, ◌∙◌, ap, subst, arith}
+use Rattle.std.proofs.Common.{◌≡◌, ◌≢◌, refl, Bool, true, ℕ, zero, suc, ◌+◌, ◌<◌, List, [], ◌∷◌, ◌++◌, None, Some, IsSome, IfSome, IsSomeAnd, length, slice_get, slice_index_or, take, drop, sym, ◌∙◌, ap, subst, arith}
 use Rattle.std.specs.List.{flat_map}
 use Rattle.std.specs.Prelude.{◌==◌}
 use Rattle.std.proofs.lemmas.Bool.{eqb-true}
@@ -10,8 +10,7 @@ use Rattle.mu_values.specs.Slots.{TypedValues}
 use Rattle.code_check.specs.declared.code.Code.{Code}
 use Rattle.code_check.specs.declared.code.Target.{Target}
 use Rattle.bundle_check.specs.declared.code.BlockCode.{BlockCode}
-use Rattle.bundle_check.specs.declared.code.Function.{Function}
-use Rattle.bundle_check.specs.Checking.{bundle_blocks, bundle_functions}
+use Rattle.bundle_check.specs.Checking.{bundle_blocks}
 use Rattle.bundle_check.specs.Answers.{code_at}
 use Rattle.typed_heap.specs.Objects.{HeapObject}
 use Rattle.frames.specs.Activations.{Value, Goal, Activation}
@@ -19,9 +18,8 @@ use Rattle.frames.specs.Chains.{Chain, frames_of, nothing_kept, stands}
 use Rattle.frames.specs.FrameOf.{frame_of, goal_of}
 use Rattle.frames.specs.Handlers.{first_handler}
 use Rattle.frames.specs.declared.frame.Frame.{Frame}
-use Rattle.mu_model.specs.declared.endings.StepEnd.{StepEnd}
 use Rattle.mu_model.specs.declared.endings.Ending.{Ending}
-use Rattle.mu_model.specs.Acts.{Gives, Calls, Returns, Throws}
+use Rattle.mu_model.specs.Acts.{Gives, Returns, Throws}
 use Rattle.mu_model.specs.Outcomes.{Outcome, Stuck}
 use Rattle.model_numbers.specs.Sources.{goal_at}
 use Rattle.model_numbers.specs.Numbered.{optional_goal_at, kept_at}
@@ -30,8 +28,8 @@ use Rattle.mu_model.specs.declared.lines.Line.TheVariants as lines
 use Rattle.mu_model.specs.declared.lines.Note.TheVariants.{Returned}
 use Rattle.mu_model.specs.declared.endings.StepEnd.TheVariants.{Went}
 use Rattle.thread_acts.specs.Held.{Held}
-use Rattle.thread_acts.specs.Acting.{answers, went_on, acting, faulting, goes_on, gets, entered, awaits, awaited, entered_above, objects_end, thread_ended}
-use Rattle.thread_acts.specs.ActLaws.{given_there, given_is, fault_gets, fault_goes, gets_there, call_so, awaited_there, return_there, return_is, return_next, throw_is, drop_at, return_finishes}
+use Rattle.thread_acts.specs.Acting.{answers, went_on, acting, faulting, goes_on, gets, awaits, entered_above, objects_end, thread_ended}
+use Rattle.thread_acts.specs.ActLaws.{given_there, given_is, fault_gets, fault_goes, gets_there, awaited_there, return_there, return_is, return_next, throw_is, drop_at, return_finishes}
 use Rattle.thread_acts.proofs.Passing.{handled}
 
 -- ---- results
@@ -47,13 +45,6 @@ gave bundle s v vs fr o view h way below is =
     subst (λ s. acting bundle s (Gives vs) ≢ Stuck → o ≡ acting bundle s (Gives vs)) view main h
 
 -- ---- calls
-
-pub called_so : {E : Type 0} (bundle : List Item) (s t : Held) (f block : ℕ) (vs : List Value) (function : Function) (r : Result StepEnd E) → acting bundle s (Calls f vs) ≢ Stuck
-    → slice_get (bundle_functions bundle) f ≡ Some function → function.first ≡ Some block
-    → IfOk r (λ end. IfSome (awaited bundle s.frames.top f) (λ w. answers end t ≡ went_on (record s { frames = entered_above s.frames (entered block vs) w })))
-    → IfOk r (λ end. answers end t ≡ acting bundle s (Calls f vs))
-called_so bundle s t f block vs function (Ok end) h e first so = call_so bundle s f block vs function (answers end t) h e first so
-called_so bundle s t f block vs function (Err e') h e first so = tt
 
 no_number : (ns : List ℕ) → length ns ≡ 0 → ns ≡ []
 no_number [] e = refl

@@ -12,14 +12,12 @@ ghost use Rattle.thread_acts.specs.Acting.{answers, went_on, acting, awaited, en
 
 use crate::objects::end_objects;
 use crate::state::State;
-use crate::waiting::{
-    enter, enter_for, entered, read_classes_given, waiting, waiting_in, waits_for_values,
-};
+use crate::waiting::{enter, entered, read_classes_given, waiting, waits_for_values};
 use bundle_check::Checked;
 use client_hooks::Determined;
 use frames::Frames;
 use mem_axioms::Memory;
-use mu_model::{Case, StepEnd};
+use mu_model::{Case, Lines, StepEnd};
 use mu_values::Slots;
 use std::alloc::{AllocError, Global};
 use std::mem;
@@ -59,33 +57,14 @@ impl<M: Memory, C: Determined> State<M, C> {
     {
         match code.function(function).first {
             None => Ok(self.undefined(Case::NoBody)),
-            Some(block) => self.call_at(code, function, block, room),
+            Some(_) => {
+                if self.call_at_once(code, function, room) {
+                    Ok(StepEnd::Went(Lines::new(self.alloc)))
+                } else {
+                    Err(AllocError)
+                }
+            }
         }
-    }
-
-    /// The thread calls a function with that first block.
-    fn call_at(
-        &mut self,
-        code: &Checked,
-        function: u32,
-        block: u32,
-        room: &mut Room,
-    ) -> Result<StepEnd, AllocError>
-        requires left { self.old.left ≡ true }
-        requires room { self.old.steps < self.old.budget }
-        requires there { IsSome (awaited code.now self.old.frames.top function) }
-        ensures ok { IfOk result (λ end. IfSome (awaited code.now self.old.frames.top function) (λ w. answers end self.new ≡ went_on (record self.old { frames = entered_above self.old.frames (entered block room.old.values.values) w }))) }
-        ensures err { OnErr result (self.new ≡ self.old) }
-        ensures stays { IfOk result (λ end. Stays end self.old self.new) }
-    {
-        let waiting = waiting(self.alloc, code, self.frames.top(), function)?;
-        let values = values_out(self.alloc, room);
-        enter(
-            &mut self.frames,
-            entered(self.alloc, block, values),
-            waiting,
-        )?;
-        Ok(self.went())
     }
 
     /// The thread calls a function, with the values in the room, where that has a body and memory is found. Else the thread is as
@@ -156,12 +135,12 @@ impl<M: Memory, C: Determined> State<M, C> {
         ensures left { result ≡ false → self.new ≡ self.old }
     {
         let top = self.frames.top();
-        let Ok(mut waiting) = waiting_in(self.alloc, code, top, function, &mut room.waits) else {
+        let Ok(mut waiting) = waiting(self.alloc, code, top, function, &mut room.waits) else {
             return false;
         };
         let values = values_out(self.alloc, room);
         let frame = entered(self.alloc, block, values);
-        if enter_for(&mut self.frames, frame, &mut waiting).is_err() {
+        if enter(&mut self.frames, frame, &mut waiting).is_err() {
             return false;
         }
         waiting.leave_room(&mut room.waits);

@@ -60,8 +60,10 @@ impl<M: Memory, C: Determined> State<M, C> {
     {
         if self.frames.count() == 1 {
             self.finish(code, room)
+        } else if self.return_at_once(code, room, out) {
+            Ok(StepEnd::Went(Lines::new(self.alloc)))
         } else {
-            self.give_below(code, room, out)
+            Err(AllocError)
         }
     }
 
@@ -83,29 +85,6 @@ impl<M: Memory, C: Determined> State<M, C> {
         Ok(StepEnd::Went(lines))
     }
 
-    /// The top frame ends, and the one below it goes on with the values in the room.
-    #[tactic(auto, using(crate::specs::ActLaws::returning))]
-    fn give_below(
-        &mut self,
-        code: &Checked,
-        room: &mut Room,
-        out: &mut Slots,
-    ) -> Result<StepEnd, AllocError>
-        requires left { self.old.left ≡ true }
-        requires room { self.old.steps < self.old.budget }
-        requires below { 0 < length self.old.frames.below }
-        requires there { acting code.now self.old (acts.Returns (record { types = room.old.types.members; values = room.old.values.values })) ≢ Stuck }
-        ensures ok { IfOk result (λ end. answers end self.new ≡ acting code.now self.old (acts.Returns (record { types = room.old.types.members; values = room.old.values.values }))) }
-        ensures err { OnErr result (self.new ≡ self.old) }
-        ensures stays { IfOk result (λ end. Stays end self.old self.new) }
-    {
-        let place = passing(code, self.frames.frame(1), &room.values, out)?;
-        end_objects(&mut self.heap, self.frames.top().cells.as_slice());
-        leave_for(&mut self.frames, &mut room.others);
-        stand(&mut self.frames, place, out);
-        Ok(self.went())
-    }
-
     /// The thread returns from its function to the frame below it, which goes on with the values in the room, where there is one and memory
     /// is found. Else nothing changes. It is not inlined, so that a step of another instruction does not carry its code.
     #[tactic(auto, using(crate::specs::ActLaws::only_frame))]
@@ -118,21 +97,8 @@ impl<M: Memory, C: Determined> State<M, C> {
         ensures left { result ≡ false → self.new ≡ self.old }
     {
         if self.frames.count() == 1 {
-            false
-        } else {
-            self.leave_at_once(code, room, out)
+            return false;
         }
-    }
-
-    /// The top frame ends, and the one below it goes on with the values in the room, where memory is found. Else nothing changes.
-    fn leave_at_once(&mut self, code: &Checked, room: &mut Room, out: &mut Slots) -> bool
-        requires left { self.old.left ≡ true }
-        requires room { self.old.steps < self.old.budget }
-        requires below { 0 < length self.old.frames.below }
-        requires there { acting code.now self.old (acts.Returns (record { types = room.old.types.members; values = room.old.values.values })) ≢ Stuck }
-        ensures made { result ≡ true → answers (Went []) self.new ≡ acting code.now self.old (acts.Returns (record { types = room.old.types.members; values = room.old.values.values })) }
-        ensures left { result ≡ false → self.new ≡ self.old }
-    {
         match next_place(code, self.frames.frame(1)) {
             Some(at) => self.leave_next(at, room),
             None => self.leave_elsewhere(code, room, out),

@@ -104,22 +104,8 @@ fn kept(alloc: Global, types: &[u32], own: &Slots, names: &[u32]) -> Result<Pass
     Ok(Passed::new(classes, values))
 }
 
-/// What a frame waits for that calls a function.
+/// What a frame waits for that calls a function, with the room of that list for the classes. An empty list takes its place.
 pub(crate) fn waiting(
-    alloc: Global,
-    code: &Checked,
-    frame: &Frame,
-    function: u32,
-) -> Result<Wait, AllocError>
-    requires { IsSome (awaited code.now (frame_of frame.now) function) }
-    ensures { IfOk result (λ w. awaited code.now (frame_of frame.now) function ≡ Some w) }
-{
-    let mut waits = Types::new(alloc);
-    waiting_in(alloc, code, frame, function, &mut waits)
-}
-
-/// The same, with the room of that list for the classes. An empty list takes its place.
-pub(crate) fn waiting_in(
     alloc: Global,
     code: &Checked,
     frame: &Frame,
@@ -208,20 +194,9 @@ pub fn exchange_on_top(frames: &mut Frames, waiting: &mut Wait)
     exchange(frames.top_mut(), waiting)
 }
 
-/// Puts a frame on top, below which the one that was there waits so. Where that is refused the frames are as before.
-pub(crate) fn enter(frames: &mut Frames, frame: Frame, mut waiting: Wait) -> Result<(), AllocError>
-    ensures ok { OnOk result (frames.new ≡ entered_above frames.old (frame_of frame) waiting) }
-    ensures err { OnErr result (frames.new ≡ frames.old) }
-{
-    enter_for(frames, frame, &mut waiting)
-}
-
-/// The same. What the frame waited for before stands then where what it waits for stood.
-pub(crate) fn enter_for(
-    frames: &mut Frames,
-    frame: Frame,
-    waiting: &mut Wait,
-) -> Result<(), AllocError>
+/// Puts a frame on top, below which the one that was there waits so. What it waited for before stands then where what it waits for stood.
+/// Where that is refused the frames are as before.
+pub(crate) fn enter(frames: &mut Frames, frame: Frame, waiting: &mut Wait) -> Result<(), AllocError>
     ensures ok { OnOk result (frames.new ≡ entered_above frames.old (frame_of frame) waiting.old) }
     ensures err { OnErr result (frames.new ≡ frames.old) }
 {

@@ -1,7 +1,7 @@
 use Rattle.frames.specs.FrameOf.{frame_of}
 use Rattle.thread_acts.specs.ActLaws.{goes_on_there}
 use Rattle.thread_acts.proofs.ActViews.{returns_there, returned_next}
-use Rattle.thread_acts.proofs.state.State.leave_at_once.Goals as goal
+use Rattle.thread_acts.proofs.state.State.return_at_once.Goals as goal
 
 pub next_place-requires : goal.next_place-requires
 next_place-requires g c = λ fresh. goes_on_there _ (frame_of c.frame.result.now) _ fresh (returns_there _ _ _ _ _ c.self.view_is c.requires.there c.frame.ensures)
