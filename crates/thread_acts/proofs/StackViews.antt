@@ -1,5 +1,5 @@
 -- Lemmas of acts on stacks, over the view of a state and its parts.
-use Rattle.std.proofs.Common.{◌≡◌, ◌≢◌, ℕ, ◌+◌, ◌<◌, true, List, [], ◌∷◌, ◌++◌, Option, Some, None, IsSome, IsSomeAnd, length, slice_get, slice_set, refl, sym, ◌∙◌, ap, subst}
+use Rattle.std.proofs.Common.{◌≡◌, ◌≢◌, ℕ, ◌+◌, ◌<◌, true, List, [], ◌∷◌, ◌++◌, Some, IsSome, length, slice_get, slice_set, sym, ◌∙◌, ap, subst}
 use Rattle.std.specs.List.{flat_map}
 use Rattle.ir_tree.specs.declared.items.Item.{Item}
 use Rattle.mu_values.specs.declared.scalars.Scalar.{Scalar}
@@ -32,19 +32,14 @@ use Rattle.thread_acts.proofs.AccessViews.{answers_lines}
 one_value : (vs cleared : List Value) (x : Scalar) → cleared ≡ [] → vs ≡ cleared ++ (x ∷ []) ∷ [] → vs ≡ (x ∷ []) ∷ []
 one_value vs cleared x none is = is ∙ ap (λ vs. vs ++ (x ∷ []) ∷ []) none
 
-first_there : (o : Option Function) (block : ℕ) → IsSomeAnd o (λ f. f.first ≡ Some block) → (f : Function) × (o ≡ Some f) × (f.first ≡ Some block)
-first_there None block h = absurd h
-first_there (Some f) block h = (f, refl, h)
-
-pub makes_there : (bundle : List Item) (s v : Held) (f block k : ℕ) (top : Activation) (vs cleared : List Value) → v ≡ s → acting bundle s (MakesStack f) ≢ Stuck → IsSomeAnd (slice_get (bundle_functions bundle) f) (λ f. f.first ≡ Some block)
-    → k ≡ length v.seats.stacks → top ≡ v.frames.top → cleared ≡ [] → vs ≡ cleared ++ (scalars.Stack k ∷ []) ∷ [] → IsSome (goes_on bundle top vs)
-makes_there bundle s v f block k top vs cleared view h body count at none is =
-    let b = first_there (slice_get (bundle_functions bundle) f) block body in
+pub makes_there : (bundle : List Item) (s v : Held) (f block k : ℕ) (function : Function) (top : Activation) (vs cleared : List Value) → v ≡ s → acting bundle s (MakesStack f) ≢ Stuck
+    → slice_get (bundle_functions bundle) f ≡ Some function → function.first ≡ Some block → k ≡ length v.seats.stacks → top ≡ v.frames.top → cleared ≡ [] → vs ≡ cleared ++ (scalars.Stack k ∷ []) ∷ [] → IsSome (goes_on bundle top vs)
+makes_there bundle s v f block k function top vs cleared view h body first count at none is =
     let n : k ≡ length s.seats.stacks = count ∙ ap (λ (s : Held). length s.seats.stacks) view in
     let here : top ≡ s.frames.top = at ∙ ap (λ (s : Held). s.frames.top) view in
     let one : vs ≡ (scalars.Stack (length s.seats.stacks) ∷ []) ∷ [] = one_value vs cleared (scalars.Stack k) none is ∙ ap (λ k. (scalars.Stack k ∷ []) ∷ []) n in
     subst (λ vs. IsSome (goes_on bundle top vs)) (sym one)
-    (subst (λ f. IsSome (goes_on bundle f ((scalars.Stack (length s.seats.stacks) ∷ []) ∷ []))) (sym here) (makes_goes bundle s f block b.0 h b.1 b.2))
+    (subst (λ f. IsSome (goes_on bundle f ((scalars.Stack (length s.seats.stacks) ∷ []) ∷ []))) (sym here) (makes_goes bundle s f block function h body first))
 
 -- what was answered and changed
 pub record Makes (bundle : List Item) (v : Held) (f block k number to at : ℕ) (top : Activation) (vs cleared out : List Value) (fr : Chain) (st : Seats) (lg after : List Event) (rl kept : Rule) (ls : List Line) : Type 0 where
@@ -84,18 +79,17 @@ module _ (bundle : List Item) (v : Held) (f block k number to at : ℕ) (top : A
       ∙ ap (λ lg. answers (Went (lines.Event (length v.log) (stack_event v.thread (length v.seats.stacks)) ∷ [])) (record v { frames = record v.frames { top = stands v.frames.top to at out }; seats = with_stack block (classes_taken (bundle_tables bundle) f) v.seats; log = lg; rule = kept; steps = v.steps + 1 })) log_is
       ∙ ap (λ rl. answers (Went (lines.Event (length v.log) (stack_event v.thread (length v.seats.stacks)) ∷ [])) (record (stack_made bundle v f block (stands v.frames.top to at out)) { rule = rl; steps = v.steps + 1 })) (q.rule_kept ∙ q.same_rule)
 
-  made_here : v.left ≡ true → acting bundle v (MakesStack f) ≢ Stuck → IsSomeAnd (slice_get (bundle_functions bundle) f) (λ f. f.first ≡ Some block) → v.stack < length v.seats.stacks
+  made_here : (function : Function) → v.left ≡ true → acting bundle v (MakesStack f) ≢ Stuck → slice_get (bundle_functions bundle) f ≡ Some function → function.first ≡ Some block → v.stack < length v.seats.stacks
       → answers (Went ls) (record v { frames = fr; seats = st; log = after; rule = kept; steps = v.steps + 1 }) ≡ acting bundle v (MakesStack f)
-  made_here left h body low =
-      let b = first_there (slice_get (bundle_functions bundle) f) block body in
+  made_here function left h body first low =
       all_is ∙ answers_lines (stack_made bundle v f block (stands v.frames.top to at out)) (lines.Event (length v.log) (stack_event v.thread (length v.seats.stacks)) ∷ []) left
-      ∙ sym (makes_is bundle v f block b.0 (stands v.frames.top to at out) h b.1 b.2 low way_is)
+      ∙ sym (makes_is bundle v f block function (stands v.frames.top to at out) h body first low way_is)
 
-  pub made_so : (s : Held) → v ≡ s → s.left ≡ true → acting bundle s (MakesStack f) ≢ Stuck → IsSomeAnd (slice_get (bundle_functions bundle) f) (λ f. f.first ≡ Some block) → v.stack < length v.seats.stacks
+  pub made_so : (s : Held) (function : Function) → v ≡ s → s.left ≡ true → acting bundle s (MakesStack f) ≢ Stuck → slice_get (bundle_functions bundle) f ≡ Some function → function.first ≡ Some block → v.stack < length v.seats.stacks
       → answers (Went ls) (record v { frames = fr; seats = st; log = after; rule = kept; steps = v.steps + 1 }) ≡ acting bundle s (MakesStack f)
-  made_so s view left h body low =
+  made_so s function view left h body first low =
       subst (λ (s : Held). s.left ≡ true → acting bundle s (MakesStack f) ≢ Stuck → answers (Went ls) (record v { frames = fr; seats = st; log = after; rule = kept; steps = v.steps + 1 }) ≡ acting bundle s (MakesStack f)) view
-      (λ left h. made_here left h body low) left h
+      (λ left h. made_here function left h body first low) left h
 
 -- ---- a stack that is killed
 

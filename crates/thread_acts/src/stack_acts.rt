@@ -1,7 +1,7 @@
 // Stacks that are made and killed, a thread's own object, and what a thread tells of itself.
-ghost use Rattle.std.specs.Prelude.{◌≡◌, ◌≢◌, ◌<◌, IsSome, IsSomeAnd, Some, Err, IfOk, IfSome, IfNone, OnOk, OnErr, slice_get, true};
+ghost use Rattle.std.specs.Prelude.{◌≡◌, ◌≢◌, ◌<◌, IsSome, Some, Err, IfOk, IfSome, IfNone, OnOk, OnErr, slice_get, true};
 ghost use Rattle.mu_values.specs.declared.scalars.Scalar.TheVariants as scalars;
-ghost use Rattle.bundle_check.specs.Checking.{bundle_functions, bundle_tables};
+ghost use Rattle.bundle_check.specs.Checking.{bundle_tables};
 ghost use Rattle.frames.specs.FrameOf.{frame_of};
 ghost use Rattle.mu_model.specs.declared.endings.Case.TheVariants.{StackNotReady};
 ghost use Rattle.mu_model.specs.EnteringStacks.{ready};
@@ -180,29 +180,9 @@ impl<M: Memory, C: Determined> State<M, C> {
         ensures err { OnErr result (self.new ≡ self.old) }
         ensures stays { IfOk result (λ end. Stays end self.old self.new) }
     {
-        match code.function(function).first {
-            None => Ok(self.undefined(Case::NoBody)),
-            Some(block) => self.make_stack_at(code, function, block, values, out),
-        }
-    }
-
-    /// The thread makes a stack of a function with that first block.
-    fn make_stack_at(
-        &mut self,
-        code: &Checked,
-        function: u32,
-        block: u32,
-        values: &mut Slots,
-        out: &mut Slots,
-    ) -> Result<StepEnd, AllocError>
-        requires left { self.old.left ≡ true }
-        requires room { self.old.steps < self.old.budget }
-        requires there { acting code.now self.old (acts.MakesStack function) ≢ Stuck }
-        requires first { IsSomeAnd (slice_get (bundle_functions code.now) function) (λ f. f.first ≡ Some block) }
-        ensures ok { IfOk result (λ end. answers end self.new ≡ acting code.now self.old (acts.MakesStack function)) }
-        ensures err { OnErr result (self.new ≡ self.old) }
-        ensures stays { IfOk result (λ end. Stays end self.old self.new) }
-    {
+        let Some(block) = code.function(function).first else {
+            return Ok(self.undefined(Case::NoBody));
+        };
         let stack = self.seats.count();
         values.clear();
         values.push_scalar(Scalar::Stack(stack))?;
@@ -258,31 +238,9 @@ impl<M: Memory, C: Determined> State<M, C> {
         ensures err { OnErr result (self.new ≡ self.old) }
         ensures stays { IfOk result (λ end. Stays end self.old self.new) }
     {
-        match self.ready_stack(scalar) {
-            None => Ok(self.undefined(Case::StackNotReady)),
-            Some(stack) => self.kill_ready(code, scalar, stack, values, out),
-        }
-    }
-
-    /// The thread kills a stack that is ready, which the scalar names.
-    fn kill_ready(
-        &mut self,
-        code: &Checked,
-        scalar: Scalar,
-        stack: u32,
-        values: &mut Slots,
-        out: &mut Slots,
-    ) -> Result<StepEnd, AllocError>
-        requires left { self.old.left ≡ true }
-        requires room { self.old.steps < self.old.budget }
-        requires there { acting code.now self.old (acts.KillsStack scalar) ≢ Stuck }
-        requires named { scalar ≡ scalars.Stack stack }
-        requires other { stack ≢ self.old.stack }
-        requires ready { IsReady (slice_get self.old.seats.stacks stack) }
-        ensures ok { IfOk result (λ end. answers end self.new ≡ acting code.now self.old (acts.KillsStack scalar)) }
-        ensures err { OnErr result (self.new ≡ self.old) }
-        ensures stays { IfOk result (λ end. Stays end self.old self.new) }
-    {
+        let Some(stack) = self.ready_stack(scalar) else {
+            return Ok(self.undefined(Case::StackNotReady));
+        };
         values.clear();
         let place = passing(code, self.frames.top(), values, out)?;
         let frames = self.seats.kill(stack);
