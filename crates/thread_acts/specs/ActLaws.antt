@@ -27,7 +27,7 @@ use Rattle.mu_model.specs.declared.endings.Ending.{Ending}
 use Rattle.mu_model.specs.declared.endings.Case.TheVariants as cases
 use Rattle.mu_model.specs.Types.{classes_given}
 use Rattle.mu_model.specs.Configuration.{Active, Configuration}
-use Rattle.mu_model.specs.Acts.{Gives, Faults, Goes, Calls, Replaces, Returns, Throws, Exits, Doing, Program}
+use Rattle.mu_model.specs.Acts.{Act, Gives, Faults, Goes, Calls, Replaces, Returns, Throws, Exits, Doing, Program}
 use Rattle.mu_model.specs.Turns.{Turn, waiting}
 use Rattle.mu_model.specs.Frames.{called, passed, onward, arrived, caught, with_exception}
 use Rattle.mu_model.specs.Changes.{changed, frames_end}
@@ -348,6 +348,21 @@ no_body_is bundle f function e none = body_is bundle f function e ∙ ap (λ o. 
 pub first_is : (bundle : List Item) (f block : ℕ) (function : Function) → slice_get (bundle_functions bundle) f ≡ Some function → function.first ≡ Some block → body bundle f ≡ Some (Ok block)
 first_is bundle f block function e first = body_is bundle f function e ∙ ap (λ o. Some (ok_or o cases.NoBody)) first
 
+-- what is said of an act that tries the body of a function
+pub tries_there : (bundle : List Item) (s : Held) (a : Act) (f : ℕ) (go : Doing → ℕ → Outcome)
+    → ((d : Doing) → performed (numbered bundle) (begun s) (turn s d) a ≡ tried (numbered bundle) (begun s) (turn s d) (body bundle f) (go d)) → acting bundle s a ≢ Stuck → f < length (bundle_functions bundle)
+tries_there bundle s a f go by h =
+    let r = acting_there bundle s a h in
+    let q = tried_there (numbered bundle) s r.0 ℕ (body bundle f) (go r.0) (λ k. r.2 (by r.0 ∙ k)) in
+    body_there bundle f q.0 q.1
+
+pub tries_no_body : (bundle : List Item) (s : Held) (a : Act) (f : ℕ) (function : Function) (go : Doing → ℕ → Outcome)
+    → ((d : Doing) → performed (numbered bundle) (begun s) (turn s d) a ≡ tried (numbered bundle) (begun s) (turn s d) (body bundle f) (go d)) → acting bundle s a ≢ Stuck
+    → slice_get (bundle_functions bundle) f ≡ Some function → function.first ≡ None → acting bundle s a ≡ End [] (undefined_at s cases.NoBody)
+tries_no_body bundle s a f function go by h e none =
+    let r = acting_there bundle s a h in
+    acting_is bundle s a r.0 r.1 ∙ by r.0 ∙ tried_is (numbered bundle) s r.0 ℕ (body bundle f) (Err cases.NoBody) (go r.0) (no_body_is bundle f function e none)
+
 -- ---- calls
 
 call_go : List Item → Held → Doing → ℕ → List Value → ℕ → Outcome
@@ -355,17 +370,12 @@ call_go bundle s d f vs b = next (begun s) (turn s d) (with_some (waiting (turn 
 
 pub call_there : (bundle : List Item) (s : Held) (f : ℕ) (vs : List Value) → acting bundle s (Calls f vs) ≢ Stuck → f < length (bundle_functions bundle)
 unfolding call_go
-call_there bundle s f vs h =
-    let r = acting_there bundle s (Calls f vs) h in
-    let q = tried_there (numbered bundle) s r.0 ℕ (body bundle f) (call_go bundle s r.0 f vs) r.2 in
-    body_there bundle f q.0 q.1
+call_there bundle s f vs h = tries_there bundle s (Calls f vs) f (λ d. call_go bundle s d f vs) (λ d. refl) h
 
 pub call_without_body : (bundle : List Item) (s : Held) (f : ℕ) (vs : List Value) (function : Function) → acting bundle s (Calls f vs) ≢ Stuck → slice_get (bundle_functions bundle) f ≡ Some function → function.first ≡ None
     → acting bundle s (Calls f vs) ≡ End [] (undefined_at s cases.NoBody)
 unfolding call_go
-call_without_body bundle s f vs function h e none =
-    let r = acting_there bundle s (Calls f vs) h in
-    acting_is bundle s (Calls f vs) r.0 r.1 ∙ tried_is (numbered bundle) s r.0 ℕ (body bundle f) (Err cases.NoBody) (call_go bundle s r.0 f vs) (no_body_is bundle f function e none)
+call_without_body bundle s f vs function h e none = tries_no_body bundle s (Calls f vs) f function (λ d. call_go bundle s d f vs) (λ d. refl) h e none
 
 -- what a frame waits for, and the frame that waits
 pub waits_by : (o : Option (Option Goal)) (ks : Option TypedValues) (f : Activation) (cs : List ℕ) (w : Awaited)
@@ -489,17 +499,12 @@ replace_go bundle s d f vs b = next (frames_end (s.frames.top ∷ []) (begun s))
 
 pub replace_there : (bundle : List Item) (s : Held) (f : ℕ) (vs : List Value) → acting bundle s (Replaces f vs) ≢ Stuck → f < length (bundle_functions bundle)
 unfolding replace_go
-replace_there bundle s f vs h =
-    let r = acting_there bundle s (Replaces f vs) h in
-    let q = tried_there (numbered bundle) s r.0 ℕ (body bundle f) (replace_go bundle s r.0 f vs) r.2 in
-    body_there bundle f q.0 q.1
+replace_there bundle s f vs h = tries_there bundle s (Replaces f vs) f (λ d. replace_go bundle s d f vs) (λ d. refl) h
 
 pub replace_without_body : (bundle : List Item) (s : Held) (f : ℕ) (vs : List Value) (function : Function) → acting bundle s (Replaces f vs) ≢ Stuck → slice_get (bundle_functions bundle) f ≡ Some function → function.first ≡ None
     → acting bundle s (Replaces f vs) ≡ End [] (undefined_at s cases.NoBody)
 unfolding replace_go
-replace_without_body bundle s f vs function h e none =
-    let r = acting_there bundle s (Replaces f vs) h in
-    acting_is bundle s (Replaces f vs) r.0 r.1 ∙ tried_is (numbered bundle) s r.0 ℕ (body bundle f) (Err cases.NoBody) (replace_go bundle s r.0 f vs) (no_body_is bundle f function e none)
+replace_without_body bundle s f vs function h e none = tries_no_body bundle s (Replaces f vs) f function (λ d. replace_go bundle s d f vs) (λ d. refl) h e none
 
 pub replace_is : (bundle : List Item) (s : Held) (f block : ℕ) (vs : List Value) (function : Function) → acting bundle s (Replaces f vs) ≢ Stuck → slice_get (bundle_functions bundle) f ≡ Some function → function.first ≡ Some block
     → acting bundle s (Replaces f vs) ≡ went_on (record s { frames = record s.frames { top = entered block vs }; objects = objects_end s.objects s.frames.top.objects })

@@ -18,7 +18,6 @@ use Rattle.mu_model.specs.declared.endings.Case.TheVariants as cases
 use Rattle.mu_model.specs.Types.{classes_taken}
 use Rattle.mu_model.specs.Configuration.{Stack, Ready, Active, Dead, Thread, Configuration}
 use Rattle.mu_model.specs.Acts.{Gives, Tells, TellsOwn, SetsOwn, MakesStack, KillsStack, Doing}
-use Rattle.mu_model.specs.Turns.{Turn}
 use Rattle.mu_model.specs.Frames.{fresh_frame, passed}
 use Rattle.mu_model.specs.Changes.{changed, event, logged, stack_becomes, stack_dies, thread_changes}
 use Rattle.mu_model.specs.Outcomes.{Outcome, Next, End, Stuck, on, next, onto, has_results, has_result}
@@ -30,7 +29,7 @@ use Rattle.thread_acts.specs.Held.{Held, held_stacks}
 use Rattle.thread_acts.specs.Acting.{begun, turn, went_on, went_with, acting, goes_on, undefined_at, objects_end}
 use Rattle.thread_acts.specs.Hand.{IsSound, set_length}
 use Rattle.thread_acts.specs.StepLaws.{set_again, on_there, some_there, get_below, acting_there, acting_is}
-use Rattle.thread_acts.specs.ActLaws.{tried_there, tried_is, body, body_there, no_body_is, first_is}
+use Rattle.thread_acts.specs.ActLaws.{onto_there, tried_there, tried_is, body, first_is, tries_there, tries_no_body}
 
 -- ---- lists with elements written
 
@@ -62,15 +61,11 @@ set_behind (x ∷ xs) ys (suc k) a b h = ap (λ zs. x ∷ zs) (set_behind xs ys 
 
 -- ---- results, whatever else was changed
 
-onto_some : (u : Turn) (o : Option Activation) (fs : List Activation) → with_some o (onto u) ≡ Some fs → IsSome o
-onto_some u None fs h = cc
-onto_some u (Some f) fs h = refl
-
 results_there : (bundle : List Item) (s : Held) (d : Doing) (c : Configuration) (vs : List Value) → has_results (numbered bundle) c (turn s d) vs ≢ Stuck → IsSome (goes_on bundle s.frames.top vs)
 unfolding goes_on
 results_there bundle s d c vs h =
     let r = on_there (with_some (passed (numbered bundle) s.frames.top vs) (onto (turn s d))) _ h in
-    onto_some (turn s d) (passed (numbered bundle) s.frames.top vs) r.0 r.1
+    onto_there (turn s d) (passed (numbered bundle) s.frames.top vs) r.0 r.1
 
 results_are : (bundle : List Item) (s : Held) (d : Doing) (c : Configuration) (vs : List Value) (f : Activation) → goes_on bundle s.frames.top vs ≡ Some f
     → has_results (numbered bundle) c (turn s d) vs ≡ Next (stack_becomes s.stack (Active s.thread (f ∷ s.frames.below)) c)
@@ -192,17 +187,12 @@ count_held s = set_length s.seats.stacks s.stack (Active s.thread (frames_of s.f
 
 pub makes_stack_there : (bundle : List Item) (s : Held) (f : ℕ) → acting bundle s (MakesStack f) ≢ Stuck → f < length (bundle_functions bundle)
 unfolding make_go make_by more_stacks
-makes_stack_there bundle s f h =
-    let r = acting_there bundle s (MakesStack f) h in
-    let q = tried_there (numbered bundle) s r.0 ℕ (body bundle f) (make_go bundle s r.0 f) r.2 in
-    body_there bundle f q.0 q.1
+makes_stack_there bundle s f h = tries_there bundle s (MakesStack f) f (λ d. make_go bundle s d f) (λ d. refl) h
 
 pub makes_without_body : (bundle : List Item) (s : Held) (f : ℕ) (function : Function) → acting bundle s (MakesStack f) ≢ Stuck → slice_get (bundle_functions bundle) f ≡ Some function → function.first ≡ None
     → acting bundle s (MakesStack f) ≡ End [] (undefined_at s cases.NoBody)
 unfolding make_go make_by more_stacks
-makes_without_body bundle s f function h e none =
-    let r = acting_there bundle s (MakesStack f) h in
-    acting_is bundle s (MakesStack f) r.0 r.1 ∙ tried_is (numbered bundle) s r.0 ℕ (body bundle f) (Err cases.NoBody) (make_go bundle s r.0 f) (no_body_is bundle f function e none)
+makes_without_body bundle s f function h e none = tries_no_body bundle s (MakesStack f) f function (λ d. make_go bundle s d f) (λ d. refl) h e none
 
 -- of a function with that first block
 makes_by : (bundle : List Item) (s : Held) (f block : ℕ) (function : Function) → acting bundle s (MakesStack f) ≢ Stuck → slice_get (bundle_functions bundle) f ≡ Some function → function.first ≡ Some block
