@@ -3,10 +3,8 @@ use Rattle.std.proofs.Common.{◌≡◌, ◌≢◌, ℕ, ◌+◌, ◌<◌, ◌�
 use Rattle.std.specs.Prelude.{reverse}
 use Rattle.ir_tree.specs.declared.items.Item.{Item}
 use Rattle.mu_values.specs.declared.scalars.Scalar.{Scalar}
-use Rattle.mu_values.specs.declared.scalars.Scalar.TheVariants.{Place}
 use Rattle.heap_cells.specs.declared.cells.CellId.{CellId}
 use Rattle.typed_heap.specs.declared.faults.PlaceFault.{PlaceFault}
-use Rattle.typed_heap.specs.Places.{cell_of}
 use Rattle.frames.specs.Activations.{Value, Activation}
 use Rattle.frames.specs.Chains.{Chain, stands}
 use Rattle.mem_axioms.specs.declared.types.Rule.{Rule}
@@ -28,28 +26,21 @@ use Rattle.mu_model.specs.declared.endings.StepEnd.{StepEnd}
 use Rattle.mu_model.specs.declared.endings.StepEnd.TheVariants.{Went}
 use Rattle.mu_model.specs.declared.endings.Case.{Case}
 use Rattle.mu_model.specs.declared.endings.Ending.{Ending}
-use Rattle.mu_model.specs.Acts.{Access, Accesses, Faults, Fences}
+use Rattle.mu_model.specs.Acts.{Access, Faults, Fences}
 use Rattle.mu_model.specs.Accesses.{wanted, kind_of, access_results}
 use Rattle.mu_model.specs.Changes.{event}
 use Rattle.mu_model.specs.Outcomes.{Outcome, Next, End, Stuck, case_of_fault}
 use Rattle.thread_acts.specs.Held.{Held, ahead}
 use Rattle.thread_acts.specs.Acting.{left_configuration, answers, went_with, acting, goes_on}
 use Rattle.thread_acts.specs.Remembering.{initials}
-use Rattle.thread_acts.specs.Accessing.{options_of, picking, accesses_found, race_at, logs_unless, logs}
+use Rattle.thread_acts.specs.Accessing.{options_of, picking, race_at, logs_unless, logs}
 use Rattle.thread_acts.specs.StepLaws.{configuration_left}
-use Rattle.thread_acts.specs.AccessLaws.{access_is, option_there, option_is, position_low, access_fits, access_room, fence_there, fence_is}
+use Rattle.thread_acts.specs.AccessLaws.{option_there, option_is, position_low, access_fits, access_room, fence_there, fence_is}
 
--- ---- the cell
+-- ---- an act that does the same as another
 
-pub found_picks : (bundle : List Item) (s v : Held) (a : Access) (cell there : CellId) (r : Result CellId PlaceFault) → v ≡ s → acting bundle s (Accesses a cell) ≢ Stuck → cell_of v.objects (Place cell.object cell.at) ≡ Some r → r ≡ Ok there
-    → acting bundle s (Accesses a cell) ≡ picking bundle s a there
-found_picks bundle s v a cell there r view h e is =
-    access_is bundle s a cell r h (ap (λ (s : Held). cell_of s.objects (Place cell.object cell.at)) (sym view) ∙ e) ∙ ap (accesses_found bundle s a) is
-
-pub found_fails : (bundle : List Item) (s v : Held) (a : Access) (cell : CellId) (f : PlaceFault) (k : Case) (r : Result CellId PlaceFault) → v ≡ s → acting bundle s (Accesses a cell) ≢ Stuck → cell_of v.objects (Place cell.object cell.at) ≡ Some r → r ≡ Err f
-    → k ≡ case_of_fault f → acting bundle s (Accesses a cell) ≡ acting bundle s (Faults k)
-found_fails bundle s v a cell f k r view h e is case =
-    access_is bundle s a cell r h (ap (λ (s : Held). cell_of s.objects (Place cell.object cell.at)) (sym view) ∙ e) ∙ ap (accesses_found bundle s a) is ∙ ap (λ k. acting bundle s (Faults k)) (sym case)
+pub refused_by : (bundle : List Item) (s : Held) (f : PlaceFault) (k : Case) (o : Outcome) → o ≡ acting bundle s (Faults (case_of_fault f)) → k ≡ case_of_fault f → o ≡ acting bundle s (Faults k)
+refused_by bundle s f k o h case = h ∙ ap (λ k. acting bundle s (Faults k)) (sym case)
 
 pub there_so : (o p : Outcome) → o ≢ Stuck → o ≡ p → p ≢ Stuck
 there_so o p h e = λ stuck. h (e ∙ stuck)

@@ -1,14 +1,11 @@
 -- Lemmas of waits and wakes, over the view of a state and its parts.
-use Rattle.std.proofs.Common.{◌≡◌, ◌≢◌, ℕ, ◌+◌, Bool, true, false, List, [], ◌∷◌, ◌++◌, Option, Some, None, IsSome, IfSome, IsSomeAnd, Result, Ok, Err, IfOk, is_some, length, slice_get, refl, sym, ◌∙◌, ap, subst, add-one}
-use Rattle.std.specs.Prelude.{find, reverse}
+use Rattle.std.proofs.Common.{◌≡◌, ◌≢◌, ℕ, ◌+◌, Bool, true, false, List, [], ◌∷◌, ◌++◌, Option, Some, None, IsSome, IfSome, IsSomeAnd, Result, Ok, Err, IfOk, is_some, length, slice_get, refl, sym, ◌∙◌, ap, subst}
+use Rattle.std.specs.Prelude.{find}
 use Rattle.ir_tree.specs.declared.items.Item.{Item}
 use Rattle.mu_base.specs.declared.order.Order.TheVariants.{Relaxed}
 use Rattle.mu_values.specs.declared.scalars.Scalar.{Scalar}
-use Rattle.mu_values.specs.declared.scalars.Scalar.TheVariants.{Place}
 use Rattle.mu_values.specs.SameScalar.{same_scalar}
 use Rattle.heap_cells.specs.declared.cells.CellId.{CellId}
-use Rattle.typed_heap.specs.declared.faults.PlaceFault.{PlaceFault}
-use Rattle.typed_heap.specs.Places.{cell_of}
 use Rattle.frames.specs.Activations.{Value, Activation}
 use Rattle.frames.specs.Chains.{Chain, stands}
 use Rattle.mem_axioms.specs.declared.types.Rule.{Rule}
@@ -27,30 +24,23 @@ use Rattle.mu_model.specs.declared.lines.Line.TheVariants as lines
 use Rattle.mu_model.specs.declared.lines.Note.TheVariants.{TimedOut}
 use Rattle.mu_model.specs.declared.endings.StepEnd.{StepEnd}
 use Rattle.mu_model.specs.declared.endings.StepEnd.TheVariants.{Went}
-use Rattle.mu_model.specs.declared.endings.Case.{Case}
 use Rattle.mu_model.specs.declared.endings.Ending.{Ending}
 use Rattle.mu_model.specs.Configuration.{Waiter}
-use Rattle.mu_model.specs.Acts.{Faults, Loads, Waits}
+use Rattle.mu_model.specs.Acts.{Loads}
 use Rattle.mu_model.specs.Changes.{event}
-use Rattle.mu_model.specs.Outcomes.{Outcome, Next, End, Stuck, case_of_fault}
+use Rattle.mu_model.specs.Outcomes.{Outcome, End, Stuck}
 use Rattle.mu_model.specs.Waiting.{is_of, without, found_another, time_was_over}
 use Rattle.seats.specs.Seats.{Seats}
 use Rattle.thread_acts.specs.Held.{Held, ahead}
-use Rattle.thread_acts.specs.Acting.{left_configuration, answers, went_with, acting, stepping, goes_on}
+use Rattle.thread_acts.specs.Acting.{answers, went_with, stepping, goes_on}
 use Rattle.thread_acts.specs.Remembering.{initials}
 use Rattle.thread_acts.specs.Accessing.{options_of, race_at, logs}
 use Rattle.thread_acts.specs.Hand.{IsSound}
-use Rattle.thread_acts.specs.StepLaws.{GoesOn, configuration_left}
+use Rattle.thread_acts.specs.StepLaws.{GoesOn}
 use Rattle.thread_acts.specs.AccessLaws.{access_fits}
-use Rattle.thread_acts.specs.FutexLaws.{timed_out, time_out_there, time_out_is, found_or, waiting_at, wait_cell_there, wait_is, read_by, waiter, waits_unless, waits_with, wait_stands, wait_goes_there, wait_goes, last_found}
+use Rattle.thread_acts.specs.FutexLaws.{timed_out, time_out_there, time_out_is, waiting_at, read_by, waiter, waits_unless, waits_with, wait_stands, wait_goes_there, wait_goes, last_found}
 use Rattle.thread_acts.specs.Outcome.{Stays}
-
--- ---- answers with lines
-
-pub answers_lines : (t : Held) (ls : List Line) → t.left ≡ true → answers (Went ls) (record t { steps = t.steps + 1 }) ≡ went_with t (reverse ls)
-unfolding answers went_with
-answers_lines t ls e =
-    ap (λ c. Next (record c { lines = reverse ls })) (configuration_left (record t { steps = t.steps + 1 }) e) ∙ ap (λ n. Next (record (left_configuration (record t { steps = n })) { lines = reverse ls })) (add-one t.steps)
+pub use Rattle.thread_acts.proofs.AccessViews.{answers_lines}
 
 -- ---- the end of a wait with a limit
 
@@ -101,21 +91,6 @@ timed_out_so bundle s v cell f vs out block at fr seats ls view left waits h top
     let main : v.left ≡ true → At (find (is_of v.thread) v.seats.waiters) cell → stepping bundle v ≢ Stuck → answers (Went ls) (record v { frames = fr; seats = seats; steps = v.steps + 1 }) ≡ stepping bundle v =
     λ left waits h. time_out_by bundle v cell vs out block at fr seats ls left waits h results on stopped same told in
     subst (λ (s : Held). s.left ≡ true → At (find (is_of s.thread) s.seats.waiters) cell → stepping bundle s ≢ Stuck → answers (Went ls) (record v { frames = fr; seats = seats; steps = v.steps + 1 }) ≡ stepping bundle s) view main left waits h
-
--- ---- the cell of a wait
-
-pub wait_place : (bundle : List Item) (s v : Held) (timed : Bool) (expected : Scalar) (cell : CellId) → v ≡ s → acting bundle s (Waits timed expected cell) ≢ Stuck → IsSome (cell_of v.objects (Place cell.object cell.at))
-wait_place bundle s v timed expected cell view h = subst (λ (s : Held). IsSome (cell_of s.objects (Place cell.object cell.at))) (sym view) (wait_cell_there bundle s timed expected cell h)
-
-pub wait_found : (bundle : List Item) (s v : Held) (timed : Bool) (expected : Scalar) (cell there : CellId) (r : Result CellId PlaceFault) → v ≡ s → acting bundle s (Waits timed expected cell) ≢ Stuck
-    → cell_of v.objects (Place cell.object cell.at) ≡ Some r → r ≡ Ok there → acting bundle s (Waits timed expected cell) ≡ waiting_at bundle s timed expected there
-wait_found bundle s v timed expected cell there r view h e is =
-    wait_is bundle s timed expected cell r h (ap (λ (s : Held). cell_of s.objects (Place cell.object cell.at)) (sym view) ∙ e) ∙ ap (found_or bundle s (waiting_at bundle s timed expected)) is
-
-pub wait_fails : (bundle : List Item) (s v : Held) (timed : Bool) (expected : Scalar) (cell : CellId) (f : PlaceFault) (k : Case) (r : Result CellId PlaceFault) → v ≡ s → acting bundle s (Waits timed expected cell) ≢ Stuck
-    → cell_of v.objects (Place cell.object cell.at) ≡ Some r → r ≡ Err f → k ≡ case_of_fault f → acting bundle s (Waits timed expected cell) ≡ acting bundle s (Faults k)
-wait_fails bundle s v timed expected cell f k r view h e is case =
-    wait_is bundle s timed expected cell r h (ap (λ (s : Held). cell_of s.objects (Place cell.object cell.at)) (sym view) ∙ e) ∙ ap (found_or bundle s (waiting_at bundle s timed expected)) is ∙ ap (λ k. acting bundle s (Faults k)) (sym case)
 
 -- ---- a wait at a cell that is there
 

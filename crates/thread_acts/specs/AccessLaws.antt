@@ -1,5 +1,5 @@
 -- Laws of the accesses of one thread.
-use Rattle.std.specs.Prelude.{◌≡◌, ◌≢◌, ℕ, suc, ◌<◌, ◌≤◌, nat_le, ◌&&◌, Bool, true, false, List, [], ◌∷◌, Option, Some, None, IsSome, Result, Ok, Err, length, option_map, slice_get, nat_eq, if◌then◌else◌, refl}
+use Rattle.std.specs.Prelude.{◌≡◌, ◌≢◌, ℕ, suc, ◌<◌, ◌≤◌, nat_le, ◌&&◌, Bool, true, false, List, [], ◌∷◌, Option, Some, None, IsSome, Result, length, slice_get, nat_eq, if◌then◌else◌, refl}
 use Rattle.std.proofs.Common.{sym, ◌∙◌, ap, subst, arith, ◌⊎◌, inl, inr}
 use Rattle.std.proofs.lemmas.Bool.{and_parts}
 use Rattle.std.proofs.lemmas.Bool.Decides.{nat_tests}
@@ -38,56 +38,39 @@ use Rattle.mem_axioms.specs.Lemmas.Options.{choice-stands}
 use Rattle.mem_axioms.specs.Lemmas.Kept.{is_any_access}
 use Rattle.mem_axioms.specs.Lemmas.Fitting.{others-race}
 use Rattle.mem_axioms.specs.declared.types.Room.{Room}
-use Rattle.mu_model.specs.declared.endings.Case.{Case}
 use Rattle.mu_model.specs.Configuration.{Active, Configuration}
-use Rattle.mu_model.specs.Acts.{Access, Loads, Stores, Compares, Updates, Faults, Accesses, Fences, Doing}
+use Rattle.mu_model.specs.Acts.{Access, Loads, Stores, Compares, Updates, Accesses, Fences, Doing}
 use Rattle.mu_model.specs.Accesses.{wanted, updated_integer, updated, kind_of, access_results, takes_option, picking_option, raced}
 use Rattle.mu_threads.specs.Picks.{pick}
 use Rattle.mu_model.specs.Changes.{event, logged_event, logged}
 use Rattle.mu_model.specs.Operands.{is_integer}
 use Rattle.mu_model.specs.Frames.{passed}
-use Rattle.mu_model.specs.Turns.{Turn}
-use Rattle.mu_model.specs.Outcomes.{Outcome, Next, Stuck, on, next, onto, unless_refused, tried, or_case, case_of_fault, has_results}
+use Rattle.mu_model.specs.Outcomes.{Outcome, Next, Stuck, on, next, onto, has_results}
 use Rattle.model_numbers.specs.Numbered.{numbered}
 use Rattle.thread_acts.specs.Held.{Held, ahead}
-use Rattle.thread_acts.specs.Acting.{begun, turn, doing_of, went_with, acting, goes_on}
+use Rattle.thread_acts.specs.Acting.{begun, turn, doing_of, went_with, acting, found_or, goes_on}
 use Rattle.thread_acts.specs.Remembering.{initials}
-use Rattle.thread_acts.specs.Accessing.{options_of, picking, accesses_found, logs_unless, logs}
-use Rattle.thread_acts.specs.StepLaws.{set_again, on_there, on_is, some_there, with_there, acting_there, acting_is}
+use Rattle.thread_acts.specs.Accessing.{options_of, picking, logs_unless, logs}
+use Rattle.thread_acts.specs.ActLaws.{onto_there}
+use Rattle.thread_acts.specs.StepLaws.{set_again, on_there, on_is, some_there, with_there, acting_there, acting_is, tried_found, tried_at}
 
 -- ---- the cell
 
-access_by : List Item → Held → Access → Option (Result CellId PlaceFault) → Doing → Outcome
-access_by bundle s a o d =
-    tried (numbered bundle) (begun s) (turn s d) (option_map or_case o) (λ cell. picking_option (numbered bundle) (begun s) (turn s d) a cell (options_of s a cell))
-
-mapped_there : (o : Option (Result CellId PlaceFault)) (r : Result CellId Case) → option_map or_case o ≡ Some r → IsSome o
-mapped_there None r h = cc
-mapped_there (Some a) r h = refl
-
-found_there : (bundle : List Item) (s : Held) (a : Access) (o : Option (Result CellId PlaceFault)) (d : Doing) → access_by bundle s a o d ≢ Stuck → IsSome o
-unfolding access_by tried
-found_there bundle s a o d h =
-    let r = on_there (option_map or_case o) (unless_refused (numbered bundle) (begun s) (turn s d) (λ cell. picking_option (numbered bundle) (begun s) (turn s d) a cell (options_of s a cell))) h in
-    mapped_there o r.0 r.1
-
-found_is : (bundle : List Item) (s : Held) (a : Access) (o : Option (Result CellId PlaceFault)) (r : Result CellId PlaceFault) (d : Doing) → doing_of (numbered bundle) s ≡ Some d → o ≡ Some r
-    → access_by bundle s a o d ≡ accesses_found bundle s a r
-unfolding access_by tried on picking
-found_is bundle s a o (Ok cell) d e h =
-    ap (λ o. access_by bundle s a o d) h ∙ sym (on_is (doing_of (numbered bundle) s) d (λ d. picking_option (numbered bundle) (begun s) (turn s d) a cell (options_of s a cell)) e)
-found_is bundle s a o (Err f) d e h = ap (λ o. access_by bundle s a o d) h ∙ sym (acting_is bundle s (Faults (case_of_fault f)) d e)
+-- what is done at one that is there, by the instruction
+abbrev access_by : List Item → Held → Access → Doing → CellId → Outcome
+access_by bundle s a d cell = picking_option (numbered bundle) (begun s) (turn s d) a cell (options_of s a cell)
 
 pub cell_there : (bundle : List Item) (s : Held) (a : Access) (cell : CellId) → acting bundle s (Accesses a cell) ≢ Stuck → IsSome (cell_of s.objects (Place cell.object cell.at))
-unfolding access_by
-cell_there bundle s a cell h = let r = acting_there bundle s (Accesses a cell) h in found_there bundle s a (cell_of s.objects (Place cell.object cell.at)) r.0 r.2
+cell_there bundle s a cell h =
+    let r = acting_there bundle s (Accesses a cell) h in
+    tried_found (numbered bundle) s r.0 (cell_of s.objects (Place cell.object cell.at)) (access_by bundle s a r.0) r.2
 
 pub access_is : (bundle : List Item) (s : Held) (a : Access) (cell : CellId) (r : Result CellId PlaceFault) → acting bundle s (Accesses a cell) ≢ Stuck
-    → cell_of s.objects (Place cell.object cell.at) ≡ Some r → acting bundle s (Accesses a cell) ≡ accesses_found bundle s a r
-unfolding access_by
+    → cell_of s.objects (Place cell.object cell.at) ≡ Some r → acting bundle s (Accesses a cell) ≡ found_or bundle s (picking bundle s a) r
+unfolding picking
 access_is bundle s a cell r h e =
     let d = acting_there bundle s (Accesses a cell) h in
-    acting_is bundle s (Accesses a cell) d.0 d.1 ∙ found_is bundle s a (cell_of s.objects (Place cell.object cell.at)) r d.0 d.1 e
+    acting_is bundle s (Accesses a cell) d.0 d.1 ∙ tried_at bundle s d.0 (cell_of s.objects (Place cell.object cell.at)) r (access_by bundle s a) d.1 e
 
 -- ---- the option
 
@@ -108,10 +91,6 @@ picking_there bundle s a cell k h e =
     let same : on o go ≡ go k = on_is o k go e in
     (r.0, r.1, λ stuck. r.2 (same ∙ stuck), on_is (doing_of (numbered bundle) s) r.0 (λ d. picking_option (numbered bundle) (begun s) (turn s d) a cell ks) r.1 ∙ same)
 
-onto_some : (u : Turn) (o : Option Activation) (fs : List Activation) → with_some o (onto u) ≡ Some fs → IsSome o
-onto_some u None fs h = cc
-onto_some u (Some f) fs h = refl
-
 pub option_there : (bundle : List Item) (s : Held) (a : Access) (cell : CellId) (k : Chosen) → picking bundle s a cell ≢ Stuck
     → slice_get (options_of s a cell) (pick (length (options_of s a cell)) (ahead s)).0 ≡ Some k → IsSome (kind_of a cell k) × IsSome (goes_on bundle s.frames.top (access_results a k))
 unfolding goes_on
@@ -122,7 +101,7 @@ option_there bundle s a cell k h e =
     let frames = with_some (passed (numbered bundle) s.frames.top (access_results a k)) (onto u) in
     let r = on_there (kind_of a cell k) (λ x. on frames (λ fs. raced c u (event s.thread x) fs (race s.rule s.log (event s.thread x)))) q.2 in
     let f = on_there frames (λ fs. raced c u (event s.thread r.0) fs (race s.rule s.log (event s.thread r.0))) r.2 in
-    (some_there (kind_of a cell k) r.0 r.1, onto_some u (passed (numbered bundle) s.frames.top (access_results a k)) f.0 f.1)
+    (some_there (kind_of a cell k) r.0 r.1, onto_there u (passed (numbered bundle) s.frames.top (access_results a k)) f.0 f.1)
 
 -- the thread's event is logged, and its top frame stands so
 goes_with : (s : Held) (d : Doing) (e : Event) (picks : List ℕ) (f : Activation)
@@ -132,7 +111,7 @@ goes_with s d e picks f =
     ap (λ stacks. Next (record (logged_event e (record (begun s) { picks = picks })) { stacks = stacks }))
     (set_again s.seats.stacks s.stack (Active s.thread (frames_of s.frames)) (Active s.thread (f ∷ s.frames.below)))
 
-raced_is : (s : Held) (d : Doing) (e : Event) (picks : List ℕ) (f : Activation) (o : Option ℕ)
+pub raced_is : (s : Held) (d : Doing) (e : Event) (picks : List ℕ) (f : Activation) (o : Option ℕ)
     → raced (record (begun s) { picks = picks }) (turn s d) e (f ∷ s.frames.below) o ≡ logs_unless s e picks (record s.frames { top = f }) o
 unfolding on went_with
 raced_is s d e picks f None = goes_with s d e picks f
@@ -182,7 +161,7 @@ fenced i o = event i (kinds.Fence o)
 fence_frames : (bundle : List Item) (s : Held) (o : Order) (d : Doing) → has_results (numbered bundle) (logged s.thread (kinds.Fence o) (begun s)) (turn s d) [] ≢ Stuck → IsSome (passed (numbered bundle) s.frames.top [])
 fence_frames bundle s o d h =
     let r = on_there (with_some (passed (numbered bundle) s.frames.top []) (onto (turn s d))) _ h in
-    onto_some (turn s d) (passed (numbered bundle) s.frames.top []) r.0 r.1
+    onto_there (turn s d) (passed (numbered bundle) s.frames.top []) r.0 r.1
 
 pub fence_there : (bundle : List Item) (s : Held) (o : Order) → acting bundle s (Fences o) ≢ Stuck → IsSome (goes_on bundle s.frames.top [])
 unfolding goes_on

@@ -1,9 +1,7 @@
 -- Inner: nothing that a reader believes of a run rests on this. It is what an access of one thread does, in parts.
-use Rattle.std.specs.Prelude.{ℕ, List, [], ◌∷◌, Option, Some, None, Result, Ok, Err, length, slice_get}
+use Rattle.std.specs.Prelude.{ℕ, List, [], ◌∷◌, Option, Some, None, length}
 use Rattle.ir_tree.specs.declared.items.Item.{Item}
 use Rattle.heap_cells.specs.declared.cells.CellId.{CellId}
-use Rattle.typed_heap.specs.declared.faults.PlaceFault.{PlaceFault}
-use Rattle.frames.specs.Activations.{Activation}
 use Rattle.frames.specs.Chains.{Chain}
 use Rattle.mem_axioms.specs.declared.types.Event.{Event}
 use Rattle.mem_axioms.specs.declared.types.Chosen.{Chosen}
@@ -14,12 +12,12 @@ use Rattle.mu_model.specs.declared.lines.Line.TheVariants as lines
 use Rattle.mu_model.specs.declared.endings.Case.TheVariants.{DataRace}
 use Rattle.mu_model.specs.declared.endings.Ending.{Ending}
 use Rattle.mu_model.specs.declared.endings.Ending.TheVariants.{Undefined}
-use Rattle.mu_model.specs.Acts.{Access, Faults}
+use Rattle.mu_model.specs.Acts.{Access}
 use Rattle.mu_model.specs.Accesses.{wanted, race_of, picking_option}
-use Rattle.mu_model.specs.Outcomes.{Outcome, End, on, case_of_fault}
+use Rattle.mu_model.specs.Outcomes.{Outcome, End, on}
 use Rattle.model_numbers.specs.Numbered.{numbered}
 use Rattle.thread_acts.specs.Held.{Held}
-use Rattle.thread_acts.specs.Acting.{begun, turn, doing_of, went_with, acting}
+use Rattle.thread_acts.specs.Acting.{begun, turn, doing_of, went_with}
 use Rattle.thread_acts.specs.Remembering.{initials}
 
 -- the options of an access of a cell
@@ -29,11 +27,6 @@ options_of s a cell = choices s.rule (initial_of (initials s.objects)) s.log s.t
 -- one of them is picked
 unfoldable pub picking : List Item → Held → Access → CellId → Outcome
 picking bundle s a cell = on (doing_of (numbered bundle) s) (λ d. picking_option (numbered bundle) (begun s) (turn s d) a cell (options_of s a cell))
-
--- a cell that is there is accessed; another one is an undefined case
-abbrev pub accesses_found : List Item → Held → Access → Result CellId PlaceFault → Outcome
-accesses_found bundle s a (Ok cell) = picking bundle s a cell
-accesses_found bundle s a (Err f) = acting bundle s (Faults (case_of_fault f))
 
 -- ---- an event
 

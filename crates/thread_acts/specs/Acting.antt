@@ -1,9 +1,10 @@
 -- Inner: nothing that a reader believes of a run rests on this. It is the step of the thread in hand, by the numbers of the code, in parts.
-use Rattle.std.specs.Prelude.{ℕ, suc, Bool, true, false, List, [], ◌∷◌, Option, Some, None, fold, find, flat_map, slice_set}
+use Rattle.std.specs.Prelude.{ℕ, suc, Bool, true, false, List, [], ◌∷◌, Option, Some, None, Result, Ok, Err, fold, find, flat_map, slice_set}
 use Rattle.ir_tree.specs.declared.items.Item.{Item}
 use Rattle.mu_values.specs.declared.scalars.Scalar.{Scalar}
 use Rattle.mu_values.specs.Slots.{TypedValues}
 use Rattle.bundle_check.specs.Checking.{bundle_tables}
+use Rattle.typed_heap.specs.declared.faults.PlaceFault.{PlaceFault}
 use Rattle.typed_heap.specs.Objects.{HeapObject, killed}
 use Rattle.typed_heap.specs.Places.{with_some}
 use Rattle.frames.specs.Activations.{Value, Goal, Activation}
@@ -17,11 +18,11 @@ use Rattle.mu_model.specs.declared.endings.Ending.TheVariants.{Undefined}
 use Rattle.mu_model.specs.Types.{classes_given}
 use Rattle.mu_model.specs.Clients.{Client}
 use Rattle.mu_model.specs.Configuration.{Dead, Configuration}
-use Rattle.mu_model.specs.Acts.{Act, Doing, Program}
+use Rattle.mu_model.specs.Acts.{Act, Faults, Doing, Program}
 use Rattle.mu_model.specs.Turns.{Turn}
 use Rattle.mu_model.specs.Frames.{passed, caught}
 use Rattle.mu_model.specs.Changes.{changed}
-use Rattle.mu_model.specs.Outcomes.{Outcome, Next, on, faulted}
+use Rattle.mu_model.specs.Outcomes.{Outcome, Next, on, faulted, case_of_fault}
 use Rattle.mu_model.specs.Run.{client_answers}
 use Rattle.mu_model.specs.Traps.{trapped}
 use Rattle.mu_model.specs.Step.{performed, turned}
@@ -74,6 +75,11 @@ trapping bundle s watchpoint cs = on (doing_of (numbered bundle) s) (λ d. trapp
 -- the thread does an act
 unfoldable pub acting : List Item → Held → Act → Outcome
 acting bundle s a = on (doing_of (numbered bundle) s) (λ d. performed (numbered bundle) (begun s) (turn s d) a)
+
+-- what is done with what is found; a fault is an undefined case
+abbrev pub found_or : {A : Type 0} → List Item → Held → (A → Outcome) → Result A PlaceFault → Outcome
+found_or bundle s go (Ok a) = go a
+found_or bundle s go (Err f) = acting bundle s (Faults (case_of_fault f))
 
 -- its instruction meets a fault, which is the ending where it has no exceptional destination
 unfoldable pub faulting : List Item → Held → Ending → Outcome

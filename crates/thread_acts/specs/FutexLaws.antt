@@ -1,5 +1,5 @@
 -- Laws of waits, of wakes, and of the end of a wait with a limit.
-use Rattle.std.specs.Prelude.{◌≡◌, ◌≢◌, ℕ, ◌==◌, Bool, true, false, List, [], ◌∷◌, ◌++◌, Option, Some, None, IsSome, IfSome, Result, Ok, Err, length, find, option_map, slice_get, if◌then◌else◌, refl}
+use Rattle.std.specs.Prelude.{◌≡◌, ◌≢◌, ℕ, ◌==◌, Bool, true, false, List, [], ◌∷◌, ◌++◌, Option, Some, None, IsSome, IfSome, Result, length, find, slice_get, if◌then◌else◌, refl}
 use Rattle.std.proofs.Common.{sym, ◌∙◌, ap, subst, arith}
 use Rattle.ir_tree.specs.declared.items.Item.{Item}
 use Rattle.mu_base.specs.declared.order.Order.TheVariants.{Relaxed}
@@ -18,29 +18,25 @@ use Rattle.mem_axioms.specs.declared.types.Chosen.{Chosen}
 use Rattle.mem_axioms.specs.Races.{race}
 use Rattle.mu_model.specs.declared.lines.Line.TheVariants as lines
 use Rattle.mu_model.specs.declared.lines.Note.TheVariants.{TimedOut}
-use Rattle.mu_model.specs.declared.endings.Case.{Case}
 use Rattle.mu_model.specs.Configuration.{Active, Waiter, Configuration}
-use Rattle.mu_model.specs.Acts.{Loads, Faults, Waits, Doing, Program}
+use Rattle.mu_model.specs.Acts.{Loads, Waits, Doing, Program}
 use Rattle.mu_model.specs.Accesses.{raced}
 use Rattle.mu_model.specs.Changes.{event, logged_event, noted}
 use Rattle.mu_model.specs.Frames.{passed}
-use Rattle.mu_model.specs.Turns.{Turn}
-use Rattle.mu_model.specs.Outcomes.{Outcome, Next, End, Stuck, on, next, onto, unless_refused, tried, or_case, case_of_fault}
+use Rattle.mu_model.specs.Outcomes.{Outcome, Next, End, Stuck, on, next, onto}
 use Rattle.mu_model.specs.Step.{turned}
 use Rattle.mu_model.specs.Waiting.{is_of, without, found_another, time_was_over, waits_at, waited, times_out}
 use Rattle.model_numbers.specs.Numbered.{numbered}
 use Rattle.seats.specs.Seats.{Seats}
 use Rattle.thread_acts.specs.Held.{Held, ahead}
 use Rattle.thread_acts.specs.Acting.{begun, turn, doing_of, went_with, acting, stepping, goes_on}
-use Rattle.thread_acts.specs.Accessing.{options_of, race_at, logs_unless, logs}
+pub use Rattle.thread_acts.specs.Acting.{found_or}
+use Rattle.thread_acts.specs.Accessing.{options_of, race_at, logs}
 use Rattle.thread_acts.specs.Hand.{IsSound}
+use Rattle.thread_acts.specs.AccessLaws.{raced_is}
+use Rattle.thread_acts.specs.ActLaws.{onto_there}
 use Rattle.thread_acts.specs.StepLaws.{set_again, on_there, on_is, acting_there, acting_is}
-
--- ---- frames
-
-frames_there : (u : Turn) (o : Option Activation) (fs : List Activation) → with_some o (onto u) ≡ Some fs → IsSome o
-frames_there u None fs h = cc
-frames_there u (Some f) fs h = refl
+pub use Rattle.thread_acts.specs.StepLaws.{tried_found, tried_at}
 
 -- ---- the end of a wait with a limit
 
@@ -62,7 +58,7 @@ time_out_there bundle s w e h =
     let d = step_times_out bundle s w e h in
     let o = passed (numbered bundle) s.frames.top ((time_was_over ∷ []) ∷ []) in
     let r = on_there (with_some o (onto (turn s d.0))) _ d.2 in
-    frames_there (turn s d.0) o r.0 r.1
+    onto_there (turn s d.0) o r.0 r.1
 
 time_out_by : (p : Program) (s : Held) (w : Waiter) (d : Doing) (f : Activation) → passed p s.frames.top ((time_was_over ∷ []) ∷ []) ≡ Some f
     → times_out p (begun s) (turn s d) w ≡ went_with (timed_out s w f) (lines.Note (TimedOut s.thread w.cell) ∷ [])
@@ -78,27 +74,6 @@ unfolding goes_on
 time_out_is bundle s w f e h way =
     let d = step_times_out bundle s w e h in
     step_waiting bundle s w e ∙ on_is (doing_of (numbered bundle) s) d.0 (λ d. times_out (numbered bundle) (begun s) (turn s d) w) d.1 ∙ time_out_by (numbered bundle) s w d.0 f way
-
--- ---- the cell of an act
-
--- what is done at a cell that is there; another one is an undefined case
-abbrev pub found_or : List Item → Held → (CellId → Outcome) → Result CellId PlaceFault → Outcome
-found_or bundle s go (Ok cell) = go cell
-found_or bundle s go (Err f) = acting bundle s (Faults (case_of_fault f))
-
-mapped_there : (o : Option (Result CellId PlaceFault)) (r : Result CellId Case) → option_map or_case o ≡ Some r → IsSome o
-mapped_there None r h = cc
-mapped_there (Some a) r h = refl
-
-pub tried_found : (p : Program) (s : Held) (d : Doing) (o : Option (Result CellId PlaceFault)) (go : CellId → Outcome) → tried p (begun s) (turn s d) (option_map or_case o) go ≢ Stuck → IsSome o
-unfolding tried
-tried_found p s d o go h = let r = on_there (option_map or_case o) (unless_refused p (begun s) (turn s d) go) h in mapped_there o r.0 r.1
-
-pub tried_at : (bundle : List Item) (s : Held) (d : Doing) (o : Option (Result CellId PlaceFault)) (r : Result CellId PlaceFault) (go : Doing → CellId → Outcome) → doing_of (numbered bundle) s ≡ Some d → o ≡ Some r
-    → tried (numbered bundle) (begun s) (turn s d) (option_map or_case o) (go d) ≡ found_or bundle s (λ cell. on (doing_of (numbered bundle) s) (λ d. go d cell)) r
-unfolding tried on
-tried_at bundle s d o (Ok cell) go e h = ap (λ o. tried (numbered bundle) (begun s) (turn s d) (option_map or_case o) (go d)) h ∙ sym (on_is (doing_of (numbered bundle) s) d (λ d. go d cell) e)
-tried_at bundle s d o (Err f) go e h = ap (λ o. tried (numbered bundle) (begun s) (turn s d) (option_map or_case o) (go d)) h ∙ sym (acting_is bundle s (Faults (case_of_fault f)) d e)
 
 -- ---- a wait
 
@@ -183,12 +158,7 @@ wait_goes_there bundle s timed v cell k h e other =
     let o = passed (numbered bundle) s.frames.top ((found_another ∷ []) ∷ []) in
     let x = read_by s.thread cell k in
     let r = on_there (with_some o (onto (turn s q.0))) (λ fs. raced (begun s) (turn s q.0) x fs (race s.rule s.log x)) (λ stuck. q.1 (waited_by (numbered bundle) s q.0 timed v cell k false other ∙ stuck)) in
-    frames_there (turn s q.0) o r.0 r.1
-
-past_raced : (s : Held) (d : Doing) (e : Event) (f : Activation) (o : Option ℕ) → raced (begun s) (turn s d) e (f ∷ s.frames.below) o ≡ logs_unless s e (ahead s) (record s.frames { top = f }) o
-unfolding on went_with
-past_raced s d e f None = ap (λ stacks. Next (record (logged_event e (begun s)) { stacks = stacks })) (set_again s.seats.stacks s.stack (Active s.thread (frames_of s.frames)) (Active s.thread (f ∷ s.frames.below)))
-past_raced s d e f (Some n) = refl
+    onto_there (turn s q.0) o r.0 r.1
 
 pub wait_goes : (bundle : List Item) (s : Held) (timed : Bool) (v : Scalar) (cell : CellId) (k : Chosen) (f : Activation) → waiting_at bundle s timed v cell ≢ Stuck → slice_get (options_of s (Loads Relaxed) cell) 0 ≡ Some k → same_scalar k.value v ≡ false
     → goes_on bundle s.frames.top ((found_another ∷ []) ∷ []) ≡ Some f → waiting_at bundle s timed v cell ≡ logs s (read_by s.thread cell k) (ahead s) (record s.frames { top = f })
@@ -199,7 +169,7 @@ wait_goes bundle s timed v cell k f h e other way =
     let u = turn s q.0 in
     q.2 ∙ waited_by (numbered bundle) s q.0 timed v cell k false other
     ∙ on_is (with_some (passed (numbered bundle) s.frames.top ((found_another ∷ []) ∷ [])) (onto u)) (f ∷ s.frames.below) (λ fs. raced (begun s) u x fs (race s.rule s.log x)) (ap (λ o. with_some o (onto u)) way)
-    ∙ past_raced s q.0 x f (race s.rule s.log x)
+    ∙ raced_is s q.0 x (ahead s) f (race s.rule s.log x)
 
 -- ---- other waiters change nothing of what is kept beside what is seen
 

@@ -1,5 +1,5 @@
 -- Inner: nothing that a reader believes of a run rests on this. It is what acts over objects leave.
-use Rattle.std.specs.Prelude.{◌≡◌, ℕ, ◌-◌, ◌<◌, List, [], ◌∷◌, ◌++◌, Result, Ok, Err, length}
+use Rattle.std.specs.Prelude.{◌≡◌, ℕ, ◌-◌, ◌<◌, List, [], ◌∷◌, ◌++◌, Result, length}
 use Rattle.ir_tree.specs.declared.items.Item.{Item}
 use Rattle.type_laws.specs.declared.definition.TypeDef.{TypeDef}
 use Rattle.mu_values.specs.declared.scalars.Scalar.{Scalar}
@@ -11,12 +11,12 @@ use Rattle.typed_heap.specs.declared.faults.HeapFault.TheVariants as heaps
 use Rattle.typed_heap.specs.Objects.{leaf_classes, object_of}
 use Rattle.typed_heap.specs.Heap.{hybrid_classes, told_cells}
 use Rattle.frames.specs.Activations.{Activation}
-use Rattle.mu_model.specs.Acts.{Act, Gives, Faults, Makes, MakesHybrid, MakesOwn}
-use Rattle.mu_model.specs.Outcomes.{Outcome, case_of_fault}
+use Rattle.mu_model.specs.Acts.{Act, Gives, Makes, MakesHybrid, MakesOwn}
+use Rattle.mu_model.specs.Outcomes.{Outcome}
 use Rattle.thread_acts.specs.declared.making.Making.{Making}
 use Rattle.thread_acts.specs.declared.making.Making.TheVariants as kinds
 use Rattle.thread_acts.specs.Held.{Held}
-use Rattle.thread_acts.specs.Acting.{acting}
+use Rattle.thread_acts.specs.Acting.{acting, found_or}
 
 -- the graph of all types
 abbrev pub graph_of : List Item → List TypeDef
@@ -24,8 +24,7 @@ graph_of bundle = (bundle_tables bundle).types.definitions
 
 -- the instruction has what was found for its result, or meets the case of the fault
 abbrev pub tells : List Item → Held → Result Scalar PlaceFault → Outcome
-tells bundle s (Ok x) = acting bundle s (Gives ((x ∷ []) ∷ []))
-tells bundle s (Err f) = acting bundle s (Faults (case_of_fault f))
+tells bundle s r = found_or bundle s (λ (x : Scalar). acting bundle s (Gives ((x ∷ []) ∷ []))) r
 
 -- an object with these leaves is made
 abbrev pub made : List Item → Held → List ℕ → Held

@@ -1,5 +1,5 @@
 -- Laws of the acts that make objects, cast references and find places.
-use Rattle.std.specs.Prelude.{◌≡◌, ◌≢◌, ℕ, ◌+◌, ◌-◌, ◌^◌, ◌<◌, ◌≤◌, Bool, true, false, min, List, [], ◌∷◌, ◌++◌, Option, Some, None, IsSome, Result, Ok, Err, IfErr, option_map, if◌then◌else◌, refl}
+use Rattle.std.specs.Prelude.{◌≡◌, ◌≢◌, ℕ, ◌+◌, ◌-◌, ◌^◌, ◌<◌, ◌≤◌, Bool, true, false, min, List, ◌++◌, Option, Some, None, IsSome, Result, Err, IfErr, if◌then◌else◌, refl}
 use Rattle.std.proofs.Common.{sym, ◌∙◌, ap, subst, arith, inl, inr}
 use Rattle.std.proofs.lemmas.Bool.Decides.{leb_tells}
 use Rattle.std.proofs.Math.Nat.{min-eq_left, min-eq_right}
@@ -14,64 +14,49 @@ use Rattle.typed_heap.specs.Heap.{told_cells}
 use Rattle.typed_heap.specs.Places.{with_some, Way, move, find_place}
 use Rattle.frames.specs.Activations.{Value, Goal, Activation}
 use Rattle.frames.specs.Chains.{stands}
-use Rattle.mu_model.specs.declared.endings.Case.{Case}
 use Rattle.mu_model.specs.declared.endings.Ending.TheVariants.{HeapFull}
 use Rattle.mu_model.specs.Types.{class_definition}
-use Rattle.mu_model.specs.Acts.{Gives, Faults, Casts, Finds, Doing}
+use Rattle.mu_model.specs.Acts.{Casts, Finds, Doing}
 use Rattle.mu_model.specs.Objects.{cast_any}
 use Rattle.mu_model.specs.Frames.{onward}
-use Rattle.mu_model.specs.Outcomes.{Outcome, Stuck, on, unless_refused, tried, or_case, case_of_fault, has_result}
+use Rattle.mu_model.specs.Outcomes.{Outcome, Stuck, has_result}
 use Rattle.model_numbers.specs.Numbered.{numbered}
 use Rattle.thread_acts.specs.declared.making.Making.{Making}
 use Rattle.thread_acts.specs.declared.making.Making.TheVariants as kinds
 use Rattle.thread_acts.specs.Held.{Held}
-use Rattle.thread_acts.specs.Acting.{begun, turn, doing_of, acting, goes_on}
+use Rattle.thread_acts.specs.Acting.{begun, turn, acting, goes_on}
 use Rattle.thread_acts.specs.Making.{tells, graph_of, owns, frame_made, IsFull}
-use Rattle.thread_acts.specs.StepLaws.{on_there, acting_there, acting_is}
+use Rattle.thread_acts.specs.StepLaws.{acting_there, acting_is, tried_found, tried_at}
 
 -- ---- what is found
 
-found_by : List Item → Held → Option (Result Scalar PlaceFault) → Doing → Outcome
-found_by bundle s o d = tried (numbered bundle) (begun s) (turn s d) (option_map or_case o) (has_result (numbered bundle) (begun s) (turn s d))
-
-mapped_there : (o : Option (Result Scalar PlaceFault)) (r : Result Scalar Case) → option_map or_case o ≡ Some r → IsSome o
-mapped_there None r h = cc
-mapped_there (Some a) r h = refl
-
-found_there : (bundle : List Item) (s : Held) (o : Option (Result Scalar PlaceFault)) (d : Doing) → found_by bundle s o d ≢ Stuck → IsSome o
-unfolding found_by tried
-found_there bundle s o d h =
-    let r = on_there (option_map or_case o) (unless_refused (numbered bundle) (begun s) (turn s d) (has_result (numbered bundle) (begun s) (turn s d))) h in
-    mapped_there o r.0 r.1
-
-found_is : (bundle : List Item) (s : Held) (o : Option (Result Scalar PlaceFault)) (r : Result Scalar PlaceFault) (d : Doing) → doing_of (numbered bundle) s ≡ Some d → o ≡ Some r → found_by bundle s o d ≡ tells bundle s r
-unfolding found_by tried on
-found_is bundle s o (Ok x) d e h =
-    ap (λ o. found_by bundle s o d) h ∙ sym (acting_is bundle s (Gives ((x ∷ []) ∷ [])) d e)
-found_is bundle s o (Err f) d e h =
-    ap (λ o. found_by bundle s o d) h ∙ sym (acting_is bundle s (Faults (case_of_fault f)) d e)
+-- it is the result of the instruction
+abbrev gives_by : List Item → Held → Doing → Scalar → Outcome
+gives_by bundle s d x = has_result (numbered bundle) (begun s) (turn s d) x
 
 pub finds_there : (bundle : List Item) (s : Held) (way : Way) (x : Scalar) → acting bundle s (Finds way x) ≢ Stuck → IsSome (find_place (graph_of bundle) s.objects (move (graph_of bundle) way) x)
-unfolding found_by
-finds_there bundle s way x h = let r = acting_there bundle s (Finds way x) h in found_there bundle s (find_place (graph_of bundle) s.objects (move (graph_of bundle) way) x) r.0 r.2
+finds_there bundle s way x h =
+    let r = acting_there bundle s (Finds way x) h in
+    tried_found (numbered bundle) s r.0 (find_place (graph_of bundle) s.objects (move (graph_of bundle) way) x) (gives_by bundle s r.0) r.2
 
 pub finds_is : (bundle : List Item) (s : Held) (way : Way) (x : Scalar) (r : Result Scalar PlaceFault) → acting bundle s (Finds way x) ≢ Stuck
     → find_place (graph_of bundle) s.objects (move (graph_of bundle) way) x ≡ Some r → acting bundle s (Finds way x) ≡ tells bundle s r
-unfolding found_by
+unfolding acting
 finds_is bundle s way x r h e =
     let d = acting_there bundle s (Finds way x) h in
-    acting_is bundle s (Finds way x) d.0 d.1 ∙ found_is bundle s (find_place (graph_of bundle) s.objects (move (graph_of bundle) way) x) r d.0 d.1 e
+    acting_is bundle s (Finds way x) d.0 d.1 ∙ tried_at bundle s d.0 (find_place (graph_of bundle) s.objects (move (graph_of bundle) way) x) r (gives_by bundle s) d.1 e
 
 pub casts_there : (bundle : List Item) (s : Held) (class : ℕ) (x : Scalar) → acting bundle s (Casts class x) ≢ Stuck → IsSome (cast_any (bundle_tables bundle) s.objects (class_definition (bundle_tables bundle) class) x)
-unfolding found_by
-casts_there bundle s class x h = let r = acting_there bundle s (Casts class x) h in found_there bundle s (cast_any (bundle_tables bundle) s.objects (class_definition (bundle_tables bundle) class) x) r.0 r.2
+casts_there bundle s class x h =
+    let r = acting_there bundle s (Casts class x) h in
+    tried_found (numbered bundle) s r.0 (cast_any (bundle_tables bundle) s.objects (class_definition (bundle_tables bundle) class) x) (gives_by bundle s r.0) r.2
 
 pub casts_is : (bundle : List Item) (s : Held) (class : ℕ) (x : Scalar) (r : Result Scalar PlaceFault) → acting bundle s (Casts class x) ≢ Stuck
     → cast_any (bundle_tables bundle) s.objects (class_definition (bundle_tables bundle) class) x ≡ Some r → acting bundle s (Casts class x) ≡ tells bundle s r
-unfolding found_by
+unfolding acting
 casts_is bundle s class x r h e =
     let d = acting_there bundle s (Casts class x) h in
-    acting_is bundle s (Casts class x) d.0 d.1 ∙ found_is bundle s (cast_any (bundle_tables bundle) s.objects (class_definition (bundle_tables bundle) class) x) r d.0 d.1 e
+    acting_is bundle s (Casts class x) d.0 d.1 ∙ tried_at bundle s d.0 (cast_any (bundle_tables bundle) s.objects (class_definition (bundle_tables bundle) class) x) r (gives_by bundle s) d.1 e
 
 pub ruleset finding = (finds_there, finds_is)
 

@@ -1,29 +1,31 @@
 -- Laws of the step of the thread in hand.
-use Rattle.std.specs.Prelude.{◌≡◌, ◌≢◌, ℕ, zero, suc, ◌+◌, ◌<◌, ◌==◌, Bool, true, false, List, [], ◌∷◌, Option, Some, None, Result, Ok, Err, IfOk, IsSome, is_some, length, find, slice_get, slice_set, option_and_then, if◌then◌else◌, refl}
+use Rattle.std.specs.Prelude.{◌≡◌, ◌≢◌, ℕ, zero, suc, ◌+◌, ◌<◌, ◌==◌, Bool, true, false, List, [], ◌∷◌, Option, Some, None, Result, Ok, Err, IfOk, IsSome, is_some, length, find, slice_get, slice_set, option_map, option_and_then, if◌then◌else◌, refl}
 use Rattle.std.proofs.Common.{sym, ◌∙◌, ap, arith, add-one, inl, inr}
 use Rattle.ir_tree.specs.declared.items.Item.{Item}
 use Rattle.code_check.specs.declared.code.Code.{Code}
 use Rattle.bundle_check.specs.declared.code.BlockCode.{BlockCode}
 use Rattle.bundle_check.specs.Checking.{bundle_blocks}
 use Rattle.bundle_check.specs.Answers.{code_at}
+use Rattle.typed_heap.specs.declared.faults.PlaceFault.{PlaceFault}
 use Rattle.typed_heap.specs.Places.{with_some}
 use Rattle.frames.specs.Activations.{Activation}
 use Rattle.frames.specs.Chains.{frames_of}
 use Rattle.mu_model.specs.declared.lines.Line.{Line}
 use Rattle.mu_model.specs.declared.endings.StepEnd.{StepEnd}
 use Rattle.mu_model.specs.declared.endings.StepEnd.TheVariants.{Went, Ended}
+use Rattle.mu_model.specs.declared.endings.Case.{Case}
 use Rattle.mu_model.specs.declared.endings.Ending.{Ending}
 use Rattle.mu_model.specs.Clients.{Client}
 use Rattle.mu_model.specs.Configuration.{Configuration}
-use Rattle.mu_model.specs.Acts.{Act, Doing, Program}
-use Rattle.mu_model.specs.Outcomes.{Outcome, Next, End, Stuck, on}
+use Rattle.mu_model.specs.Acts.{Act, Faults, Doing, Program}
+use Rattle.mu_model.specs.Outcomes.{Outcome, Next, End, Stuck, on, unless_refused, tried, or_case, case_of_fault}
 use Rattle.mu_model.specs.Step.{performed, turned}
 use Rattle.mu_model.specs.Waiting.{is_of}
 use Rattle.model_numbers.specs.Forms.{act_at}
 use Rattle.model_numbers.specs.Numbered.{does_at, numbered}
 use Rattle.thread_acts.specs.Outcome.{outcome_of}
 use Rattle.thread_acts.specs.Held.{Held, held_stacks, configured, configuration}
-use Rattle.thread_acts.specs.Acting.{told, left_configuration, begun, turn, doing_of, stepping, answers, went_on, acting}
+use Rattle.thread_acts.specs.Acting.{told, left_configuration, begun, turn, doing_of, stepping, answers, went_on, acting, found_or}
 
 -- ---- what goes on with something
 
@@ -176,5 +178,21 @@ acting_there bundle s a h = on_there (doing_of (numbered bundle) s) (λ d. perfo
 pub acting_is : (bundle : List Item) (s : Held) (a : Act) (d : Doing) → doing_of (numbered bundle) s ≡ Some d → acting bundle s a ≡ performed (numbered bundle) (begun s) (turn s d) a
 unfolding acting
 acting_is bundle s a d e = on_is (doing_of (numbered bundle) s) d (λ d. performed (numbered bundle) (begun s) (turn s d) a) e
+
+-- ---- what is found, or a fault
+
+mapped_there : {A : Type 0} (o : Option (Result A PlaceFault)) (r : Result A Case) → option_map or_case o ≡ Some r → IsSome o
+mapped_there None r h = cc
+mapped_there (Some a) r h = refl
+
+pub tried_found : {A : Type 0} (p : Program) (s : Held) (d : Doing) (o : Option (Result A PlaceFault)) (go : A → Outcome) → tried p (begun s) (turn s d) (option_map or_case o) go ≢ Stuck → IsSome o
+unfolding tried
+tried_found p s d o go h = let r = on_there (option_map or_case o) (unless_refused p (begun s) (turn s d) go) h in mapped_there o r.0 r.1
+
+pub tried_at : {A : Type 0} (bundle : List Item) (s : Held) (d : Doing) (o : Option (Result A PlaceFault)) (r : Result A PlaceFault) (go : Doing → A → Outcome) → doing_of (numbered bundle) s ≡ Some d → o ≡ Some r
+    → tried (numbered bundle) (begun s) (turn s d) (option_map or_case o) (go d) ≡ found_or bundle s (λ (a : A). on (doing_of (numbered bundle) s) (λ d. go d a)) r
+unfolding tried on
+tried_at bundle s d o (Ok a) go e h = ap (λ o. tried (numbered bundle) (begun s) (turn s d) (option_map or_case o) (go d)) h ∙ sym (on_is (doing_of (numbered bundle) s) d (λ d. go d a) e)
+tried_at bundle s d o (Err f) go e h = ap (λ o. tried (numbered bundle) (begun s) (turn s d) (option_map or_case o) (go d)) h ∙ sym (acting_is bundle s (Faults (case_of_fault f)) d e)
 
 pub ruleset running = (step_stands, step_acts)

@@ -38,7 +38,6 @@ use std::alloc::{AllocError, Global};
 use std::marker::Brand;
 use std::sync::ledger::{Blank, Ledger};
 use step_forms::Access;
-use typed_heap::what_is_found_fits;
 
 /// An access in the words of memory.
 fn wanted(access: Access) -> Wanted
@@ -160,30 +159,42 @@ pub fn line_of(alloc: Global, number: u32, event: Event) -> Result<Lines, AllocE
     Ok(lines)
 }
 
-/// How many options an access of a cell has, and the one that is picked.
+/// What is asked of a memory: what a thread wants of a cell.
+#[derive(Clone, Copy, Debug, PartialEq, Eq)]
+struct Asked {
+    thread: u32,
+    cell: CellId,
+    wanted: Wanted,
+}
+
+/// How many options there are for what is asked, and the one that is picked.
 fn option_picked<M: Memory, L: Ledger>(
     memory: &M,
-    thread: u32,
+    asked: Asked,
     picks: &Schedule,
     skip: u32,
-    cell: CellId,
-    wanted: &Wanted,
     blank: Blank,
 ) -> (u32, Chosen)
     requires name { blank.name ≡ L.name }
     requires parts { blank.parts ≡ L.parts }
     requires one { L.parts ≡ 1 }
-    requires thread { is_thread (M.log memory.now) thread ≡ true }
-    requires cell { HasCell (M.objects memory.now) cell }
+    requires thread { is_thread (M.log memory.now) asked.thread ≡ true }
+    requires cell { HasCell (M.objects memory.now) asked.cell }
     requires events { length (M.log memory.now) + 1 < 4294967295 }
-    ensures count { result.0 ≡ length (choices (M.rule memory.now) (initial_of (M.objects memory.now)) (M.log memory.now) thread cell wanted.now) }
+    ensures count { result.0 ≡ length (choices (M.rule memory.now) (initial_of (M.objects memory.now)) (M.log memory.now) asked.thread asked.cell asked.wanted) }
     ensures some { 0 < result.0 }
-    ensures option { slice_get (choices (M.rule memory.now) (initial_of (M.objects memory.now)) (M.log memory.now) thread cell wanted.now) (pick result.0 (drop skip picks.now)).0 ≡ Some result.1 }
+    ensures option { slice_get (choices (M.rule memory.now) (initial_of (M.objects memory.now)) (M.log memory.now) asked.thread asked.cell asked.wanted) (pick result.0 (drop skip picks.now)).0 ≡ Some result.1 }
 {
     let mut counter = Steps::<L>::new(blank);
-    let options = memory.options(thread, cell, wanted, &mut counter);
+    let options = memory.options(asked.thread, asked.cell, &asked.wanted, &mut counter);
     let picked = picks.look(skip, options);
-    let chosen = memory.choose(thread, cell, wanted, picked, &mut counter);
+    let chosen = memory.choose(
+        asked.thread,
+        asked.cell,
+        &asked.wanted,
+        picked,
+        &mut counter,
+    );
     (options, chosen)
 }
 
@@ -295,16 +306,8 @@ impl<M: Memory, C: Determined> State<M, C> {
         ensures err { OnErr result (self.new ≡ self.old) }
         ensures stays { IfOk result (λ end. Stays end self.old self.new) }
     {
-        what_is_found_fits();
-        let place = Scalar::Place {
-            object: cell.object,
-            at: cell.at,
-        };
-        match self.heap.cell_of(place) {
-            Ok(cell) => {
-                let _cells = self.heap.size(cell.object);
-                self.access_cell(code, access, cell, values, out)
-            }
+        match self.cell_there(cell) {
+            Ok(cell) => self.access_cell(code, access, cell, values, out),
             Err(fault) => self.refuse(code, case_of(fault), out),
         }
     }
@@ -326,13 +329,16 @@ impl<M: Memory, C: Determined> State<M, C> {
         ensures err { OnErr result (self.new ≡ self.old) }
         ensures stays { IfOk result (λ end. Stays end self.old self.new) }
     {
+        let asked = Asked {
+            thread: self.thread,
+            cell,
+            wanted: wanted(access),
+        };
         let (options, chosen) = option_picked::<M, Brand>(
             &self.memory,
-            self.thread,
+            asked,
             &self.picks,
             self.skip,
-            cell,
-            &wanted(access),
             Blank::new(1),
         );
         let event = Event {

@@ -1,7 +1,9 @@
-// Places that are found, and references that are cast.
+// Cells and places that are found, and references that are cast.
 ghost use Rattle.std.specs.Prelude.{◌≡◌, ◌≢◌, ◌<◌, IsSome, Some, IfOk, OnErr, length, slice_get, true};
 ghost use Rattle.bundle_check.specs.Checking.{bundle_tables};
-ghost use Rattle.typed_heap.specs.Places.{move, find_place};
+ghost use Rattle.mu_values.specs.declared.scalars.Scalar.TheVariants as scalars;
+ghost use Rattle.typed_heap.specs.Places.{cell_of, move, find_place};
+ghost use Rattle.mem_axioms.specs.Objects.{HasCell};
 ghost use Rattle.mu_model.specs.Acts as acts;
 ghost use Rattle.mu_model.specs.Objects.{cast_any};
 ghost use Rattle.mu_model.specs.Outcomes.{Stuck, case_of_fault};
@@ -12,18 +14,20 @@ ghost use Rattle.step_forms.specs.Classes.{class_of_way};
 ghost use Rattle.thread_acts.specs.Outcome.{Stays};
 ghost use Rattle.thread_acts.specs.Acting.{answers, acting};
 ghost use Rattle.thread_acts.specs.Making.{graph_of, tells};
+ghost use Rattle.thread_acts.specs.Remembering.{initials};
 
 use crate::state::State;
 use bundle_check::Checked;
 use check_tables::Tables;
 use client_hooks::Determined;
+use heap_cells::CellId;
 use mem_axioms::Memory;
 use mu_model::{Case, StepEnd};
 use mu_types::TypeDef;
 use mu_values::{Scalar, Slots};
 use std::alloc::AllocError;
 use step_forms::Way;
-use typed_heap::{Heap, PlaceFault};
+use typed_heap::{Heap, PlaceFault, what_is_found_fits};
 
 /// The case that a fault of a place is.
 pub fn case_of(fault: PlaceFault) -> Case
@@ -85,6 +89,26 @@ fn cast(heap: &Heap, code: &Checked, class: u32, scalar: Scalar) -> Result<Scala
 }
 
 impl<M: Memory, C: Determined> State<M, C> {
+    /// A cell, where it is there and is not dead; else the fault of its place.
+    pub fn cell_there(&self, cell: CellId) -> Result<CellId, PlaceFault>
+        requires { IsSome (cell_of self.now.objects (scalars.Place cell.object cell.at)) }
+        ensures found { cell_of self.now.objects (scalars.Place cell.object cell.at) ≡ Some result }
+        ensures there { IfOk result (λ cell. HasCell (initials self.now.objects) cell) }
+    {
+        what_is_found_fits();
+        let place = Scalar::Place {
+            object: cell.object,
+            at: cell.at,
+        };
+        match self.heap.cell_of(place) {
+            Ok(cell) => {
+                let _cells = self.heap.size(cell.object);
+                Ok(cell)
+            }
+            Err(fault) => Err(fault),
+        }
+    }
+
     /// The thread's instruction has what was found for its result, or meets the case of the fault.
     fn tell(
         &mut self,

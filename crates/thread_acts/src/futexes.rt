@@ -33,13 +33,20 @@ use mu_values::{Scalar, Slots};
 use std::alloc::AllocError;
 use std::marker::Brand;
 use std::sync::ledger::{Blank, Ledger};
-use typed_heap::what_is_found_fits;
 
 /// What a thread gets whose wait found another value, that is -1.
 const ANOTHER: u128 = 4294967295;
 
 /// What a thread gets whose wait with a limit is over, that is -3.
 const OVER: u128 = 4294967293;
+
+/// A wait at a cell: whether it has a limit, and the value that is expected there.
+#[derive(Clone, Copy, Debug, PartialEq, Eq)]
+struct CellWait {
+    timed: bool,
+    expected: Scalar,
+    cell: CellId,
+}
 
 /// One result, of an integer of 32 bits.
 pub fn tell(bits: u128, values: &mut Slots) -> Result<(), AllocError>
@@ -113,15 +120,14 @@ impl<M: Memory, C: Determined> State<M, C> {
         ensures err { OnErr result (self.new ≡ self.old) }
         ensures stays { IfOk result (λ end. Stays end self.old self.new) }
     {
-        what_is_found_fits();
-        let place = Scalar::Place {
-            object: cell.object,
-            at: cell.at,
-        };
-        match self.heap.cell_of(place) {
+        match self.cell_there(cell) {
             Ok(cell) => {
-                let _cells = self.heap.size(cell.object);
-                self.wait_at(code, timed, expected, cell, values, out)
+                let wait = CellWait {
+                    timed,
+                    expected,
+                    cell,
+                };
+                self.wait_at(code, wait, values, out)
             }
             Err(fault) => self.refuse(code, case_of(fault), out),
         }
@@ -131,28 +137,27 @@ impl<M: Memory, C: Determined> State<M, C> {
     fn wait_at(
         &mut self,
         code: &Checked,
-        timed: bool,
-        expected: Scalar,
-        cell: CellId,
+        wait: CellWait,
         values: &mut Slots,
         out: &mut Slots,
     ) -> Result<StepEnd, AllocError>
         requires left { self.old.left ≡ true }
         requires room { self.old.steps < self.old.budget }
         requires goes_on { GoesOn self.old }
-        requires cell { HasCell (initials self.old.objects) cell }
-        requires there { waiting_at code.now self.old timed expected cell ≢ Stuck }
-        ensures ok { IfOk result (λ end. answers end self.new ≡ waiting_at code.now self.old timed expected cell) }
+        requires cell { HasCell (initials self.old.objects) wait.cell }
+        requires there { waiting_at code.now self.old wait.timed wait.expected wait.cell ≢ Stuck }
+        ensures ok { IfOk result (λ end. answers end self.new ≡ waiting_at code.now self.old wait.timed wait.expected wait.cell) }
         ensures err { OnErr result (self.new ≡ self.old) }
         ensures stays { IfOk result (λ end. Stays end self.old self.new) }
     {
+        let cell = wait.cell;
         let chosen = newest::<M, Brand>(&self.memory, self.thread, cell, Blank::new(1));
         let event = Event {
             thread: self.thread,
             kind: read(cell, Order::Relaxed, chosen),
         };
-        if is_same_scalar(chosen.value, expected) {
-            return self.stand_waiting(event, cell, timed);
+        if is_same_scalar(chosen.value, wait.expected) {
+            return self.stand_waiting(event, cell, wait.timed);
         }
         tell(ANOTHER, values)?;
         let place = passing(code, self.frames.top(), values, out)?;

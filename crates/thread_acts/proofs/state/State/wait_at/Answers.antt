@@ -5,17 +5,17 @@ use Rattle.thread_acts.proofs.FutexViews.{wait_fits, wait_goes_on, waited_on, wa
 use Rattle.thread_acts.proofs.state.State.wait_at.Goals as goal
 
 pub stand_waiting-requires-clause-fits : goal.stand_waiting-requires-clause-fits
-stand_waiting-requires-clause-fits g c = wait_fits c.args.code.now c.args.self.now _ c.args.timed c.args.expected c.args.cell _ _ c.self.view_is c.self.invariant.0 c.newest-chosen.ensures _ c.read.ensures (hand_made _ _ _ _ _ c.self.invariant.5 (ap (λ (s : Held). s.left) c.self.view_is ∙ c.requires.left)) c.requires.cell
+stand_waiting-requires-clause-fits g c = wait_fits c.args.code.now c.args.self.now _ c.args.wait.timed c.args.wait.expected c.args.wait.cell _ _ c.self.view_is c.self.invariant.0 c.newest-chosen.ensures _ c.read.ensures (hand_made _ _ _ _ _ c.self.invariant.5 (ap (λ (s : Held). s.left) c.self.view_is ∙ c.requires.left)) c.requires.cell
 
 pub log-requires-clause-fits : goal.log-requires-clause-fits
-log-requires-clause-fits g c = wait_fits c.args.code.now c.args.self.now _ c.args.timed c.args.expected c.args.cell _ _ c.self.view_is c.self.invariant.0 c.newest-chosen.ensures _ c.read.ensures (hand_made _ _ _ _ _ c.self.invariant.5 (ap (λ (s : Held). s.left) c.self.view_is ∙ c.requires.left)) c.requires.cell
+log-requires-clause-fits g c = wait_fits c.args.code.now c.args.self.now _ c.args.wait.timed c.args.wait.expected c.args.wait.cell _ _ c.self.view_is c.self.invariant.0 c.newest-chosen.ensures _ c.read.ensures (hand_made _ _ _ _ _ c.self.invariant.5 (ap (λ (s : Held). s.left) c.self.view_is ∙ c.requires.left)) c.requires.cell
 
 pub passing-requires : goal.passing-requires
-passing-requires g c = wait_goes_on c.args.code.now c.args.self.now _ c.args.timed c.args.expected c.args.cell _ _ c.self.view_is c.self.invariant.0 c.newest-chosen.ensures _ _ c.requires.there (sym c.is_same_scalar.ensures ∙ c.if-is_same_scalar.false) c.top.ensures c.in_ok-tell.ensures
+passing-requires g c = wait_goes_on c.args.code.now c.args.self.now _ c.args.wait.timed c.args.wait.expected c.args.wait.cell _ _ c.self.view_is c.self.invariant.0 c.newest-chosen.ensures _ _ c.requires.there (sym c.is_same_scalar.ensures ∙ c.if-is_same_scalar.false) c.top.ensures c.in_ok-tell.ensures
 
 pub returns-then-is_same_scalar-clause-ok : goal.returns-then-is_same_scalar-clause-ok
-returns-then-is_same_scalar-clause-ok g c = waited_here c.args.code.now c.args.self.now _ c.args.timed c.args.expected c.args.cell _ _ c.self.view_is c.self.invariant.0 c.newest-chosen.ensures c.stand_waiting.result _ _ c.requires.there (sym c.is_same_scalar.ensures ∙ c.if-is_same_scalar.true) c.read.ensures c.stand_waiting.ensures.ok
+returns-then-is_same_scalar-clause-ok g c = waited_here c.args.code.now c.args.self.now _ c.args.wait.timed c.args.wait.expected c.args.wait.cell _ _ c.self.view_is c.self.invariant.0 c.newest-chosen.ensures c.stand_waiting.result _ _ c.requires.there (sym c.is_same_scalar.ensures ∙ c.if-is_same_scalar.true) c.read.ensures c.stand_waiting.ensures.ok
 
 pub returns-clause-ok : goal.returns-clause-ok
 returns-clause-ok g c =
-    waited_on c.args.code.now c.args.self.now _ c.args.timed c.args.expected c.args.cell _ _ c.self.view_is c.self.invariant.0 c.newest-chosen.ensures c.log.result _ _ _ _ _ _ _ c.requires.there (sym c.is_same_scalar.ensures ∙ c.if-is_same_scalar.false) c.top.ensures c.in_ok-tell.ensures c.in_ok-place.ensures c.read.ensures c.log.ensures.ok
+    waited_on c.args.code.now c.args.self.now _ c.args.wait.timed c.args.wait.expected c.args.wait.cell _ _ c.self.view_is c.self.invariant.0 c.newest-chosen.ensures c.log.result _ _ _ _ _ _ _ c.requires.there (sym c.is_same_scalar.ensures ∙ c.if-is_same_scalar.false) c.top.ensures c.in_ok-tell.ensures c.in_ok-place.ensures c.read.ensures c.log.ensures.ok
