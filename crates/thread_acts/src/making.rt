@@ -8,7 +8,7 @@ ghost use Rattle.mu_model.specs.declared.endings.Ending.TheVariants as endings;
 ghost use Rattle.mu_model.specs.Outcomes.{Stuck};
 ghost use Rattle.thread_acts.specs.Outcome.{Stays};
 ghost use Rattle.thread_acts.specs.Acting.{answers, acting, faulting, goes_on};
-ghost use Rattle.thread_acts.specs.Making.{graph_of, owns, IsFull, act_of, leaves_made, result_made, frame_made};
+ghost use Rattle.thread_acts.specs.Making.{graph_of, IsFull, act_of, leaves_made, result_made, frame_made};
 ghost use Rattle.thread_acts.specs.Remembering.{initials};
 
 use crate::flow::{next_place, passing, stand};
@@ -32,6 +32,15 @@ pub enum Making {
     Own,
 }
 
+/// The newest object of a heap, by its number, and how it was made.
+#[derive(Clone, Copy)]
+struct Newest<'a> {
+    alloc: Global,
+    heap: &'a Heap,
+    number: u32,
+    making: Making,
+}
+
 /// What the cells of an object begin with.
 #[tactic(auto, using(crate::specs::Remembering::scalars))]
 fn initial_scalars(alloc: Global, heap: &Heap, object: u32) -> Result<Value, AllocError>
@@ -47,20 +56,15 @@ fn initial_scalars(alloc: Global, heap: &Heap, object: u32) -> Result<Value, All
 
 /// A memory is told of the newest object of a heap.
 #[tactic(auto, using(crate::specs::Remembering::newest_known))]
-fn remember<M: Memory>(
-    alloc: Global,
-    heap: &Heap,
-    number: u32,
-    memory: &mut M,
-) -> Result<(), AllocError>
-    requires number { number + 1 ≡ length heap.now.objects }
-    requires known { M.objects memory.old ≡ initials (take number heap.now.objects) }
-    ensures ok { OnOk result (M.objects memory.new ≡ initials heap.now.objects) }
+fn remember<M: Memory>(newest: Newest, memory: &mut M) -> Result<(), AllocError>
+    requires number { newest.number + 1 ≡ length newest.heap.now.objects }
+    requires known { M.objects memory.old ≡ initials (take newest.number newest.heap.now.objects) }
+    ensures ok { OnOk result (M.objects memory.new ≡ initials newest.entry.heap.now.objects) }
     ensures err { OnErr result (M.objects memory.new ≡ M.objects memory.old) }
     ensures log { M.log memory.new ≡ M.log memory.old }
     ensures rule { M.rule memory.new ≡ M.rule memory.old }
 {
-    memory.add_object(initial_scalars(alloc, heap, number)?)
+    memory.add_object(initial_scalars(newest.alloc, newest.heap, newest.number)?)
 }
 
 /// A memory is told of all objects of a heap.
@@ -103,45 +107,13 @@ fn new_object(heap: &mut Heap, code: &Checked, class: u32, making: Making) -> Re
     }
 }
 
-/// The frame has the newest object for its own, of which a memory is told. Its block and its variables, with their room, stay. Where no
-/// memory is found all is as before.
-fn own<M: Memory>(
-    alloc: Global,
-    heap: &Heap,
-    number: u32,
-    memory: &mut M,
-    frame: &mut Frame,
-) -> Result<(), AllocError>
-    requires number { number + 1 ≡ length heap.now.objects }
-    requires known { M.objects memory.old ≡ initials (take number heap.now.objects) }
-    ensures frame { OnOk result (frame_of frame.new ≡ owns (frame_of frame.old) number) }
-    ensures ok { OnOk result (M.objects memory.new ≡ initials heap.now.objects) }
-    ensures same { OnErr result (frame_of frame.new ≡ frame_of frame.old) }
-    ensures block { frame.new.block ≡ frame.old.block }
-    ensures slots { frame.new.slots ≡ frame.old.slots }
-    ensures err { OnErr result (M.objects memory.new ≡ M.objects memory.old) }
-    ensures log { M.log memory.new ≡ M.log memory.old }
-    ensures rule { M.rule memory.new ≡ M.rule memory.old }
-{
-    frame.cells.reserve(1)?;
-    remember(alloc, heap, number, memory)?;
-    frame.cells.push(number)
-}
-
 /// A memory is told of the newest object, which the frame has for its own where it is made so. The frame's block and its variables,
 /// with their room, stay. Where no memory is found all is as before.
-fn tell<M: Memory>(
-    alloc: Global,
-    heap: &Heap,
-    number: u32,
-    making: Making,
-    memory: &mut M,
-    frame: &mut Frame,
-) -> Result<(), AllocError>
-    requires number { number + 1 ≡ length heap.now.objects }
-    requires known { M.objects memory.old ≡ initials (take number heap.now.objects) }
-    ensures frame { OnOk result (frame_of frame.new ≡ frame_made making (frame_of frame.old) number) }
-    ensures ok { OnOk result (M.objects memory.new ≡ initials heap.now.objects) }
+fn tell<M: Memory>(newest: Newest, memory: &mut M, frame: &mut Frame) -> Result<(), AllocError>
+    requires number { newest.number + 1 ≡ length newest.heap.now.objects }
+    requires known { M.objects memory.old ≡ initials (take newest.number newest.heap.now.objects) }
+    ensures frame { OnOk result (frame_of frame.new ≡ frame_made newest.entry.making (frame_of frame.old) newest.entry.number) }
+    ensures ok { OnOk result (M.objects memory.new ≡ initials newest.entry.heap.now.objects) }
     ensures same { OnErr result (frame_of frame.new ≡ frame_of frame.old) }
     ensures block { frame.new.block ≡ frame.old.block }
     ensures slots { frame.new.slots ≡ frame.old.slots }
@@ -149,9 +121,13 @@ fn tell<M: Memory>(
     ensures log { M.log memory.new ≡ M.log memory.old }
     ensures rule { M.rule memory.new ≡ M.rule memory.old }
 {
-    match making {
-        Making::Own => own(alloc, heap, number, memory, frame),
-        Making::Object | Making::Hybrid { .. } => remember(alloc, heap, number, memory),
+    match newest.making {
+        Making::Own => {
+            frame.cells.reserve(1)?;
+            remember(newest, memory)?;
+            frame.cells.push(newest.number)
+        }
+        Making::Object | Making::Hybrid { .. } => remember(newest, memory),
     }
 }
 
@@ -171,19 +147,16 @@ fn result_of(making: Making, number: u32) -> Scalar
 /// A memory is told of the newest object, and the top frame stands at a place of its block with these results behind its own variables.
 /// Where no memory is found the frames and the memory are as before.
 fn give_next<M: Memory>(
-    alloc: Global,
-    heap: &Heap,
-    number: u32,
-    making: Making,
+    newest: Newest,
     memory: &mut M,
     frames: &mut Frames,
     at: u32,
     results: &Slots,
 ) -> Result<(), AllocError>
-    requires number { number + 1 ≡ length heap.now.objects }
-    requires known { M.objects memory.old ≡ initials (take number heap.now.objects) }
-    ensures frames { OnOk result (frames.new ≡ record frames.old { top = stands (frame_made making frames.old.top number) frames.old.top.block at (frames.old.top.vars ++ results.now.values) }) }
-    ensures ok { OnOk result (M.objects memory.new ≡ initials heap.now.objects) }
+    requires number { newest.number + 1 ≡ length newest.heap.now.objects }
+    requires known { M.objects memory.old ≡ initials (take newest.number newest.heap.now.objects) }
+    ensures frames { OnOk result (frames.new ≡ record frames.old { top = stands (frame_made newest.entry.making frames.old.top newest.entry.number) frames.old.top.block at (frames.old.top.vars ++ results.now.values) }) }
+    ensures ok { OnOk result (M.objects memory.new ≡ initials newest.entry.heap.now.objects) }
     ensures same { OnErr result (frames.new ≡ frames.old) }
     ensures err { OnErr result (M.objects memory.new ≡ M.objects memory.old) }
     ensures log { M.log memory.new ≡ M.log memory.old }
@@ -191,7 +164,7 @@ fn give_next<M: Memory>(
 {
     let frame = frames.top_mut();
     frame.slots.reserve_for(results)?;
-    tell(alloc, heap, number, making, memory, frame)?;
+    tell(newest, memory, frame)?;
     frame.stand_behind(at, results);
     Ok(())
 }
@@ -200,34 +173,31 @@ fn give_next<M: Memory>(
 /// the memory are as before; the lists may have changed.
 #[tactic(auto, using(crate::specs::ObjectLaws::frames_made))]
 fn give<M: Memory>(
-    alloc: Global,
     code: &Checked,
-    heap: &Heap,
-    number: u32,
-    making: Making,
+    newest: Newest,
     memory: &mut M,
     frames: &mut Frames,
     values: &mut Slots,
     out: &mut Slots,
 ) -> Result<(), AllocError>
-    requires number { number + 1 ≡ length heap.now.objects }
-    requires known { M.objects memory.old ≡ initials (take number heap.now.objects) }
-    requires there { IsSome (goes_on code.now (frame_made making frames.old.top number) ((result_made making number ∷ []) ∷ [])) }
-    ensures top { OnOk result (goes_on code.now (frame_made making frames.old.top number) ((result_made making number ∷ []) ∷ []) ≡ Some frames.new.top) }
+    requires number { newest.number + 1 ≡ length newest.heap.now.objects }
+    requires known { M.objects memory.old ≡ initials (take newest.number newest.heap.now.objects) }
+    requires there { IsSome (goes_on code.now (frame_made newest.making frames.old.top newest.number) ((result_made newest.making newest.number ∷ []) ∷ [])) }
+    ensures top { OnOk result (goes_on code.now (frame_made newest.entry.making frames.old.top newest.entry.number) ((result_made newest.entry.making newest.entry.number ∷ []) ∷ []) ≡ Some frames.new.top) }
     ensures below { frames.new.below ≡ frames.old.below }
-    ensures ok { OnOk result (M.objects memory.new ≡ initials heap.now.objects) }
+    ensures ok { OnOk result (M.objects memory.new ≡ initials newest.entry.heap.now.objects) }
     ensures same { OnErr result (frames.new ≡ frames.old) }
     ensures err { OnErr result (M.objects memory.new ≡ M.objects memory.old) }
     ensures log { M.log memory.new ≡ M.log memory.old }
     ensures rule { M.rule memory.new ≡ M.rule memory.old }
 {
     values.clear();
-    values.push_scalar(result_of(making, number))?;
+    values.push_scalar(result_of(newest.making, newest.number))?;
     if let Some(at) = next_place(code, frames.top()) {
-        return give_next(alloc, heap, number, making, memory, frames, at, values);
+        return give_next(newest, memory, frames, at, values);
     }
     let place = passing(code, frames.top(), values, out)?;
-    tell(alloc, heap, number, making, memory, frames.top_mut())?;
+    tell(newest, memory, frames.top_mut())?;
     stand(frames, place, out);
     Ok(())
 }
@@ -284,12 +254,15 @@ impl<M: Memory, C: Determined> State<M, C> {
     {
         match new_object(&mut self.heap, code, class, making) {
             Ok(number) => {
-                let given = give(
-                    self.alloc,
-                    code,
-                    &self.heap,
+                let newest = Newest {
+                    alloc: self.alloc,
+                    heap: &self.heap,
                     number,
                     making,
+                };
+                let given = give(
+                    code,
+                    newest,
                     &mut self.memory,
                     &mut self.frames,
                     values,

@@ -8,5 +8,5 @@ use Rattle.thread_acts.proofs.making.give.Goals as goal
 
 pub next_place-requires : goal.next_place-requires
 next_place-requires g c =
-    let there = frame_there _ _ c.args.making c.args.number _ c.requires.there in
-    λ fresh. goes_on_there _ (frame_of c.top.result.now) ((result_made c.args.making c.args.number ∷ []) ∷ []) fresh (subst (λ f. IsSome (goes_on c.args.code.now f ((result_made c.args.making c.args.number ∷ []) ∷ []))) (sym c.top.ensures) there)
+    let there = frame_there _ _ c.args.newest.making c.args.newest.number _ c.requires.there in
+    λ fresh. goes_on_there _ (frame_of c.top.result.now) ((result_made c.args.newest.making c.args.newest.number ∷ []) ∷ []) fresh (subst (λ f. IsSome (goes_on c.args.code.now f ((result_made c.args.newest.making c.args.newest.number ∷ []) ∷ []))) (sym c.top.ensures) there)
