@@ -1,5 +1,5 @@
 -- An access is offered exactly what the axioms let it take: its choices are those.
-use Rattle.std.specs.Prelude.{◌≡◌, ◌⊎◌, ◌<◌, ◌≤◌, ◌&&◌, not, ℕ, zero, suc, Bool, true, false, nat_le, List, [], ◌∷◌, ◌++◌, Option, Some, None, Result, Ok, length, map, option_map, slice_get, refl, if◌then◌else◌}
+use Rattle.std.specs.Prelude.{◌≡◌, ◌⊎◌, ◌<◌, ◌≤◌, not, ℕ, zero, suc, Bool, true, false, nat_le, List, [], ◌∷◌, ◌++◌, Option, Some, None, Result, Ok, length, map, option_map, slice_get, refl, if◌then◌else◌}
 use Rattle.std.proofs.Common.{sym, ◌∙◌, ap, subst, inl, inr, arith}
 use Rattle.std.proofs.Math.Nat.{mod-eq_of_lt}
 use Rattle.std.proofs.lemmas.Bool.{and_from, and_parts, cases_lt, false≢true, leb-true}
@@ -23,7 +23,7 @@ use Rattle.mem_axioms.specs.declared.types.Mode.TheVariants.{Read, Write, Update
 use Rattle.mem_axioms.specs.declared.types.Kind.TheVariants as kinds
 use Rattle.mem_axioms.specs.declared.types.Event.{Event}
 use Rattle.mem_axioms.specs.declared.types.Chosen.{Chosen}
-use Rattle.mem_axioms.specs.declared.types.Wanted.TheVariants.{Load, Swap, Compare}
+use Rattle.mem_axioms.specs.declared.types.Wanted.TheVariants.{Swap}
 use Rattle.mem_axioms.specs.Lemmas.Added.{meets-newest}
 use Rattle.mem_axioms.specs.Lemmas.Kept.{keeps-next}
 use Rattle.mem_axioms.specs.Lemmas.Offers.{may_take, reads-below, choices-load, choices-swap, choices-compare, nth-success}
@@ -41,7 +41,7 @@ use Rattle.mu_model.specs.Waiting.{waited}
 use Rattle.mu_model.specs.Step.{performed, picked}
 use Rattle.model_laws.proofs.Accessing.{pick_below}
 use Rattle.model_laws.proofs.Basics.{some_below}
-use Rattle.text_programs.specs.Offers.{IsOffered, MayTake, OffersExactly, Succeeds, Takes, taking}
+use Rattle.text_programs.specs.Offers.{IsOffered, MayTake, OffersExactly, Succeeds, Takes}
 
 -- ---- what stands in a list
 
