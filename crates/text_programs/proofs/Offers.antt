@@ -1,5 +1,5 @@
 -- An access is offered exactly what the axioms let it take: its choices are those.
-use Rattle.std.specs.Prelude.{◌≡◌, ◌⊎◌, ◌<◌, ◌≤◌, not, ℕ, zero, suc, Bool, true, false, nat_le, List, [], ◌∷◌, ◌++◌, Option, Some, None, Result, Ok, length, map, option_map, slice_get, refl, if◌then◌else◌}
+use Rattle.std.specs.Prelude.{◌≡◌, ◌⊎◌, ◌<◌, ◌≤◌, not, ℕ, zero, suc, Bool, true, false, nat_le, List, [], ◌∷◌, ◌++◌, Option, Some, None, Result, Ok, find, length, map, option_map, slice_get, refl, if◌then◌else◌}
 use Rattle.std.proofs.Common.{sym, ◌∙◌, ap, subst, inl, inr, arith}
 use Rattle.std.proofs.Math.Nat.{mod-eq_of_lt}
 use Rattle.std.proofs.lemmas.Bool.{and_from, and_parts, cases_lt, false≢true, leb-true}
@@ -12,15 +12,18 @@ use Rattle.mu_values.specs.ScalarLaws.{same_scalar-refl, same_scalar-true}
 use Rattle.heap_cells.specs.declared.cells.CellId.{CellId}
 use Rattle.heap_cells.specs.CellLaws.{same_cell-refl}
 use Rattle.typed_heap.specs.declared.faults.PlaceFault.{PlaceFault}
-use Rattle.typed_heap.specs.Places.{cell_in}
+use Rattle.typed_heap.specs.Places.{cell_in, with_some}
+use Rattle.frames.specs.Activations.{Activation}
 use Rattle.mem_axioms.specs.Events.{modifies, position_of}
 use Rattle.mem_axioms.specs.Logs.{newest}
 use Rattle.mem_axioms.specs.Form.{is_value_at, value_at}
 use Rattle.mem_axioms.specs.Axioms.{meets_axioms}
+use Rattle.mem_axioms.specs.Races.{race}
 use Rattle.mem_axioms.specs.Choices.{chosen_at, choices, holds, is_option}
 use Rattle.mem_axioms.specs.Reads.{below, excluded_by, is_kept}
 use Rattle.mem_axioms.specs.declared.types.Mode.TheVariants.{Read, Write, Update}
 use Rattle.mem_axioms.specs.declared.types.Kind.TheVariants as kinds
+use Rattle.mem_axioms.specs.declared.types.Kind.{Kind}
 use Rattle.mem_axioms.specs.declared.types.Event.{Event}
 use Rattle.mem_axioms.specs.declared.types.Chosen.{Chosen}
 use Rattle.mem_axioms.specs.declared.types.Wanted.TheVariants.{Swap}
@@ -32,16 +35,17 @@ use Rattle.mem_axioms.specs.Lemmas.Positions.{fits-next}
 use Rattle.mu_threads.specs.Picks.{pick, picked_from}
 use Rattle.mu_model.specs.Configuration.{Configuration}
 use Rattle.mu_model.specs.Acts as acts
-use Rattle.mu_model.specs.Acts.{Access, Loads, Stores, Compares, Updates, Program}
-use Rattle.mu_model.specs.Turns.{Turn}
+use Rattle.mu_model.specs.Acts.{Access, Act, Loads, Stores, Compares, Updates, Program}
+use Rattle.mu_model.specs.Turns.{Turn, turn_of}
 use Rattle.mu_model.specs.Changes.{event}
-use Rattle.mu_model.specs.Accesses.{initial, picking_option, takes_option, wanted}
-use Rattle.mu_model.specs.Outcomes.{Outcome, on, or_case, tried}
-use Rattle.mu_model.specs.Waiting.{waited}
-use Rattle.mu_model.specs.Step.{performed, picked}
+use Rattle.mu_model.specs.Accesses.{access_results, accessed, initial, kind_of, picking_option, raced, takes_option, updated, wanted}
+use Rattle.mu_model.specs.Outcomes.{Outcome, on, onto, or_case, tried}
+use Rattle.mu_model.specs.Frames.{passed}
+use Rattle.mu_model.specs.Waiting.{found_another, is_of, waited, waits_at}
+use Rattle.mu_model.specs.Step.{performed, picked, turned, turns}
 use Rattle.model_laws.proofs.Accessing.{pick_below}
 use Rattle.model_laws.proofs.Basics.{some_below}
-use Rattle.text_programs.specs.Offers.{IsOffered, MayTake, OffersExactly, Succeeds, Takes}
+use Rattle.text_programs.specs.Offers.{IsOffered, Logs, MayTake, OffersExactly, Succeeds, Takes, taking}
 
 -- ---- what stands in a list
 
@@ -129,7 +133,7 @@ module _ (c : Configuration) (thread : ℕ) (cell : CellId) (m : meets_axioms c.
     comparison = Compares weak o f expected v
 
     won : holds (initial c) c.log cell expected (newest c.log cell) ≡ true → MayTake c thread comparison cell (chosen true (newest c.log cell))
-    won h = record { stands = refl; succeeds = by weak; allowed = λ w. updated_there o w }
+    won h = record { stands = refl; succeeds = by weak; allowed = λ w. updated_there o v }
       where
         equal : value_at (initial c) c.log cell (newest c.log cell) ≡ expected
         equal = same_scalar-true (value_at (initial c) c.log cell (newest c.log cell)) expected h
@@ -164,7 +168,7 @@ module _ (c : Configuration) (thread : ℕ) (cell : CellId) (m : meets_axioms c.
 
   may : (a : Access) (n : ℕ) (k : Chosen) → slice_get (offered a) n ≡ Some k → MayTake c thread a cell k
   may (Loads o) n k e = load_may o n k e
-  may (Stores o v) n k e = subst (MayTake c thread (Stores o v) cell) (swap_is n k e) (record { stands = refl; succeeds = refl; allowed = λ w. written o w })
+  may (Stores o v) n k e = subst (MayTake c thread (Stores o v) cell) (swap_is n k e) (record { stands = refl; succeeds = refl; allowed = λ w. written o v })
   may (Compares weak o f expected v) n k e = compare_may weak o f expected v n k e
   may (Updates o op v) n k e = subst (MayTake c thread (Updates o op v) cell) (swap_is n k e) (record { stands = refl; succeeds = refl; allowed = λ w. updated_there o w })
 
@@ -263,9 +267,37 @@ tried_at : (p : Program) (d : Configuration) (u : Turn) (o : Option (Result Cell
 unfolding tried on
 tried_at p d u o go cell e = subst (λ (x : Option (Result CellId PlaceFault)). tried p d u (option_map or_case x) go ≡ go cell) (sym e) refl
 
-on_at : (o : Option Chosen) (go : Chosen → Outcome) (k : Chosen) → o ≡ Some k → on o go ≡ go k
+on_at : {A : Type 0} (o : Option A) (go : A → Outcome) (a : A) → o ≡ Some a → on o go ≡ go a
 unfolding on
-on_at o go k e = subst (λ (x : Option Chosen). on x go ≡ go k) (sym e) refl
+on_at {A} o go a e = subst (λ (x : Option A). on x go ≡ go a) (sym e) refl
+
+-- ---- what is logged
+
+-- it is of the choice
+logged_so : (a : Access) (cell : CellId) (k : Chosen) (kind : Kind) → kind_of a cell k ≡ Some kind → (w : Scalar) × (kind ≡ taking a cell k w)
+logged_so (Loads o) cell k kind e = (k.value, cc)
+logged_so (Stores o v) cell k kind e = (v, cc)
+logged_so (Compares weak o f expected v) cell k kind e = (v, cc)
+logged_so (Updates o op v) cell k kind e = by (updated op k.value v) e
+  where
+    by : (s : Option Scalar) → with_some s (λ w. Some (kinds.Access Update cell o (suc k.position) w)) ≡ Some kind → (w : Scalar) × (kind ≡ kinds.Access Update cell o (suc k.position) w)
+    by None e = cc
+    by (Some w) e = (w, cc)
+
+module _ (c : Configuration) (u : Turn) (a : Access) (cell : CellId) (k : Chosen) (d : Configuration) (same : d.log ≡ c.log) where
+  race_logs : (kind : Kind) (w : Scalar) → kind ≡ taking a cell k w → (fs : List Activation) (n : Option ℕ) → Logs c u.thread a cell k (raced d u (event u.thread kind) fs n)
+  unfolding on
+  race_logs kind w e fs None = (w, ap (λ (log : List Event). event u.thread kind ∷ log) same ∙ ap (λ (x : Kind). event u.thread x ∷ c.log) e)
+  race_logs kind w e fs (Some n) = (w, ap (event u.thread) e)
+
+  kind_logs : (o : Option Kind) → kind_of a cell k ≡ o → (frames : Option (List Activation)) → Logs c u.thread a cell k (accessed d u o frames)
+  unfolding on
+  kind_logs None e frames = tt
+  kind_logs (Some kind) e None = tt
+  kind_logs (Some kind) e (Some fs) = let s = logged_so a cell k kind e in race_logs kind s.0 s.1 fs (race d.rule d.log (event u.thread kind))
+
+  access_logs : (frames : Option (List Activation)) → Logs c u.thread a cell k (accessed d u (kind_of a cell k) frames)
+  access_logs frames = kind_logs (kind_of a cell k) refl frames
 
 module _ (p : Program) (c : Configuration) (m : meets_axioms c.rule (initial c) c.log ≡ true) (u : Turn) (cell : CellId) (there : cell_in c.objects cell ≡ Some (Ok cell)) where
   abbrev ones : Access → List Chosen
@@ -287,8 +319,34 @@ module _ (p : Program) (c : Configuration) (m : meets_axioms c.rule (initial c) 
       let same = picks_it (length (ones a)) n.0 (slice_get_within (ones a) n.0 k n.1) in
       (n.0 ∷ [], (pick (length (ones a)) (n.0 ∷ [])).1, takes_picked a (n.0 ∷ []) k (ap (slice_get (ones a)) same ∙ n.1))
 
+  logs : (a : Access) (k : Chosen) (rest : List ℕ) → Logs c u.thread a cell k (takes_option p (picked c rest) u a cell k)
+  logs a k rest = access_logs c u a cell k (picked c rest) refl (with_some (passed p u.top (access_results a k)) (onto u))
+
+  wait_logs : (timed : Bool) (v : Scalar) (ps : List ℕ) (k : Chosen) → Logs c u.thread (Loads Relaxed) cell k (waited p (picked c ps) u timed v cell k)
+  wait_logs timed v ps k = by (same_scalar k.value v)
+    where
+      waits_there : Configuration
+      waits_there = waits_at u timed cell (picked c ps)
+
+      stays : Outcome
+      stays = accessed waits_there u (kind_of (Loads Relaxed) cell k) (onto u u.top)
+
+      goes_on : Outcome
+      goes_on = accessed (picked c ps) u (kind_of (Loads Relaxed) cell k) (with_some (passed p u.top ((found_another ∷ []) ∷ [])) (onto u))
+
+      by : (b : Bool) → Logs c u.thread (Loads Relaxed) cell k (if b then stays else goes_on)
+      by true = access_logs c u (Loads Relaxed) cell k waits_there refl (onto u u.top)
+      by false = access_logs c u (Loads Relaxed) cell k (picked c ps) refl (with_some (passed p u.top ((found_another ∷ []) ∷ [])) (onto u))
+
+  turn : (i : ℕ) (act : Act) (ps : List ℕ) → turn_of p c i ≡ Some u → find (is_of i) c.waiters ≡ None → u.doing.act ≡ Some act → turns p (picked c ps) i ≡ performed p (picked c ps) u act
+  turn i act ps t free e =
+      on_at (turn_of p c i) (turned p (picked c ps) (find (is_of i) c.waiters)) u t
+      ∙ ap (λ w. turned p (picked c ps) w u) free
+      ∙ on_at u.doing.act (performed p (picked c ps) u) act e
+
   waits : (timed : Bool) (v : Scalar) (ps : List ℕ) → (k : Chosen) × MayTake c u.thread (Loads Relaxed) cell k × (k.position ≡ newest c.log cell)
       × (performed p (picked c ps) u (acts.Waits timed v cell) ≡ waited p (picked c ps) u timed v cell k)
+      × Logs c u.thread (Loads Relaxed) cell k (waited p (picked c ps) u timed v cell k)
   waits timed v ps =
       let k = chosen_at (initial c) c.log cell false (newest c.log cell) in
       let first = newest-first-choice c.rule (initial c) c.log u.thread cell m Relaxed in (
@@ -297,10 +355,11 @@ module _ (p : Program) (c : Configuration) (m : meets_axioms c.rule (initial c) 
         refl,
         tried_at p (picked c ps) u (cell_in c.objects cell) (λ d. on (slice_get (choices c.rule (initial c) c.log u.thread d (wanted (Loads Relaxed))) 0) (waited p (picked c ps) u timed v d)) cell there
             ∙ on_at (slice_get (ones (Loads Relaxed)) 0) (waited p (picked c ps) u timed v cell) k first,
+        wait_logs timed v ps k,
       )
 
   is_offered : IsOffered p c u cell
-  is_offered = record { only = only; all = all; waits = waits }
+  is_offered = record { only = only; all = all; logs = logs; waits = waits; turn = turn }
 
 pub offers_exactly : (p : Program) (c : Configuration) → meets_axioms c.rule (initial c) c.log ≡ true → OffersExactly p c
 offers_exactly p c m = λ u cell there. is_offered p c m u cell there
