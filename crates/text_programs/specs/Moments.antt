@@ -73,7 +73,7 @@ EndsSoundly p c = (ls : List Line) (e : Ending) → client_answers p c.client (s
 
 pub record IsSoundMoment (p : Program) (c : Configuration) : Type 0 where
   pub log : IsSoundLog c.rule (initial c) c.log
-  -- an access is offered what the axioms of memory let it take, and nothing else
+  -- an access is offered what the axioms of memory and its comparison let it take, and nothing else
   pub offers : OffersExactly p c
   -- no two threads are on one stack, and no thread is on two
   pub owners : OneOwner c

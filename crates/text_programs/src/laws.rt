@@ -28,9 +28,9 @@ pub fn entered_runs_have_an_ending()
 {}
 
 /// At each moment of the run of a function that may be entered, in a setting that fits, the log meets the axioms of memory, no two of its
-/// events race, each of its reads was an option of its past, an access that comes next is offered exactly what the axioms let it take, no
-/// two threads are on one stack and no thread is on two, the next step has a rule, and where that step gives the ending the log that is
-/// left is sound too.
+/// events race, each of its reads was an option of its past, an access that comes next is offered exactly what the axioms and its
+/// comparison let it take, no two threads are on one stack and no thread is on two, the next step has a rule, and where that step gives
+/// the ending the log that is left is sound too.
 pub fn moments_are_sound()
     ensures { MomentsOfTextsAreSound }
 {}
