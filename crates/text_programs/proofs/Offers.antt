@@ -1,5 +1,5 @@
 -- An access is offered exactly what the axioms and its comparison let it take: its choices are those.
-use Rattle.std.specs.Prelude.{◌≡◌, ◌⊎◌, ◌<◌, ◌≤◌, not, ℕ, zero, suc, Bool, true, false, nat_le, List, [], ◌∷◌, ◌++◌, Option, Some, None, Result, Ok, find, length, map, option_map, slice_get, refl, if◌then◌else◌}
+use Rattle.std.specs.Prelude.{◌≡◌, ◌⊎◌, ◌<◌, ◌≤◌, not, ℕ, zero, suc, Bool, true, false, nat_le, List, [], ◌∷◌, ◌++◌, Option, Some, None, Result, Ok, ◌==◌, filter, find, length, map, option_map, slice_get, refl, if◌then◌else◌}
 use Rattle.std.proofs.Common.{sym, ◌∙◌, ap, subst, inl, inr, arith}
 use Rattle.std.proofs.Math.Nat.{mod-eq_of_lt}
 use Rattle.std.proofs.lemmas.Bool.{and_from, and_parts, cases_lt, false≢true, leb-true}
@@ -33,16 +33,17 @@ use Rattle.mem_axioms.specs.Lemmas.Offers.{may_take, reads-below, choices-load, 
 use Rattle.mem_axioms.specs.Lemmas.Options.{choices-some, newest-first-choice}
 use Rattle.mem_axioms.specs.Lemmas.Positions.{fits-next}
 use Rattle.mu_threads.specs.Picks.{pick, picked_from}
+use Rattle.mu_model.specs.declared.endings.Ending.TheVariants.{Budget}
 use Rattle.mu_model.specs.Configuration.{Configuration}
 use Rattle.mu_model.specs.Acts as acts
 use Rattle.mu_model.specs.Acts.{Access, Act, Loads, Stores, Compares, Updates, Program}
 use Rattle.mu_model.specs.Turns.{Turn, turn_of}
 use Rattle.mu_model.specs.Changes.{event}
 use Rattle.mu_model.specs.Accesses.{access_results, accessed, initial, kind_of, picking_option, raced, takes_option, updated, wanted}
-use Rattle.mu_model.specs.Outcomes.{Outcome, on, onto, or_case, tried}
+use Rattle.mu_model.specs.Outcomes.{End, Outcome, on, onto, or_case, tried}
 use Rattle.mu_model.specs.Frames.{passed}
 use Rattle.mu_model.specs.Waiting.{found_another, is_of, waited, waits_at}
-use Rattle.mu_model.specs.Step.{performed, picked, turned, turns}
+use Rattle.mu_model.specs.Step.{ends_or_picks, is_blocked, performed, picked, picking_thread, runnable, step, threads_from, turned, turns}
 use Rattle.model_laws.proofs.Accessing.{pick_below}
 use Rattle.model_laws.proofs.Basics.{some_below}
 use Rattle.text_programs.specs.Offers.{IsOffered, Logs, MayTake, OffersExactly, Succeeds, Takes, taking}
@@ -261,6 +262,17 @@ picks_it many n l = by (nat_le many 1) refl
     by true e = let few = leb-true many 1 e in let first : 0 ≡ n = omega (arith, few) in first
     by false e = mod-eq_of_lt l
 
+-- and leaves what stands behind
+picks_leaving : (many n : ℕ) (rest : List ℕ) → n < many → (ps : List ℕ) × (pick many ps ≡ (n, rest))
+picks_leaving many n rest l = by (nat_le many 1) refl
+  where
+    chosen_of : Bool → List ℕ → ℕ × List ℕ
+    chosen_of b ps = if b then (0, ps) else picked_from many ps
+
+    by : (b : Bool) → nat_le many 1 ≡ b → (ps : List ℕ) × (chosen_of b ps ≡ (n, rest))
+    by true e = let few = leb-true many 1 e in let first : 0 ≡ n = omega (arith, few, l) in (rest, ap (λ (x : ℕ). (x, rest)) first)
+    by false e = (n ∷ rest, ap (λ (x : ℕ). (x, rest)) (mod-eq_of_lt l))
+
 -- ---- what is done
 
 tried_at : (p : Program) (d : Configuration) (u : Turn) (o : Option (Result CellId PlaceFault)) (go : CellId → Outcome) (cell : CellId) → o ≡ Some (Ok cell) → tried p d u (option_map or_case o) go ≡ go cell
@@ -298,6 +310,26 @@ module _ (c : Configuration) (u : Turn) (a : Access) (cell : CellId) (k : Chosen
 
   access_logs : (frames : Option (List Activation)) → Logs c u.thread a cell k (accessed d u (kind_of a cell k) frames)
   access_logs frames = kind_logs (kind_of a cell k) refl frames
+
+-- where a thread may be picked and a step is left, one is
+picks_one : (p : Program) (d : Configuration) (n i : ℕ) → (d.steps == d.budget) ≡ false → (ts : List ℕ) → slice_get (filter (λ i. not (is_blocked d.waiters i)) ts) n ≡ Some i
+    → ends_or_picks p d ts (filter (λ i. not (is_blocked d.waiters i)) ts) ≡ picking_thread p d (filter (λ i. not (is_blocked d.waiters i)) ts)
+picks_one p d n i more [] e = absurd (cc)
+picks_one p d n i more (t ∷ ts) e = by (filter (λ i. not (is_blocked d.waiters i)) (t ∷ ts)) e
+  where
+    by : (is : List ℕ) → slice_get is n ≡ Some i → ends_or_picks p d (t ∷ ts) is ≡ picking_thread p d is
+    by [] e = absurd (cc)
+    by (x ∷ is) e = ap (λ b. if b then End [] (Budget d.steps) else picking_thread p d (x ∷ is)) more
+
+steps : (p : Program) (c : Configuration) (n i : ℕ) (rest : List ℕ) → slice_get (runnable c) n ≡ Some i → (c.steps == c.budget) ≡ false
+    → (ps : List ℕ) × (step p (record c { picks = ps }) ≡ turns p (picked c rest) i)
+steps p c n i rest e more =
+    let k = picks_leaving (length (runnable c)) n rest (slice_get_within (runnable c) n i e) in (
+      k.0,
+      picks_one p (record c { picks = k.0 }) n i more (threads_from 0 c.threads) e
+          ∙ ap (λ (x : ℕ × List ℕ). on (slice_get (runnable c) x.0) (turns p (picked c x.1))) k.1
+          ∙ on_at (slice_get (runnable c) n) (turns p (picked c rest)) i e,
+    )
 
 module _ (p : Program) (c : Configuration) (m : meets_axioms c.rule (initial c) c.log ≡ true) (u : Turn) (cell : CellId) (there : cell_in c.objects cell ≡ Some (Ok cell)) where
   abbrev ones : Access → List Chosen
@@ -359,7 +391,7 @@ module _ (p : Program) (c : Configuration) (m : meets_axioms c.rule (initial c) 
       )
 
   is_offered : IsOffered p c u cell
-  is_offered = record { only = only; all = all; logs = logs; waits = waits; turn = turn }
+  is_offered = record { only = only; all = all; logs = logs; waits = waits; turn = turn; steps = steps p c }
 
 pub offers_exactly : (p : Program) (c : Configuration) → meets_axioms c.rule (initial c) c.log ≡ true → OffersExactly p c
 offers_exactly p c m = λ u cell there. is_offered p c m u cell there

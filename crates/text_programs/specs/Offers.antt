@@ -1,5 +1,5 @@
 -- To believe: what an access is offered: exactly what the axioms of memory and its comparison let it take.
-use Rattle.std.specs.Prelude.{◌≡◌, ◌↔◌, ℕ, suc, Bool, true, false, List, ◌∷◌, Some, None, Ok, find, if◌then◌else◌}
+use Rattle.std.specs.Prelude.{◌≡◌, ◌↔◌, ℕ, suc, Bool, true, false, List, ◌∷◌, Some, None, Ok, ◌==◌, find, slice_get, if◌then◌else◌}
 use Rattle.mu_base.specs.declared.order.Order.TheVariants.{Relaxed}
 use Rattle.mu_values.specs.declared.scalars.Scalar.{Scalar}
 use Rattle.heap_cells.specs.declared.cells.CellId.{CellId}
@@ -21,7 +21,7 @@ use Rattle.mu_model.specs.Changes.{event}
 use Rattle.mu_model.specs.Accesses.{initial, takes_option}
 use Rattle.mu_model.specs.Outcomes.{End, Next, Outcome, Stuck}
 use Rattle.mu_model.specs.Waiting.{is_of, waited}
-use Rattle.mu_model.specs.Step.{performed, picked, turns}
+use Rattle.mu_model.specs.Step.{performed, picked, runnable, step, turns}
 
 -- ---- what the axioms allow
 
@@ -75,6 +75,9 @@ pub record IsOffered (p : Program) (c : Configuration) (u : Turn) (cell : CellId
   -- a turn of a thread that is not at a wait comes to what its act performs
   pub turn : (i : ℕ) (act : Act) (picks : List ℕ) → turn_of p c i ≡ Some u → find (is_of i) c.waiters ≡ None → u.doing.act ≡ Some act →
       turns p (picked c picks) i ≡ performed p (picked c picks) u act
+  -- and where a step is left, each thread that may be picked has its turn next by some schedule, with any numbers left
+  pub steps : (n i : ℕ) (picks : List ℕ) → slice_get (runnable c) n ≡ Some i → (c.steps == c.budget) ≡ false →
+      (given : List ℕ) × (step p (record c { picks = given }) ≡ turns p (picked c picks) i)
 
 -- whatever access or wait comes next, at whatever cell of an object that is not dead
 abbrev pub OffersExactly : Program → Configuration → Type 0
