@@ -88,7 +88,8 @@ pub fn mu<I: Inputs, S: Sink>(alloc: Global, words: &Words, inputs: &mut I, out:
     // What holds at each moment of the run that the words ask for, whatever bytes its files have.
     // The log meets the axioms of memory, no two of its events race, and each of its reads was an option of its past.
     ensures sound_logs { EachMoment HasSoundLog words.now }
-    // Whatever access comes next at a cell that is there is offered exactly what the axioms of memory let it take; a wait reads the newest.
+    // An access of a cell of an object that is not dead is offered exactly what the axioms of memory and its comparison let it take; a wait
+    // reads the newest position.
     ensures offered { EachMoment OffersExactly words.now }
     // No two threads are on one stack, and no thread is on two.
     ensures one_owner { EachMoment HasOneOwner words.now }
