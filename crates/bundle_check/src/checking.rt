@@ -60,7 +60,8 @@ fn constants(alloc: Global, tables: &Tables, items: &[Item]) -> Result<Listing<V
 }
 
 /// Judges a bundle whose names are all defined, as `check` does, and keeps nothing of it. It makes no value of a constant, so it takes
-/// memory in proportion to the text and to the leaves of its types, however many members its constants have.
+/// memory in proportion to the text and to the scalars of its types, however many members its constants have. The bundle is taken in
+/// each case.
 pub fn judge(alloc: Global, names: Resolved) -> Result<(), CheckFault>
     ensures { Meets (check_demands names) result }
 {

@@ -52,6 +52,7 @@ newhybrid_of c s place n of_type many (Some t) = if is_hybrid (slice_get c.graph
 
 -- ---- cells
 
+-- the cells from a spot on begin with these scalars
 abbrev pub fill : Store → Spot → List Scalar → Store
 fill s spot ss = record s { objects = with_filled s.objects spot.object spot.at ss (slice_get s.objects spot.object) }
 

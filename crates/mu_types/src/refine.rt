@@ -1,4 +1,7 @@
-// The refinement by a worklist. What it does with sizes and the order of work needs no proof.
+// Refines a partition of types until each block leads, place by place, into one block. This is Hopcroft's algorithm, by which finite
+// automata are minimised: the blocks to part by wait in a worklist, and of the two parts of a block only the smaller is put there, unless the
+// block waits already. So each type is looked at a logarithmic number of times. That the blocks keep the same types together is proved;
+// sizes and the order of work decide how soon it ends, and need no proof.
 
 ghost use Rattle.std.specs.Prelude.{◌≡◌, ℕ, ◌<◌, ◌^◌, Some, [], length, slice_index, slice_index_or, vec_len, OnOk, IfOk};
 ghost use Rattle.mu_types.specs.Listings.{IsIdentity};
@@ -22,14 +25,22 @@ use type_laws::TypeDef;
 // past that many types or places the first blocks are as good as any: the edges are kept in 32 bits
 const MOST: usize = u32::MAX as usize;
 
+/// What is known of the blocks, and which still have to be looked at.
 #[derive(Drop)]
 pub struct Plan {
+    /// The number of the next block that is made.
     pub next: usize,
+    /// How many types each block has.
     pub sizes: Vec<usize>,
+    /// How many types of each block the present splitter touched; 0 between two splitters.
     pub hits: Vec<usize>,
+    /// 1 for each block that is in `work`.
     pub waiting: Vec<usize>,
+    /// The worklist: the blocks that the others are still to be parted by.
     pub work: Vec<usize>,
+    /// The blocks that the present splitter parts; empty between two splitters.
     pub parents: Vec<usize>,
+    /// Room for the blocks that touched types move to.
     pub goals: Vec<usize>,
 }
 
@@ -302,7 +313,7 @@ fn edges_of(definitions: &[TypeDef]) -> usize {
     edges
 }
 
-/// Blocks that keep the same types together, and mostly no others.
+/// Blocks that keep the same types together, and mostly no others: more than 2^32 - 1 types or places are left in their first blocks.
 pub fn refine(alloc: Global, definitions: &[TypeDef]) -> Result<Vec<usize>, AllocError>
     requires { IsGraph definitions.now }
     ensures len { IfOk result (λ v. vec_len v ≡ length definitions.now) }

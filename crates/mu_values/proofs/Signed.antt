@@ -87,8 +87,6 @@ sign_is w n l = elim (cases_lt n (2 ^ (w - 1))) [
   | inr m ↦ ap is_negative (signed_high w n m l) ∙ ap not (sym (not_less n (2 ^ (w - 1)) m))
 ]
 
--- ---- order
-
 -- ---- what the functions need
 
 pub pow_up : (i j : ℕ) → i ≤ j → 2 ^ i ≤ 2 ^ j

@@ -44,7 +44,7 @@ object_of graph cs = record { leaves = cs; initial = zeros graph cs; dead = fals
 abbrev pub killed : HeapObject → HeapObject
 killed o = record o { dead = true }
 
--- these in place of as many, from an offset on
+-- these from an offset on, over what was there; behind the end they are added
 abbrev pub replaced : List Scalar → ℕ → List Scalar → List Scalar
 replaced old at ss = take at old ++ ss ++ drop (at + length ss) old
 
