@@ -76,7 +76,7 @@ make_program() {
 # Builds the program that has the number of its sources in its name: so no call runs an older one, or half of one. Where sources
 # change while they are built, nobody knows what was built, and it is done again.
 build() {
-  echo "mu: building the program; the first time this proves each crate that it stands on, which takes half an hour or more" >&2
+  echo "mu: building the program; the first time this proves each crate that it stands on, which takes an hour or more" >&2
   while :; do
     number=$(number_of_sources)
     if ! make_program; then
