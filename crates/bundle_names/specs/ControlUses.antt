@@ -1,6 +1,5 @@
 -- The names in each instruction that says where the function goes on, from left to right.
-use Rattle.std.specs.Prelude.{List, [], ◌∷◌}
-use Rattle.demands.specs.Demands.{Demands, none, ◌⨾◌}
+use Rattle.demands.specs.Demands.{Demands, ◌⨾◌}
 use Rattle.demands.specs.Names.{Names}
 use Rattle.ir_tree.specs.declared.flow.Case.{Case}
 use Rattle.ir_tree.specs.declared.flow.ControlFlow.{ControlFlow}
@@ -8,12 +7,11 @@ use Rattle.ir_tree.specs.declared.flow.ControlFlow.TheVariants as flows
 use Rattle.bundle_names.specs.declared.fault.NameKind.{NameKind}
 use Rattle.bundle_names.specs.declared.globals.Sort.{Sort}
 use Rattle.bundle_names.specs.declared.function_names.FunctionNames.{FunctionNames}
-use Rattle.bundle_names.specs.Uses.{type_use, signature_use, constant_use, operand_use, operand_uses, destination_use, exception_use, keepalive_use}
+use Rattle.bundle_names.specs.Uses.{each, type_use, signature_use, constant_use, operand_use, operand_uses, destination_use, exception_use, keepalive_use}
 
--- case* with case = G dest
-abbrev pub case_uses : Names Sort → FunctionNames → List Case → Demands NameKind
-case_uses g f [] = none
-case_uses g f (c ∷ cs) = (constant_use g c.constant ⨾ destination_use g f c.destination) ⨾ case_uses g f cs
+-- case = G dest
+abbrev pub case_use : Names Sort → FunctionNames → Case → Demands NameKind
+case_use g f c = constant_use g c.constant ⨾ destination_use g f c.destination
 
 abbrev pub control_use : Names Sort → FunctionNames → ControlFlow → Demands NameKind
 -- BRANCH dest
@@ -21,7 +19,7 @@ control_use g f (flows.Branch d) = destination_use g f d
 -- BRANCH2 c dest dest
 control_use g f (flows.Branch2 c d e) = operand_use g f c ⨾ destination_use g f d ⨾ destination_use g f e
 -- SWITCH < T > a dest { case* }
-control_use g f (flows.Switch t a d cs) = type_use g t ⨾ operand_use g f a ⨾ destination_use g f d ⨾ case_uses g f cs
+control_use g f (flows.Switch t a d cs) = type_use g t ⨾ operand_use g f a ⨾ destination_use g f d ⨾ each (case_use g f) cs
 -- CALL < S > f ( value* ) exc? keep?
 control_use g f (flows.Call s callee a e k) = signature_use g s ⨾ operand_use g f callee ⨾ operand_uses g f a.values ⨾ exception_use g f e ⨾ keepalive_use f k
 -- TAILCALL < S > f ( value* )

@@ -1,6 +1,7 @@
 -- Definitions: each name has one in its space. Global names are one space; the blocks of a function are one; the parameters, the
 -- handler, the results and the labels of a block are one. A function may have one declaration and one definition, in either order.
-use Rattle.std.specs.Prelude.{Bool, true, false, List, [], ◌∷◌, Option, Some, None, is_some, not}
+use Rattle.std.specs.Prelude.{Bool, true, false, List, [], ◌∷◌, Option, Some, None, is_some, not, map, option_to_list}
+use Rattle.std.specs.Option.{option_map_or}
 use Rattle.demands.specs.Demands.{Demands, none, demand, ◌⨾◌}
 use Rattle.demands.specs.Names.{Names, found, added}
 use Rattle.ir_lex.specs.declared.name.Name.{Name}
@@ -38,37 +39,24 @@ abbrev pub with_list : Plain → List Name → Plain
 with_list es [] = es
 with_list es (n ∷ ns) = with_list (with_name es n) ns
 
--- a name that may be left out
-abbrev pub optional_demands : Plain → Option Name → Demands NameKind
-optional_demands es None = none
-optional_demands es (Some n) = fresh es n
+abbrev pub parameter_names : List Parameter → List Name
+parameter_names ps = map (λ p. p.name) ps
 
-abbrev pub with_optional : Plain → Option Name → Plain
-with_optional es None = es
-with_optional es (Some n) = with_name es n
-
-abbrev pub parameter_demands : Plain → List Parameter → Demands NameKind
-parameter_demands es [] = none
-parameter_demands es (p ∷ ps) = fresh es p.name ⨾ parameter_demands (with_name es p.name) ps
-
-abbrev pub with_parameters : Plain → List Parameter → Plain
-with_parameters es [] = es
-with_parameters es (p ∷ ps) = with_parameters (with_name es p.name) ps
-
--- the parameters, then the handler
+-- the parameters, then the handler, which may be left out
 abbrev pub head_demands : BlockHead → Demands NameKind
-head_demands h = parameter_demands [] h.parameters ⨾ optional_demands (with_parameters [] h.parameters) h.handler
+head_demands h =
+    list_demands [] (parameter_names h.parameters) ⨾ option_map_or (fresh (with_list [] (parameter_names h.parameters))) h.handler none
 
 abbrev pub with_head : Plain → BlockHead → Plain
-with_head es h = with_optional (with_parameters es h.parameters) h.handler
+with_head es h = with_list (with_list es (parameter_names h.parameters)) (option_to_list h.handler)
 
--- the results, then the label
+-- the results, then the label, which may be left out
 abbrev pub inst_demands : Plain → Inst → Demands NameKind
-inst_demands es i = list_demands es i.results ⨾ optional_demands (with_list es i.results) i.label
+inst_demands es i = list_demands es i.results ⨾ option_map_or (fresh (with_list es i.results)) i.label none
 
 abbrev pub insts_demands : Plain → List Inst → Demands NameKind
 insts_demands es [] = none
-insts_demands es (i ∷ is) = inst_demands es i ⨾ insts_demands (with_optional (with_list es i.results) i.label) is
+insts_demands es (i ∷ is) = inst_demands es i ⨾ insts_demands (with_list (with_list es i.results) (option_to_list i.label)) is
 
 abbrev pub block_demands : Block → Demands NameKind
 block_demands b = head_demands b.head ⨾ insts_demands (with_head [] b.head) b.insts

@@ -11,7 +11,7 @@ use Rattle.ir_tree.specs.declared.items.Item.TheVariants as items
 use Rattle.bundle_names.specs.declared.fault.NameKind.{NameKind}
 use Rattle.bundle_names.specs.declared.globals.Sort.{Sort}
 use Rattle.bundle_names.specs.Globals.{globals_of}
-use Rattle.bundle_names.specs.Uses.{type_use, type_uses, signature_use, constant_uses}
+use Rattle.bundle_names.specs.Uses.{each, type_use, type_uses, signature_use, constant_use}
 use Rattle.bundle_names.specs.BodyUses.{names_of, block_uses}
 
 abbrev pub form_use : Names Sort → TypeForm → Demands NameKind
@@ -26,7 +26,7 @@ form_use g _ = none
 abbrev pub literal_use : Names Sort → Literal → Demands NameKind
 literal_use g (literals.Number n) = none
 literal_use g (literals.Null place) = none
-literal_use g (literals.Members place ns) = constant_uses g ns
+literal_use g (literals.Members place ns) = each (constant_use g) ns
 
 abbrev pub item_use : Names Sort → Item → Demands NameKind
 item_use g (items.Typedef d) = form_use g d.form

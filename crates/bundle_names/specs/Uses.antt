@@ -1,5 +1,6 @@
 -- Uses: each name that is used has a definition, and one of the sort that its place asks.
-use Rattle.std.specs.Prelude.{Bool, true, false, List, [], ◌∷◌, Option, Some, None, is_some}
+use Rattle.std.specs.Prelude.{Bool, true, false, List, [], ◌∷◌, Option, Some, is_some}
+use Rattle.std.specs.Option.{option_map_or}
 use Rattle.demands.specs.Demands.{Demands, none, demand, ◌⨾◌}
 use Rattle.demands.specs.Names.{Names, found}
 use Rattle.ir_lex.specs.declared.name.Name.{Name}
@@ -15,6 +16,11 @@ use Rattle.bundle_names.specs.declared.globals.Sort.{Sort}
 use Rattle.bundle_names.specs.declared.globals.Sort.TheVariants as sorts
 use Rattle.bundle_names.specs.declared.function_names.FunctionNames.{FunctionNames}
 use Rattle.bundle_names.specs.Definitions.{Plain}
+
+-- what each of a list asks, from the first to the last
+abbrev pub each : {A : Type 0} → (A → Demands NameKind) → List A → Demands NameKind
+each asks [] = none
+each asks (x ∷ xs) = asks x ⨾ each asks xs
 
 -- ---- global names: some item defines the name, and it is the sort of item that the place asks
 
@@ -54,20 +60,10 @@ abbrev pub type_uses : Names Sort → List Name → Demands NameKind
 type_uses g [] = none
 type_uses g (n ∷ ns) = type_use g n ⨾ type_uses g ns
 
--- { G* }
-abbrev pub constant_uses : Names Sort → List Name → Demands NameKind
-constant_uses g [] = none
-constant_uses g (n ∷ ns) = constant_use g n ⨾ constant_uses g ns
-
 -- ---- local names: a block of the function, or a parameter, handler or result of any of its blocks
 
 abbrev pub local_use : Plain → Name → Demands NameKind
 local_use es n = demand n.place Unknown (is_some (found es n.text))
-
--- ( L* )
-abbrev pub variable_uses : Plain → List Name → Demands NameKind
-variable_uses es [] = none
-variable_uses es (n ∷ ns) = local_use es n ⨾ variable_uses es ns
 
 -- ---- what instructions are made of
 
@@ -77,32 +73,19 @@ operand_use g f (operands.Global n) = global_use is_operand g n
 
 -- ( value* )
 abbrev pub operand_uses : Names Sort → FunctionNames → List Operand → Demands NameKind
-operand_uses g f [] = none
-operand_uses g f (o ∷ os) = operand_use g f o ⨾ operand_uses g f os
-
--- THREADLOCAL ( value ), which may be left out
-abbrev pub optional_use : Names Sort → FunctionNames → Option Operand → Demands NameKind
-optional_use g f None = none
-optional_use g f (Some o) = operand_use g f o
+operand_uses g f os = each (operand_use g f) os
 
 -- L ( value* )
 abbrev pub destination_use : Names Sort → FunctionNames → Destination → Demands NameKind
 destination_use g f d = local_use f.blocks d.block ⨾ operand_uses g f d.arguments.values
 
--- WPEXC ( dest ), which may be left out
-abbrev pub optional_destination_use : Names Sort → FunctionNames → Option Destination → Demands NameKind
-optional_destination_use g f None = none
-optional_destination_use g f (Some d) = destination_use g f d
-
 -- EXC ( dest dest ), which may be left out
 abbrev pub exception_use : Names Sort → FunctionNames → Option ExceptionClause → Demands NameKind
-exception_use g f None = none
-exception_use g f (Some e) = destination_use g f e.normal ⨾ destination_use g f e.exceptional
+exception_use g f e = option_map_or (λ e. destination_use g f e.normal ⨾ destination_use g f e.exceptional) e none
 
 -- KEEPALIVE ( L* ), which may be left out
 abbrev pub keepalive_use : FunctionNames → Option (List Name) → Demands NameKind
-keepalive_use f None = none
-keepalive_use f (Some ns) = variable_uses f.variables ns
+keepalive_use f ns = option_map_or (each (local_use f.variables)) ns none
 
 -- PASS_VALUES < T* > ( value* ) | THROW_EXC value
 abbrev pub entered_use : Names Sort → FunctionNames → NewStackClause → Demands NameKind

@@ -1,8 +1,9 @@
 // Definitions in a function: each name is defined once in its block, and each block once.
-ghost use Rattle.std.specs.Prelude.{◌≡◌, [], OnOk, IfOk};
-ghost use Rattle.demands.specs.Demands.{Judges, Meets};
+ghost use Rattle.std.specs.Prelude.{◌≡◌, [], OnOk, IfOk, option_to_list};
+ghost use Rattle.std.specs.Option.{option_map_or};
+ghost use Rattle.demands.specs.Demands.{none, Judges, Meets};
 ghost use Rattle.demands.specs.Names.{added};
-ghost use Rattle.bundle_names.specs.Definitions.{fresh, with_name, list_demands, with_list, optional_demands, with_optional, parameter_demands, with_parameters, head_demands, with_head, inst_demands, insts_demands, block_demands, blocks_demands};
+ghost use Rattle.bundle_names.specs.Definitions.{fresh, with_name, list_demands, with_list, parameter_names, head_demands, with_head, inst_demands, insts_demands, block_demands, blocks_demands};
 
 use crate::fault::{NameFault, NameKind, fault_at};
 use demands::Scope;
@@ -44,8 +45,8 @@ fn define_optional(
     scope: &mut Scope<()>,
     name: &Option<Name>,
 ) -> Result<(), NameFault>
-    ensures met { Meets (optional_demands scope.old name.now) result }
-    ensures ok { OnOk result (scope.new ≡ with_optional scope.old name.now) }
+    ensures met { Meets (option_map_or (fresh scope.old) name.now none) result }
+    ensures ok { OnOk result (scope.new ≡ with_list scope.old (option_to_list name.now)) }
 {
     match name {
         None => Ok(()),
@@ -58,8 +59,8 @@ fn define_parameters(
     scope: &mut Scope<()>,
     parameters: &[Parameter],
 ) -> Result<(), NameFault>
-    ensures met { Meets (parameter_demands scope.old parameters.now) result }
-    ensures ok { OnOk result (scope.new ≡ with_parameters scope.old parameters.now) }
+    ensures met { Meets (list_demands scope.old (parameter_names parameters.now)) result }
+    ensures ok { OnOk result (scope.new ≡ with_list scope.old (parameter_names parameters.now)) }
 {
     let mut left = parameters;
     'each: while let [first, more @ ..] = left {
@@ -80,7 +81,7 @@ fn define_head(alloc: Global, head: &BlockHead) -> Result<Scope<()>, NameFault>
 
 fn define_inst(alloc: Global, scope: &mut Scope<()>, inst: &Inst) -> Result<(), NameFault>
     ensures met { Meets (inst_demands scope.old inst.now) result }
-    ensures ok { OnOk result (scope.new ≡ with_optional (with_list scope.old inst.now.results) inst.now.label) }
+    ensures ok { OnOk result (scope.new ≡ with_list (with_list scope.old inst.now.results) (option_to_list inst.now.label)) }
 {
     define_list(alloc, scope, inst.results.as_slice())?;
     define_optional(alloc, scope, &inst.label)

@@ -1,7 +1,7 @@
 // Names in the bodies of functions.
-ghost use Rattle.std.specs.Prelude.{◌≡◌, [], IfOk, OnOk};
+ghost use Rattle.std.specs.Prelude.{◌≡◌, [], IfOk, OnOk, option_to_list};
 ghost use Rattle.demands.specs.Demands.{Meets, IsMemory};
-ghost use Rattle.bundle_names.specs.Definitions.{with_list, with_optional, with_parameters, with_head};
+ghost use Rattle.bundle_names.specs.Definitions.{with_list, parameter_names, with_head};
 ghost use Rattle.bundle_names.specs.BodyUses.{with_blocks, with_results, with_variables, names_of, op_use, inst_uses, parameter_uses, block_uses};
 
 use crate::accesses::use_in_access;
@@ -34,7 +34,7 @@ fn add_list(alloc: Global, scope: &mut Scope<()>, names: &[Name]) -> Result<(), 
 }
 
 fn add_optional(alloc: Global, scope: &mut Scope<()>, name: &Option<Name>) -> Result<(), NameFault>
-    ensures ok { OnOk result (scope.new ≡ with_optional scope.old name.now) }
+    ensures ok { OnOk result (scope.new ≡ with_list scope.old (option_to_list name.now)) }
     ensures err { IsMemory result }
 {
     if let Some(name) = name {
@@ -48,7 +48,7 @@ fn add_parameters(
     scope: &mut Scope<()>,
     parameters: &[Parameter],
 ) -> Result<(), NameFault>
-    ensures ok { OnOk result (scope.new ≡ with_parameters scope.old parameters.now) }
+    ensures ok { OnOk result (scope.new ≡ with_list scope.old (parameter_names parameters.now)) }
     ensures err { IsMemory result }
 {
     let mut left = parameters;

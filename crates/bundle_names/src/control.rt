@@ -1,6 +1,7 @@
 // Names in instructions that say where the function goes on.
 ghost use Rattle.demands.specs.Demands.{Meets};
-ghost use Rattle.bundle_names.specs.ControlUses.{case_uses, control_use};
+ghost use Rattle.bundle_names.specs.Uses.{each};
+ghost use Rattle.bundle_names.specs.ControlUses.{case_use, control_use};
 
 use crate::fault::NameFault;
 use crate::function_names::FunctionNames;
@@ -17,7 +18,7 @@ fn use_in_cases(
     function: &FunctionNames,
     cases: &[Case],
 ) -> Result<(), NameFault>
-    ensures { Meets (case_uses globals.now function.now cases.now) result }
+    ensures { Meets (each (case_use globals.now function.now) cases.now) result }
 {
     let mut left = cases;
     'each: while let [first, more @ ..] = left {

@@ -1,7 +1,8 @@
 // Uses of names, and of what instructions are made of.
 ghost use Rattle.std.specs.Prelude.{◌≡◌};
-ghost use Rattle.demands.specs.Demands.{Meets};
-ghost use Rattle.bundle_names.specs.Uses.{is_operand, global_use, type_use, signature_use, constant_use, type_uses, constant_uses, local_use, variable_uses, operand_use, operand_uses, optional_use, destination_use, optional_destination_use, exception_use, keepalive_use, entered_use};
+ghost use Rattle.std.specs.Option.{option_map_or};
+ghost use Rattle.demands.specs.Demands.{none, Meets};
+ghost use Rattle.bundle_names.specs.Uses.{each, is_operand, global_use, type_use, signature_use, constant_use, type_uses, local_use, operand_use, operand_uses, destination_use, exception_use, keepalive_use, entered_use};
 
 use crate::fault::{NameFault, NameKind, fault_at};
 use crate::function_names::FunctionNames;
@@ -77,7 +78,7 @@ pub fn use_types(globals: &Scope<Sort>, names: &[Name]) -> Result<(), NameFault>
 }
 
 pub fn use_constants(globals: &Scope<Sort>, names: &[Name]) -> Result<(), NameFault>
-    ensures { Meets (constant_uses globals.now names.now) result }
+    ensures { Meets (each (constant_use globals.now) names.now) result }
 {
     let mut left = names;
     'each: while let [first, more @ ..] = left {
@@ -88,7 +89,7 @@ pub fn use_constants(globals: &Scope<Sort>, names: &[Name]) -> Result<(), NameFa
 }
 
 fn use_variables(variables: &Scope<()>, names: &[Name]) -> Result<(), NameFault>
-    ensures { Meets (variable_uses variables.now names.now) result }
+    ensures { Meets (each (local_use variables.now) names.now) result }
 {
     let mut left = names;
     'each: while let [first, more @ ..] = left {
@@ -131,7 +132,7 @@ pub fn use_optional(
     function: &FunctionNames,
     operand: &Option<Operand>,
 ) -> Result<(), NameFault>
-    ensures { Meets (optional_use globals.now function.now operand.now) result }
+    ensures { Meets (option_map_or (operand_use globals.now function.now) operand.now none) result }
 {
     match operand {
         None => Ok(()),
@@ -155,7 +156,7 @@ pub fn use_optional_destination(
     function: &FunctionNames,
     destination: &Option<Destination>,
 ) -> Result<(), NameFault>
-    ensures { Meets (optional_destination_use globals.now function.now destination.now) result }
+    ensures { Meets (option_map_or (destination_use globals.now function.now) destination.now none) result }
 {
     match destination {
         None => Ok(()),

@@ -1,8 +1,11 @@
 -- The last instruction of a block ends it, and no other does; and what a machine at a place of a block knows.
-use Rattle.std.proofs.Common.{◌≡◌, ℕ, ◌+◌, ◌<◌, zero, suc, Bool, true, false, List, [], ◌∷◌, ◌++◌, Option, Some, None, slice_get, length, take, is_some, ◌||◌, refl, sym, ◌∙◌, ap, subst, arith, append_assoc, append-nil}
+use Rattle.std.proofs.Common.{◌≡◌, ℕ, ◌+◌, ◌<◌, zero, suc, Bool, true, false, List, [], ◌∷◌, ◌++◌, Option, Some, None, slice_get, length, take, is_some, option_map, ◌||◌, refl, sym, ◌∙◌, ap, subst, arith, append_assoc, append-nil}
 use Rattle.demands.specs.Demands.{AllMet}
 use Rattle.ir_tree.specs.declared.operands.ExceptionClause.{ExceptionClause}
+use Rattle.ir_tree.specs.declared.computing.Computation.TheVariants as computations
 use Rattle.ir_tree.specs.declared.flow.ControlFlow.TheVariants as flows
+use Rattle.ir_tree.specs.declared.allocating.Allocation.TheVariants as allocations
+use Rattle.ir_tree.specs.declared.accessing.Access.TheVariants as accesses
 use Rattle.ir_tree.specs.declared.trapping.Trapping.TheVariants as trappings
 use Rattle.ir_tree.specs.declared.switching.StackSwitch.TheVariants as switches
 use Rattle.ir_tree.specs.declared.common.CommonInst.TheVariants as commons
@@ -14,20 +17,27 @@ use Rattle.code_check.specs.declared.code.Code.{Code}
 use Rattle.code_check.specs.declared.scopes.Locals.{Locals}
 use Rattle.code_check.specs.declared.scopes.Body.{Body}
 use Rattle.code_check.specs.Destinations.{optional_target}
-use Rattle.code_check.specs.Instructions.{form_of, normal_of_exc, normal_of, computation_exc, allocation_exc, access_exc, is_ending, after, inst_demands, inst_code, insts_demands, insts_code, ends}
+use Rattle.code_check.specs.Instructions.{form_of, normal_of, is_ending, after, inst_demands, inst_code, insts_demands, insts_code, ends}
 use Rattle.code_check.specs.Typed.{Blocks, CodeFits, CodesFit, CodeAt, joined, form_ends, code_ends, EndsAtLast, BlockFits, LocalsFit, BodyFits, TablesFit}
 use Rattle.code_check.specs.TypedLaws.{all_gives}
 use Rattle.code_check.proofs.TypedOperands.{not_is}
 use Rattle.code_check.proofs.TypedInstructions.{insts_fit}
 
-told : (p : Tables) (f : Body) (ls : Locals) (e : Option ExceptionClause) → is_some (optional_target p f ls (normal_of_exc e)) ≡ is_some e
+told : (p : Tables) (f : Body) (ls : Locals) (e : Option ExceptionClause) →
+    is_some (optional_target p f ls (option_map (λ x. x.normal) e)) ≡ is_some e
 told p f ls None = refl
 told p f ls (Some e) = refl
 
 -- code ends its block as the instruction does, one clause a form
 ends_as : (p : Tables) (f : Body) (before later : Locals) (i : Op) →
     (form_ends (form_of p f before i) || is_some (optional_target p f later (normal_of i))) ≡ is_ending i
-ends_as p f before later (ops.Computation c) = told p f later (computation_exc c)
+ends_as p f before later (ops.Computation (computations.Binary op t a b e)) = told p f later e
+ends_as p f before later (ops.Computation (computations.Compare op t a b)) = refl
+ends_as p f before later (ops.Computation (computations.Convert op s t a)) = refl
+ends_as p f before later (ops.Computation (computations.Refcast s t a)) = refl
+ends_as p f before later (ops.Computation (computations.Select s t c a b)) = refl
+ends_as p f before later (ops.Computation (computations.Extractvalue t n a)) = refl
+ends_as p f before later (ops.Computation (computations.Insertvalue t n a b)) = refl
 ends_as p f before later (ops.ControlFlow (flows.Branch d)) = refl
 ends_as p f before later (ops.ControlFlow (flows.Branch2 c d e)) = refl
 ends_as p f before later (ops.ControlFlow (flows.Switch t a d cs)) = refl
@@ -35,9 +45,15 @@ ends_as p f before later (ops.ControlFlow (flows.Call s c a e k)) = told p f lat
 ends_as p f before later (ops.ControlFlow (flows.Tailcall s c a)) = refl
 ends_as p f before later (ops.ControlFlow (flows.Ret a)) = refl
 ends_as p f before later (ops.ControlFlow (flows.Throw e)) = refl
-ends_as p f before later (ops.Allocation a) = told p f later (allocation_exc a)
+ends_as p f before later (ops.Allocation (allocations.New t e)) = told p f later e
+ends_as p f before later (ops.Allocation (allocations.Newhybrid h i n e)) = told p f later e
+ends_as p f before later (ops.Allocation (allocations.Alloca t e)) = told p f later e
 ends_as p f before later (ops.Addressing a) = refl
-ends_as p f before later (ops.Access a) = told p f later (access_exc a)
+ends_as p f before later (ops.Access (accesses.Load o t l e)) = told p f later e
+ends_as p f before later (ops.Access (accesses.Store o t l a e)) = told p f later e
+ends_as p f before later (ops.Access (accesses.Cmpxchg w s o t l a b e)) = told p f later e
+ends_as p f before later (ops.Access (accesses.Atomicrmw o op t l a e)) = told p f later e
+ends_as p f before later (ops.Access (accesses.Fence o)) = refl
 ends_as p f before later (ops.Trapping (trappings.Trap ts e k)) = told p f later e
 ends_as p f before later (ops.Trapping (trappings.Watchpoint n ts d e x k)) = refl
 ends_as p f before later (ops.Trapping (trappings.Wpbranch n d e)) = refl

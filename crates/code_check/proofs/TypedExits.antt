@@ -1,8 +1,9 @@
 -- Whether an instruction is told where it goes on, one clause a form.
-use Rattle.std.proofs.Common.{◌≡◌, true, Option, Some, None, is_some, refl}
+use Rattle.std.proofs.Common.{◌≡◌, true, Option, Some, None, is_some, option_map, refl}
 use Rattle.ir_tree.specs.declared.operands.ExceptionClause.{ExceptionClause}
 use Rattle.ir_tree.specs.declared.computing.Computation.TheVariants as computations
 use Rattle.ir_tree.specs.declared.flow.ControlFlow.TheVariants as flows
+use Rattle.ir_tree.specs.declared.allocating.Allocation.TheVariants as allocations
 use Rattle.ir_tree.specs.declared.accessing.Access.TheVariants as accesses
 use Rattle.ir_tree.specs.declared.trapping.Trapping.TheVariants as trappings
 use Rattle.ir_tree.specs.declared.switching.StackSwitch.TheVariants as switches
@@ -12,12 +13,12 @@ use Rattle.check_tables.specs.declared.tables.Tables.{Tables}
 use Rattle.code_check.specs.declared.scopes.Locals.{Locals}
 use Rattle.code_check.specs.declared.scopes.Body.{Body}
 use Rattle.code_check.specs.Destinations.{optional_target}
-use Rattle.code_check.specs.Instructions.{form_of, normal_of_exc, exceptional_of_exc, normal_of, exceptional_of, allocation_exc}
+use Rattle.code_check.specs.Instructions.{form_of, normal_of, exceptional_of}
 use Rattle.code_check.specs.Typed.{both_or_none, exits}
 
 -- EXC tells both destinations
 both_told : (p : Tables) (f : Body) (before later : Locals) (e : Option ExceptionClause) →
-    both_or_none (is_some (optional_target p f later (normal_of_exc e))) (is_some (optional_target p f before (exceptional_of_exc e))) ≡ true
+    both_or_none (is_some (optional_target p f later (option_map (λ x. x.normal) e))) (is_some (optional_target p f before (option_map (λ x. x.exceptional) e))) ≡ true
 both_told p f before later None = refl
 both_told p f before later (Some e) = refl
 
@@ -37,7 +38,9 @@ told_as p f before later (ops.ControlFlow (flows.Call s c a e k)) = both_told p 
 told_as p f before later (ops.ControlFlow (flows.Tailcall s c a)) = refl
 told_as p f before later (ops.ControlFlow (flows.Ret a)) = refl
 told_as p f before later (ops.ControlFlow (flows.Throw e)) = refl
-told_as p f before later (ops.Allocation a) = both_told p f before later (allocation_exc a)
+told_as p f before later (ops.Allocation (allocations.New t e)) = both_told p f before later e
+told_as p f before later (ops.Allocation (allocations.Newhybrid h i n e)) = both_told p f before later e
+told_as p f before later (ops.Allocation (allocations.Alloca t e)) = both_told p f before later e
 told_as p f before later (ops.Addressing a) = refl
 told_as p f before later (ops.Access (accesses.Load o t l e)) = both_told p f before later e
 told_as p f before later (ops.Access (accesses.Store o t l a e)) = both_told p f before later e

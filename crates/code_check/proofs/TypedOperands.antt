@@ -1,6 +1,7 @@
 -- Met demands on operands, types, arguments and destinations: what stands for them fits.
 use Rattle.std.proofs.Common.{◌≡◌, ℕ, Bool, true, false, List, [], ◌∷◌, Option, Some, None, IsSomeAnd, is_some, not, nat_eq, nat_lt, ◌&&◌, slice_get, length, if◌then◌else◌, refl, sym, ◌∙◌, ap, subst, arith}
-use Rattle.demands.specs.Demands.{AllMet}
+use Rattle.std.specs.Option.{option_map_or}
+use Rattle.demands.specs.Demands.{AllMet, none}
 use Rattle.demands.specs.Names.{found}
 use Rattle.ir_lex.specs.declared.name.Name.{Name}
 use Rattle.ir_lex.specs.declared.token.Number.{Number}
@@ -24,7 +25,7 @@ use Rattle.code_check.specs.declared.scopes.Variable.{Variable}
 use Rattle.code_check.specs.declared.scopes.Locals.{Locals}
 use Rattle.code_check.specs.declared.scopes.Body.{Body}
 use Rattle.code_check.specs.Operands.{is_class, of_type, variable_class, variable_number, operand_class, operand_demands, int64_demands, member_demands, argument_demands, value_type_demands, variable_demands, global_source, source_of, sources_of, noted_list, numbers_in}
-use Rattle.code_check.specs.Destinations.{block_named, entry_takes, takes_no_exception, block_number, target_of, exceptional_demands, normal_demands, optional_normal_demands, optional_exceptional_demands, optional_target, keepalive_demands, keepalive_numbers}
+use Rattle.code_check.specs.Destinations.{block_named, entry_takes, takes_no_exception, block_number, target_of, exceptional_demands, normal_demands, optional_target, keepalive_numbers}
 use Rattle.code_check.specs.Typed.{SourceFits, SourcesFit, PlaceFits, Int64Fits, nth_of, AreVariables, HasType, HasValueType, HaveValueTypes, HasSignature, Blocks, TargetFits, NormalFits, OptionalTargetFits, OptionalNormalFits, LocalsFit, BodyFits}
 
 -- ---- tests
@@ -208,12 +209,12 @@ normal_fits p blocks f ls d body fits m =
     (arguments_fit p ls d.arguments (entry_takes (block_named f d.block)) fits m.1)
 
 pub optional_normal_fits : (p : Tables) (blocks : Blocks) (f : Body) (ls : Locals) (d : Option Destination) → BodyFits blocks f → LocalsFit ls →
-    AllMet (optional_normal_demands p f ls d) → OptionalNormalFits p blocks ls.classes (optional_target p f ls d)
+    AllMet (option_map_or (normal_demands p f ls) d none) → OptionalNormalFits p blocks ls.classes (optional_target p f ls d)
 optional_normal_fits p blocks f ls None body fits m = tt
 optional_normal_fits p blocks f ls (Some d) body fits m = normal_fits p blocks f ls d body fits m
 
 pub optional_exceptional_fits : (p : Tables) (blocks : Blocks) (f : Body) (ls : Locals) (d : Option Destination) → BodyFits blocks f → LocalsFit ls →
-    AllMet (optional_exceptional_demands p f ls d) → OptionalTargetFits p blocks ls.classes (optional_target p f ls d)
+    AllMet (option_map_or (exceptional_demands p f ls) d none) → OptionalTargetFits p blocks ls.classes (optional_target p f ls d)
 optional_exceptional_fits p blocks f ls None body fits m = tt
 optional_exceptional_fits p blocks f ls (Some d) body fits m = exceptional_fits p blocks f ls d body fits m
 
@@ -228,6 +229,6 @@ pub are_variables : (ls : Locals) (ns : List Name) → LocalsFit ls → AllMet (
 are_variables ls [] fits m = tt
 are_variables ls (n ∷ ns) fits m = (is_variable ls n.text (found ls.names n.text) fits refl m.0, are_variables ls ns fits m.1)
 
-pub keepalive_fits : (ls : Locals) (ns : Option (List Name)) → LocalsFit ls → AllMet (keepalive_demands ls ns) → AreVariables ls.classes (keepalive_numbers ls ns)
+pub keepalive_fits : (ls : Locals) (ns : Option (List Name)) → LocalsFit ls → AllMet (option_map_or (variable_demands ls) ns none) → AreVariables ls.classes (keepalive_numbers ls ns)
 keepalive_fits ls None fits m = tt
 keepalive_fits ls (Some ns) fits m = are_variables ls ns fits m

@@ -1,6 +1,6 @@
--- To believe: destinations, what a stack is entered with, and what may stand behind an instruction: their demands and their code.
+-- To believe: destinations, and what a stack is entered with: their demands and their code; and the code of KEEPALIVE.
 use Rattle.std.specs.Prelude.{ℕ, Bool, false, List, [], Option, Some, None, option_map, unwrap_or, not}
-use Rattle.demands.specs.Demands.{Demands, none, demand, ◌⨾◌}
+use Rattle.demands.specs.Demands.{Demands, demand, ◌⨾◌}
 use Rattle.demands.specs.Names.{found}
 use Rattle.ir_lex.specs.declared.name.Name.{Name}
 use Rattle.ir_tree.specs.declared.operands.Destination.{Destination}
@@ -16,7 +16,7 @@ use Rattle.code_check.specs.declared.code.Entered.TheVariants as entered
 use Rattle.code_check.specs.declared.scopes.BlockEntry.{BlockEntry}
 use Rattle.code_check.specs.declared.scopes.Locals.{Locals}
 use Rattle.code_check.specs.declared.scopes.Body.{Body}
-use Rattle.code_check.specs.Operands.{operand_demands, argument_demands, value_type_demands, variable_demands, noted_list, source_of, sources_of, numbers_in}
+use Rattle.code_check.specs.Operands.{operand_demands, argument_demands, value_type_demands, noted_list, source_of, sources_of, numbers_in}
 
 -- ---- destinations
 
@@ -44,23 +44,11 @@ block_number b = unwrap_or (option_map (λ b. b.number) b) 0
 abbrev pub target_of : Tables → Body → Locals → Destination → Target
 target_of p f ls d = record { block = block_number (block_named f d.block); arguments = sources_of p ls d.arguments.values }
 
--- destinations that may be left out
-abbrev pub optional_normal_demands : Tables → Body → Locals → Option Destination → Demands CheckKind
-optional_normal_demands p f ls None = none
-optional_normal_demands p f ls (Some d) = normal_demands p f ls d
-
-abbrev pub optional_exceptional_demands : Tables → Body → Locals → Option Destination → Demands CheckKind
-optional_exceptional_demands p f ls None = none
-optional_exceptional_demands p f ls (Some d) = exceptional_demands p f ls d
-
+-- a destination that may be left out
 abbrev pub optional_target : Tables → Body → Locals → Option Destination → Option Target
 optional_target p f ls d = option_map (target_of p f ls) d
 
--- ---- KEEPALIVE ( L* ), which may be left out: variables of any type
-
-abbrev pub keepalive_demands : Locals → Option (List Name) → Demands CheckKind
-keepalive_demands ls None = none
-keepalive_demands ls (Some ns) = variable_demands ls ns
+-- ---- KEEPALIVE ( L* ), which may be left out
 
 abbrev pub keepalive_numbers : Locals → Option (List Name) → List ℕ
 keepalive_numbers ls ns = unwrap_or (option_map (numbers_in ls) ns) []

@@ -1,23 +1,17 @@
 -- To believe: an instruction in its block: its demands in their order, what it gives, its code, and the variables behind it.
-use Rattle.std.specs.Prelude.{ℕ, Bool, true, false, List, [], ◌∷◌, ◌++◌, Option, Some, None, option_map, is_some, not, nat_eq, length}
+use Rattle.std.specs.Prelude.{ℕ, Bool, true, List, [], ◌∷◌, ◌++◌, Option, Some, None, option_map, is_some, not, nat_eq, length}
+use Rattle.std.specs.Option.{option_map_or}
 use Rattle.demands.specs.Demands.{Demands, none, demand, ◌⨾◌}
 use Rattle.demands.specs.Names.{added}
 use Rattle.ir_lex.specs.declared.name.Name.{Name}
 use Rattle.ir_tree.specs.declared.operands.Destination.{Destination}
 use Rattle.ir_tree.specs.declared.operands.ExceptionClause.{ExceptionClause}
-use Rattle.ir_tree.specs.declared.computing.Computation.{Computation}
 use Rattle.ir_tree.specs.declared.computing.Computation.TheVariants as computations
-use Rattle.ir_tree.specs.declared.flow.ControlFlow.{ControlFlow}
 use Rattle.ir_tree.specs.declared.flow.ControlFlow.TheVariants as flows
-use Rattle.ir_tree.specs.declared.allocating.Allocation.{Allocation}
 use Rattle.ir_tree.specs.declared.allocating.Allocation.TheVariants as allocations
-use Rattle.ir_tree.specs.declared.accessing.Access.{Access}
 use Rattle.ir_tree.specs.declared.accessing.Access.TheVariants as accesses
-use Rattle.ir_tree.specs.declared.trapping.Trapping.{Trapping}
 use Rattle.ir_tree.specs.declared.trapping.Trapping.TheVariants as trappings
-use Rattle.ir_tree.specs.declared.switching.StackSwitch.{StackSwitch}
 use Rattle.ir_tree.specs.declared.switching.StackSwitch.TheVariants as switches
-use Rattle.ir_tree.specs.declared.common.CommonInst.{CommonInst}
 use Rattle.ir_tree.specs.declared.common.CommonInst.TheVariants as commons
 use Rattle.ir_tree.specs.declared.code.Op.{Op}
 use Rattle.ir_tree.specs.declared.code.Op.TheVariants as ops
@@ -30,7 +24,8 @@ use Rattle.code_check.specs.declared.code.Form.TheVariants as forms
 use Rattle.code_check.specs.declared.code.Code.{Code}
 use Rattle.code_check.specs.declared.scopes.Locals.{Locals}
 use Rattle.code_check.specs.declared.scopes.Body.{Body}
-use Rattle.code_check.specs.Destinations.{optional_normal_demands, optional_exceptional_demands, optional_target, keepalive_demands, keepalive_numbers}
+use Rattle.code_check.specs.Operands.{variable_demands}
+use Rattle.code_check.specs.Destinations.{normal_demands, exceptional_demands, optional_target, keepalive_numbers}
 use Rattle.code_check.specs.Computations.{computation_demands, computation_gives, computation_code}
 use Rattle.code_check.specs.Control.{control_demands, control_gives, control_code}
 use Rattle.code_check.specs.Objects.{allocation_demands, allocation_gives, allocation_code, addressing_demands, addressing_gives, addressing_code}
@@ -75,110 +70,53 @@ form_of p f ls (ops.Common c) = forms.Common (common_code p ls c)
 -- ---- what stands behind it
 
 -- EXC ( dest dest )
-abbrev pub computation_exc : Computation → Option ExceptionClause
-computation_exc (computations.Binary op t a b e) = e
-computation_exc _ = None
-
-abbrev pub control_exc : ControlFlow → Option ExceptionClause
-control_exc (flows.Call s c a e k) = e
-control_exc _ = None
-
-abbrev pub allocation_exc : Allocation → Option ExceptionClause
-allocation_exc (allocations.New t e) = e
-allocation_exc (allocations.Newhybrid h i n e) = e
-allocation_exc (allocations.Alloca t e) = e
-
-abbrev pub access_exc : Access → Option ExceptionClause
-access_exc (accesses.Load o t l e) = e
-access_exc (accesses.Store o t l a e) = e
-access_exc (accesses.Cmpxchg w s o t l a b e) = e
-access_exc (accesses.Atomicrmw o op t l a e) = e
-access_exc (accesses.Fence o) = None
-
-abbrev pub switch_exc : StackSwitch → Option ExceptionClause
-switch_exc (switches.SwapReturning s ts n e k) = e
-switch_exc (switches.SwapKilling s n) = None
-switch_exc (switches.Newthread s tl n e) = e
-
-abbrev pub trapping_exc : Trapping → Option ExceptionClause
-trapping_exc (trappings.Trap ts e k) = e
-trapping_exc _ = None
-
--- the EXC of an instruction
 abbrev pub exc_of : Op → Option ExceptionClause
-exc_of (ops.Computation c) = computation_exc c
-exc_of (ops.ControlFlow c) = control_exc c
-exc_of (ops.Allocation a) = allocation_exc a
-exc_of (ops.Access a) = access_exc a
-exc_of (ops.Trapping t) = trapping_exc t
-exc_of (ops.StackSwitch s) = switch_exc s
+exc_of (ops.Computation (computations.Binary op t a b e)) = e
+exc_of (ops.ControlFlow (flows.Call s c a e k)) = e
+exc_of (ops.Allocation (allocations.New t e)) = e
+exc_of (ops.Allocation (allocations.Newhybrid h i n e)) = e
+exc_of (ops.Allocation (allocations.Alloca t e)) = e
+exc_of (ops.Access (accesses.Load o t l e)) = e
+exc_of (ops.Access (accesses.Store o t l a e)) = e
+exc_of (ops.Access (accesses.Cmpxchg w s o t l a b e)) = e
+exc_of (ops.Access (accesses.Atomicrmw o op t l a e)) = e
+exc_of (ops.Trapping (trappings.Trap ts e k)) = e
+exc_of (ops.StackSwitch (switches.SwapReturning s ts n e k)) = e
+exc_of (ops.StackSwitch (switches.Newthread s tl n e)) = e
 exc_of _ = None
-
-abbrev pub normal_of_exc : Option ExceptionClause → Option Destination
-normal_of_exc e = option_map (λ e. e.normal) e
-
-abbrev pub exceptional_of_exc : Option ExceptionClause → Option Destination
-exceptional_of_exc e = option_map (λ e. e.exceptional) e
 
 -- the destination that may use the instruction's own results: the first of EXC, the second of a WATCHPOINT
 abbrev pub normal_of : Op → Option Destination
 normal_of (ops.Trapping (trappings.Watchpoint n ts d e x k)) = Some e
-normal_of op = normal_of_exc (exc_of op)
+normal_of op = option_map (λ e. e.normal) (exc_of op)
 
 -- the destination of an exception: the second of EXC, that of WPEXC
 abbrev pub exceptional_of : Op → Option Destination
 exceptional_of (ops.Trapping (trappings.Watchpoint n ts d e x k)) = x
-exceptional_of op = exceptional_of_exc (exc_of op)
+exceptional_of op = option_map (λ e. e.exceptional) (exc_of op)
 
--- KEEPALIVE ( L* )
-abbrev pub control_keepalive : ControlFlow → Option (List Name)
-control_keepalive (flows.Call s c a e k) = k
-control_keepalive _ = None
-
-abbrev pub trapping_keepalive : Trapping → Option (List Name)
-trapping_keepalive (trappings.Trap ts e k) = k
-trapping_keepalive (trappings.Watchpoint n ts d e x k) = k
-trapping_keepalive (trappings.Wpbranch n d e) = None
-
-abbrev pub switch_keepalive : StackSwitch → Option (List Name)
-switch_keepalive (switches.SwapReturning s ts n e k) = k
-switch_keepalive (switches.SwapKilling s n) = None
-switch_keepalive (switches.Newthread s tl n e) = None
-
+-- KEEPALIVE ( L* ): variables of any type
 abbrev pub keepalive_of : Op → Option (List Name)
-keepalive_of (ops.ControlFlow c) = control_keepalive c
-keepalive_of (ops.Trapping t) = trapping_keepalive t
-keepalive_of (ops.StackSwitch s) = switch_keepalive s
+keepalive_of (ops.ControlFlow (flows.Call s c a e k)) = k
+keepalive_of (ops.Trapping (trappings.Trap ts e k)) = k
+keepalive_of (ops.Trapping (trappings.Watchpoint n ts d e x k)) = k
+keepalive_of (ops.StackSwitch (switches.SwapReturning s ts n e k)) = k
 keepalive_of _ = None
 
 -- ---- endings
 
--- BRANCH, BRANCH2, SWITCH, TAILCALL, RET and THROW end their block
-abbrev pub control_ends : ControlFlow → Bool
-control_ends (flows.Call s c a e k) = is_some e
-control_ends _ = true
-
--- so do WATCHPOINT and WPBRANCH
-abbrev pub trapping_ends : Trapping → Bool
-trapping_ends (trappings.Trap ts e k) = is_some e
-trapping_ends _ = true
-
--- SWAPSTACK with KILL_OLD
-abbrev pub switch_ends : StackSwitch → Bool
-switch_ends (switches.SwapKilling s n) = true
-switch_ends switch = is_some (switch_exc switch)
-
--- @uvm.thread_exit
-abbrev pub common_ends : CommonInst → Bool
-common_ends commons.ThreadExit = true
-common_ends _ = false
-
--- and every instruction with EXC
+-- these end their block, and so does every instruction with EXC
 abbrev pub is_ending : Op → Bool
-is_ending (ops.ControlFlow c) = control_ends c
-is_ending (ops.Trapping t) = trapping_ends t
-is_ending (ops.StackSwitch s) = switch_ends s
-is_ending (ops.Common c) = common_ends c
+is_ending (ops.ControlFlow (flows.Branch d)) = true
+is_ending (ops.ControlFlow (flows.Branch2 c d e)) = true
+is_ending (ops.ControlFlow (flows.Switch t a d cs)) = true
+is_ending (ops.ControlFlow (flows.Tailcall s c a)) = true
+is_ending (ops.ControlFlow (flows.Ret a)) = true
+is_ending (ops.ControlFlow (flows.Throw e)) = true
+is_ending (ops.Trapping (trappings.Watchpoint n ts d e x k)) = true
+is_ending (ops.Trapping (trappings.Wpbranch n d e)) = true
+is_ending (ops.StackSwitch (switches.SwapKilling s n)) = true
+is_ending (ops.Common commons.ThreadExit) = true
 is_ending op = is_some (exc_of op)
 
 -- ---- variables
@@ -207,9 +145,9 @@ inst_demands p f ls ended i =
     demand i.place AfterEnding (not ended)
     ⨾ demand i.place ResultCount (nat_eq (length i.results) (length (gives p i.op)))
     ⨾ op_demands p f ls i.op
-    ⨾ optional_normal_demands p f (after p ls i) (normal_of i.op)
-    ⨾ optional_exceptional_demands p f ls (exceptional_of i.op)
-    ⨾ keepalive_demands ls (keepalive_of i.op)
+    ⨾ option_map_or (normal_demands p f (after p ls i)) (normal_of i.op) none
+    ⨾ option_map_or (exceptional_demands p f ls) (exceptional_of i.op) none
+    ⨾ option_map_or (variable_demands ls) (keepalive_of i.op) none
 
 abbrev pub inst_code : Tables → Body → Locals → Inst → Code
 inst_code p f ls i =

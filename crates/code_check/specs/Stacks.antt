@@ -1,6 +1,7 @@
 -- To believe: instructions that ask the client, enter another stack or start a thread: for each form its demands from left to right,
 -- what it gives, and its code. What EXC, WPEXC and KEEPALIVE ask, and the second destination of a WATCHPOINT, stand with the instruction.
-use Rattle.std.specs.Prelude.{ℕ, ◌^◌, List, [], ◌∷◌, Option, Some, None, option_map, not, nat_lt, ◌&&◌}
+use Rattle.std.specs.Prelude.{ℕ, ◌^◌, List, [], ◌∷◌, Option, Some, option_map, not, nat_lt, ◌&&◌}
+use Rattle.std.specs.Option.{option_map_or}
 use Rattle.demands.specs.Demands.{Demands, none, demand, ◌⨾◌}
 use Rattle.ir_lex.specs.declared.name.Numeral.{Numeral}
 use Rattle.ir_tree.specs.declared.operands.Operand.{Operand}
@@ -54,8 +55,7 @@ stack_demands p ls s = operand_demands p ls OperandType s (Some (stackref p.type
 
 -- THREADLOCAL ( value ), which may be left out: a ref<void>
 abbrev pub threadlocal_demands : Tables → Locals → Option Operand → Demands CheckKind
-threadlocal_demands p ls None = none
-threadlocal_demands p ls (Some o) = operand_demands p ls OperandType o (Some (ref_void p.types))
+threadlocal_demands p ls o = option_map_or (λ v. operand_demands p ls OperandType v (Some (ref_void p.types))) o none
 
 abbrev pub switch_demands : Tables → Locals → StackSwitch → Demands CheckKind
 -- SWAPSTACK s RET_WITH < T* > new exc? keep?: s: stackref; value types

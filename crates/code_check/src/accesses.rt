@@ -5,9 +5,10 @@ ghost use Rattle.ir_tree.specs.declared.accessing.Access.TheVariants as accesses
 ghost use Rattle.check_tables.specs.declared.fault.CheckKind.TheVariants.{BadOrder};
 ghost use Rattle.check_tables.specs.Lookups.{noted_class, definition_named};
 ghost use Rattle.check_tables.specs.TypeTests.{is_scalar};
+ghost use Rattle.code_check.specs.declared.code.AccessForm.TheVariants as forms;
 ghost use Rattle.code_check.specs.Operands.{type_demand};
 ghost use Rattle.code_check.specs.Gifts.{listed};
-ghost use Rattle.code_check.specs.Accesses.{may_load, may_store, may_update, may_fail, may_fence, updates_type, access_demands, access_gives, access_code};
+ghost use Rattle.code_check.specs.Accesses.{may_load, may_store, may_update, may_fail, may_fence, order_demand, updates_type, access_demands, access_gives, access_code};
 
 use crate::code::AccessForm;
 use crate::gifts::Gift;
@@ -80,18 +81,49 @@ fn updates_type(tables: &Tables, op: UpdateOp, name: &Name) -> bool
 
 // ---- the forms, whatever stands behind them
 
+/// The place that an instruction accesses.
+#[derive(Clone, Copy)]
+struct Place<'a> {
+    /// The type of what is there.
+    of_type: &'a Name,
+    /// The reference to the place.
+    location: &'a Operand,
+}
+
+/// How a `CMPXCHG` compares.
+#[derive(Clone, Copy)]
+struct Comparison {
+    /// Whether it may fail although the value there is the one expected.
+    weak: bool,
+    /// The order of one that succeeds.
+    success: WrittenOrder,
+    /// The order of one that fails.
+    failure: WrittenOrder,
+}
+
+impl Comparison {
+    fn new(weak: bool, success: WrittenOrder, failure: WrittenOrder) -> Comparison
+        ensures { result ≡ record { weak = weak; success = success; failure = failure } }
+    {
+        Comparison {
+            weak,
+            success,
+            failure,
+        }
+    }
+}
+
 fn load(
     tables: &Tables,
     locals: &Locals,
     given: WrittenOrder,
-    name: &Name,
-    location: &Operand,
+    place: Place,
 ) -> Result<AccessForm, CheckFault>
-    ensures { Judges (access_demands tables.now locals.now (accesses.Load given name.now location.now None)) (access_code tables.now locals.now (accesses.Load given name.now location.now None)) result }
+    ensures { Judges (access_demands tables.now locals.now (accesses.Load given place.entry.of_type.now place.entry.location.now None)) (access_code tables.now locals.now (accesses.Load given place.entry.of_type.now place.entry.location.now None)) result }
 {
     let order = order(may_load(given.order), given)?;
-    let class = scalar_type(tables, name)?;
-    let location = place_of_type(tables, locals, location, name)?;
+    let class = scalar_type(tables, place.of_type)?;
+    let location = place_of_type(tables, locals, place.location, place.of_type)?;
     Ok(AccessForm::Load {
         order,
         class,
@@ -103,16 +135,15 @@ fn store(
     tables: &Tables,
     locals: &Locals,
     given: WrittenOrder,
-    name: &Name,
-    location: &Operand,
+    place: Place,
     value: &Operand,
 ) -> Result<AccessForm, CheckFault>
-    ensures { Judges (access_demands tables.now locals.now (accesses.Store given name.now location.now value.now None)) (access_code tables.now locals.now (accesses.Store given name.now location.now value.now None)) result }
+    ensures { Judges (access_demands tables.now locals.now (accesses.Store given place.entry.of_type.now place.entry.location.now value.now None)) (access_code tables.now locals.now (accesses.Store given place.entry.of_type.now place.entry.location.now value.now None)) result }
 {
     let order = order(may_store(given.order), given)?;
-    let class = scalar_type(tables, name)?;
-    let location = place_of_type(tables, locals, location, name)?;
-    let value = of_type(tables, locals, value, name)?;
+    let class = scalar_type(tables, place.of_type)?;
+    let location = place_of_type(tables, locals, place.location, place.of_type)?;
+    let value = of_type(tables, locals, value, place.of_type)?;
     Ok(AccessForm::Store {
         order,
         class,
@@ -124,24 +155,21 @@ fn store(
 fn cmpxchg(
     tables: &Tables,
     locals: &Locals,
-    weak: bool,
-    success: WrittenOrder,
-    failure: WrittenOrder,
-    name: &Name,
-    location: &Operand,
+    comparison: Comparison,
+    place: Place,
     expected: &Operand,
     desired: &Operand,
 ) -> Result<AccessForm, CheckFault>
-    ensures { Judges (access_demands tables.now locals.now (accesses.Cmpxchg weak success failure name.now location.now expected.now desired.now None)) (access_code tables.now locals.now (accesses.Cmpxchg weak success failure name.now location.now expected.now desired.now None)) result }
+    ensures { Judges (access_demands tables.now locals.now (accesses.Cmpxchg comparison.weak comparison.success comparison.failure place.entry.of_type.now place.entry.location.now expected.now desired.now None)) (access_code tables.now locals.now (accesses.Cmpxchg comparison.weak comparison.success comparison.failure place.entry.of_type.now place.entry.location.now expected.now desired.now None)) result }
 {
-    let success = order(may_update(success.order), success)?;
-    let failure = order(may_fail(failure.order), failure)?;
-    let class = scalar_type(tables, name)?;
-    let location = place_of_type(tables, locals, location, name)?;
-    let expected = of_type(tables, locals, expected, name)?;
-    let desired = of_type(tables, locals, desired, name)?;
+    let success = order(may_update(comparison.success.order), comparison.success)?;
+    let failure = order(may_fail(comparison.failure.order), comparison.failure)?;
+    let class = scalar_type(tables, place.of_type)?;
+    let location = place_of_type(tables, locals, place.location, place.of_type)?;
+    let expected = of_type(tables, locals, expected, place.of_type)?;
+    let desired = of_type(tables, locals, desired, place.of_type)?;
     Ok(AccessForm::Cmpxchg {
-        weak,
+        weak: comparison.weak,
         success,
         failure,
         class,
@@ -156,16 +184,16 @@ fn atomicrmw(
     locals: &Locals,
     given: WrittenOrder,
     op: UpdateOp,
-    name: &Name,
-    location: &Operand,
+    place: Place,
     operand: &Operand,
 ) -> Result<AccessForm, CheckFault>
-    ensures { Judges (access_demands tables.now locals.now (accesses.Atomicrmw given op name.now location.now operand.now None)) (access_code tables.now locals.now (accesses.Atomicrmw given op name.now location.now operand.now None)) result }
+    ensures { Judges (access_demands tables.now locals.now (accesses.Atomicrmw given op place.entry.of_type.now place.entry.location.now operand.now None)) (access_code tables.now locals.now (accesses.Atomicrmw given op place.entry.of_type.now place.entry.location.now operand.now None)) result }
 {
     let order = order(may_update(given.order), given)?;
-    let class = tested_type(tables, name, updates_type(tables, op, name))?;
-    let location = place_of_type(tables, locals, location, name)?;
-    let operand = of_type(tables, locals, operand, name)?;
+    let met = updates_type(tables, op, place.of_type);
+    let class = tested_type(tables, place.of_type, met)?;
+    let location = place_of_type(tables, locals, place.location, place.of_type)?;
+    let operand = of_type(tables, locals, operand, place.of_type)?;
     Ok(AccessForm::Atomicrmw {
         order,
         op,
@@ -173,6 +201,13 @@ fn atomicrmw(
         location,
         operand,
     })
+}
+
+fn fence(given: WrittenOrder) -> Result<AccessForm, CheckFault>
+    ensures { Judges (order_demand may_fence given) (forms.Fence given.order) result }
+{
+    let order = order(may_fence(given.order), given)?;
+    Ok(AccessForm::Fence { order })
 }
 
 /// An instruction that reads or writes memory, or orders such accesses.
@@ -185,14 +220,14 @@ pub fn access(tables: &Tables, locals: &Locals, access: &Access) -> Result<Acces
             of_type,
             location,
             ..
-        } => load(tables, locals, *order, of_type, location),
+        } => load(tables, locals, *order, Place { of_type, location }),
         Access::Store {
             order,
             of_type,
             location,
             value,
             ..
-        } => store(tables, locals, *order, of_type, location, value),
+        } => store(tables, locals, *order, Place { of_type, location }, value),
         Access::Cmpxchg {
             weak,
             success,
@@ -202,9 +237,11 @@ pub fn access(tables: &Tables, locals: &Locals, access: &Access) -> Result<Acces
             expected,
             desired,
             ..
-        } => cmpxchg(
-            tables, locals, *weak, *success, *failure, of_type, location, expected, desired,
-        ),
+        } => {
+            let comparison = Comparison::new(*weak, *success, *failure);
+            let place = Place { of_type, location };
+            cmpxchg(tables, locals, comparison, place, expected, desired)
+        }
         Access::Atomicrmw {
             order,
             op,
@@ -212,10 +249,11 @@ pub fn access(tables: &Tables, locals: &Locals, access: &Access) -> Result<Acces
             location,
             operand,
             ..
-        } => atomicrmw(tables, locals, *order, *op, of_type, location, operand),
-        Access::Fence { order: given } => Ok(AccessForm::Fence {
-            order: order(may_fence(given.order), *given)?,
-        }),
+        } => {
+            let place = Place { of_type, location };
+            atomicrmw(tables, locals, *order, *op, place, operand)
+        }
+        Access::Fence { order } => fence(*order),
     }
 }
 

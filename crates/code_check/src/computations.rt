@@ -135,25 +135,31 @@ fn refcast(
     })
 }
 
+/// What a `SELECT` chooses by.
+#[derive(Clone, Copy)]
+struct Condition<'a> {
+    /// The type of the operand.
+    of_type: &'a Name,
+    /// The operand that is 1 or 0.
+    operand: &'a Operand,
+}
+
 /// `SELECT`.
 fn select(
     tables: &Tables,
     locals: &Locals,
-    condition_type: &Name,
+    condition: Condition,
     name: &Name,
-    condition: &Operand,
     if_one: &Operand,
     if_zero: &Operand,
 ) -> Result<ComputationForm, CheckFault>
-    ensures { Judges (computation_demands tables.now locals.now (forms.Select condition_type.now name.now condition.now if_one.now if_zero.now)) (computation_code tables.now locals.now (forms.Select condition_type.now name.now condition.now if_one.now if_zero.now)) result }
+    ensures { Judges (computation_demands tables.now locals.now (forms.Select condition.entry.of_type.now name.now condition.entry.operand.now if_one.now if_zero.now)) (computation_code tables.now locals.now (forms.Select condition.entry.of_type.now name.now condition.entry.operand.now if_one.now if_zero.now)) result }
 {
+    let given = tables.class_named(condition.of_type);
     let one_bit = Some(tables.types.int1());
-    type_demand(
-        condition_type,
-        is_class(tables.class_named(condition_type), one_bit),
-    )?;
+    type_demand(condition.of_type, is_class(given, one_bit))?;
     let class = value_type(tables, name)?;
-    let condition = of_type(tables, locals, condition, condition_type)?;
+    let condition = of_type(tables, locals, condition.operand, condition.of_type)?;
     let if_one = of_type(tables, locals, if_one, name)?;
     let if_zero = of_type(tables, locals, if_zero, name)?;
     Ok(ComputationForm::Select {
@@ -241,15 +247,13 @@ pub fn computation(
             condition,
             if_one,
             if_zero,
-        } => select(
-            tables,
-            locals,
-            condition_type,
-            of_type,
-            condition,
-            if_one,
-            if_zero,
-        ),
+        } => {
+            let condition = Condition {
+                of_type: condition_type,
+                operand: condition,
+            };
+            select(tables, locals, condition, of_type, if_one, if_zero)
+        }
         Computation::Extractvalue {
             of_type,
             field,

@@ -1,7 +1,9 @@
 // Destinations, what a stack is entered with, and variables that are kept.
 ghost use Rattle.std.specs.Prelude.{◌≡◌, option_copied};
-ghost use Rattle.demands.specs.Demands.{Judges};
-ghost use Rattle.code_check.specs.Destinations.{block_named, entry_takes, takes_no_exception, exceptional_demands, normal_demands, block_number, target_of, optional_normal_demands, optional_exceptional_demands, optional_target, keepalive_demands, keepalive_numbers, entered_demands, entered_code};
+ghost use Rattle.std.specs.Option.{option_map_or};
+ghost use Rattle.demands.specs.Demands.{Judges, none};
+ghost use Rattle.code_check.specs.Operands.{variable_demands};
+ghost use Rattle.code_check.specs.Destinations.{block_named, entry_takes, takes_no_exception, exceptional_demands, normal_demands, block_number, target_of, optional_target, keepalive_numbers, entered_demands, entered_code};
 
 use crate::code::{Entered, Target};
 use crate::operands::{arguments, demand, kept, thrown, value_types};
@@ -87,7 +89,7 @@ pub fn optional_normal(
     locals: &Locals,
     destination: Option<&Destination>,
 ) -> Result<Option<Target>, CheckFault>
-    ensures { Judges (optional_normal_demands tables.now body.now locals.now (option_copied destination.entry)) (optional_target tables.now body.now locals.now (option_copied destination.entry)) result }
+    ensures { Judges (option_map_or (normal_demands tables.now body.now locals.now) (option_copied destination.entry) none) (optional_target tables.now body.now locals.now (option_copied destination.entry)) result }
 {
     match destination {
         Some(destination) => Ok(Some(normal(alloc, tables, body, locals, destination)?)),
@@ -103,7 +105,7 @@ pub fn optional_exceptional(
     locals: &Locals,
     destination: Option<&Destination>,
 ) -> Result<Option<Target>, CheckFault>
-    ensures { Judges (optional_exceptional_demands tables.now body.now locals.now (option_copied destination.entry)) (optional_target tables.now body.now locals.now (option_copied destination.entry)) result }
+    ensures { Judges (option_map_or (exceptional_demands tables.now body.now locals.now) (option_copied destination.entry) none) (optional_target tables.now body.now locals.now (option_copied destination.entry)) result }
 {
     match destination {
         Some(destination) => Ok(Some(exceptional(alloc, tables, body, locals, destination)?)),
@@ -117,7 +119,7 @@ pub fn keepalive(
     locals: &Locals,
     names: Option<&Listing<Name>>,
 ) -> Result<Listing<u32>, CheckFault>
-    ensures { Judges (keepalive_demands locals.now (option_copied names.entry)) (keepalive_numbers locals.now (option_copied names.entry)) result }
+    ensures { Judges (option_map_or (variable_demands locals.now) (option_copied names.entry) none) (keepalive_numbers locals.now (option_copied names.entry)) result }
 {
     match names {
         Some(names) => kept(alloc, locals, names.as_slice()),

@@ -1,3 +1,4 @@
+pub mod Alone
 pub mod Casting
 pub mod Elements
 pub mod Filling

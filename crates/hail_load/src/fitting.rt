@@ -1,5 +1,5 @@
 // Which sources that are no lists fit a type, and the scalars that they are.
-ghost use Rattle.std.specs.Prelude.{◌≡◌, ℕ, ◌<◌, ◌≤◌, ◌∷◌, [], ◌++◌, Some, length, slice_get, slice_index_or, IfSome, IsTrue, OnOk};
+ghost use Rattle.std.specs.Prelude.{◌≡◌, ℕ, ◌<◌, ◌≤◌, ◌∷◌, [], ◌++◌, Some, Ok, length, slice_get, slice_index_or, IfSome, IsTrue, OnOk};
 ghost use Rattle.demands.specs.Names.{found};
 ghost use Rattle.type_laws.specs.Same.{IsGraph};
 ghost use Rattle.type_laws.specs.Class.{class_of};
@@ -189,6 +189,22 @@ fn constant_fits(code: &Checked, t: u32, constant: u32) -> bool
 {
     (constant as usize) < code.constants()
         && code.constant_type(constant) == code.classes().class(t)
+}
+
+/// The number of the constant that a name stands for, where that is of a type.
+pub(crate) fn constant_named(scene: Scene, t: u32, name: &Name) -> Option<u32>
+    requires { t < length (code_of scene.code.now).graph }
+    ensures there { IfSome result (λ n. n < length (code_of scene.entry.code.now).constants) }
+    ensures value { IfSome result (λ n. named_scalars (code_of scene.entry.code.now) scene.entry.heap.now.objects t name.now.place (found (code_of scene.entry.code.now).names name.now.text) ≡ Ok (slice_index_or (code_of scene.entry.code.now).values n [])) }
+{
+    match scene.code.tables().globals.names.find(name.text.as_slice()) {
+        Some(Sort::Constant(n)) => if constant_fits(scene.code, t, *n) {
+            Some(*n)
+        } else {
+            None
+        },
+        _ => None,
+    }
 }
 
 /// Adds the value of a constant.

@@ -1,5 +1,5 @@
 // Which sources fit a part, lists among them, and the scalars that they are.
-ghost use Rattle.std.specs.Prelude.{◌≡◌, ◌∷◌, [], Some, Err, OnOk};
+ghost use Rattle.std.specs.Prelude.{◌≡◌, ◌<◌, ◌∷◌, [], Some, Ok, Err, length, slice_index_or, IfSome, OnOk};
 ghost use Rattle.std.specs.List.{All};
 ghost use Rattle.demands.specs.declared.fault.Fault.TheVariants.{At};
 ghost use Rattle.type_laws.specs.Leaves.{times};
@@ -11,7 +11,7 @@ ghost use Rattle.hail_load.specs.Judging.{piece_place, wanted_by, part_scalars, 
 ghost use Rattle.hail_load.specs.Answering.{Makes, GoesOn, behind, before, IsThere, AreThere, store_of};
 
 use crate::fault::{LoadFault, LoadKind};
-use crate::fitting::{Scene, scalars_of};
+use crate::fitting::{Scene, constant_named, scalars_of};
 use crate::parts::Part;
 use crate::pending::Pending;
 use crate::tree::Piece;
@@ -177,6 +177,33 @@ fn judge_piece(
     } else {
         part_scalars(alloc, scene, part, piece, more, scalars)
     }
+}
+
+/// The number of the constant that a source of one piece is, where that is of a type.
+fn constant_piece(scene: Scene, t: u32, piece: &Piece) -> Option<u32>
+    requires { t < length (code_of scene.code.now).graph }
+    ensures there { IfSome result (λ n. n < length (code_of scene.entry.code.now).constants) }
+    ensures value { IfSome result (λ n. judged (code_of scene.entry.code.now) (store_of scene.entry.heap.now scene.entry.made.now) (Value t ∷ []) (piece.now ∷ []) ≡ Ok (slice_index_or (code_of scene.entry.code.now).values n [])) }
+{
+    match piece {
+        Piece::Global(name) => constant_named(scene, t, name),
+        _ => None,
+    }
+}
+
+/// The number of the constant that a source is, where it fits the part: its scalars need not be copied. It takes the time of a hash.
+pub(crate) fn constant_alone(scene: Scene, part: Part, source: &[Piece]) -> Option<u32>
+    requires { IsThere (code_of scene.code.now).graph part }
+    ensures there { IfSome result (λ n. n < length (code_of scene.entry.code.now).constants) }
+    ensures value { IfSome result (λ n. judged (code_of scene.entry.code.now) (store_of scene.entry.heap.now scene.entry.made.now) (part ∷ []) source.now ≡ Ok (slice_index_or (code_of scene.entry.code.now).values n [])) }
+{
+    let Part::Value(t) = part else {
+        return None;
+    };
+    let [piece] = source else {
+        return None;
+    };
+    constant_piece(scene, t, piece)
 }
 
 /// Adds the scalars of a source for a part. It takes memory for the scalars and for the lists in one another.

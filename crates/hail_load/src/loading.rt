@@ -1,5 +1,5 @@
 // What the commands of a script make.
-ghost use Rattle.std.specs.Prelude.{◌≡◌, ◌+◌, ◌-◌, ◌<◌, ◌^◌, Some, Err, length, slice_get, OnOk, OnErr};
+ghost use Rattle.std.specs.Prelude.{◌≡◌, ◌+◌, ◌-◌, ◌<◌, ◌^◌, [], Some, Err, length, slice_get, slice_index_or, OnOk, OnErr};
 ghost use Rattle.demands.specs.declared.fault.Fault.TheVariants.{At};
 ghost use Rattle.demands.specs.Names.{found, added};
 ghost use Rattle.check_tables.specs.TypeTests.{is_hybrid, is_no_hybrid};
@@ -14,7 +14,7 @@ ghost use Rattle.hail_load.specs.Answering.{Makes, AreThere, AreWhole, IsSame, n
 
 use crate::fault::{LoadFault, LoadKind};
 use crate::fitting::Scene;
-use crate::judgement::judge;
+use crate::judgement::{constant_alone, judge};
 use crate::parts::{Made, Part, Spot};
 use crate::targets::target_spot;
 use crate::tree::{Command, Hail, Piece, Target};
@@ -228,8 +228,22 @@ fn fill(heap: &mut Heap, spot: Spot, scalars: &[Scalar]) -> Result<(), AllocErro
     Ok(())
 }
 
-/// `.init`: the target is found first, then the source is judged whole, and then its cells are set. What was in `scalars` is lost: one
-/// list is there for all commands, so that its memory is kept from one to the next.
+/// Sets the cells of a part by a constant, whose scalars are read where they stand.
+#[tactic(auto, using(std::proofs::lemmas::Option::get_or_from_slice_get))]
+fn fill_constant(heap: &mut Heap, code: &Checked, spot: Spot, n: u32) -> Result<(), AllocError>
+    requires there { n < length (code_of code.now).constants }
+    requires whole { AreWhole heap.old.objects }
+    ensures objects { OnOk result (heap.new.objects ≡ with_filled heap.old.objects spot.object spot.at (slice_index_or (code_of code.now).values n []) (slice_get heap.old.objects spot.object)) }
+    ensures left { heap.new.left ≡ heap.old.left }
+    ensures err { OnErr result (heap.new.objects ≡ heap.old.objects) }
+    ensures whole { AreWhole heap.new.objects }
+{
+    fill(heap, spot, code.constant(n).as_slice())
+}
+
+/// `.init`: the target is found first, then the source is judged whole, and then its cells are set. A constant alone is read where it
+/// stands. The scalars of any other source take the place of what is in `scalars`: one list is there for all commands, so that its memory
+/// is kept from one to the next.
 fn init(
     loader: Loader,
     heap: &mut Heap,
@@ -247,8 +261,12 @@ fn init(
 {
     let code = loader.code;
     let spot = target_spot(code, made, &target.root, target.indexes.as_slice())?;
-    scalars.clear();
     let scene = Scene { code, heap, made };
+    if let Some(n) = constant_alone(scene, spot.part, source) {
+        fill_constant(heap, code, spot, n)?;
+        return Ok(());
+    }
+    scalars.clear();
     judge(loader.alloc, scene, spot.part, source, scalars)?;
     fill(heap, spot, scalars)?;
     Ok(())

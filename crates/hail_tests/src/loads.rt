@@ -224,16 +224,16 @@ fn refuses_objects(rt: &impl Abort, alloc: Global, code: &Checked) -> Result<(),
     refuses(rt, alloc, code, script, LoadKind::HeapFull, 22)
 }
 
-/// What two cells begin with behind a script that is loaded.
+/// What the first two cells of an object begin with behind a script that is loaded.
 fn sets(
     rt: &impl Abort,
     alloc: Global,
     code: &Checked,
     script: &[u8],
     object: u32,
-    first: Option<Scalar>,
-    second: Option<Scalar>,
+    cells: [Option<Scalar>; 2],
 ) -> Result<(), Fail> {
+    let [first, second] = cells;
     let mut heap = heap_of(alloc, code, 10)?;
     let answer = answer(alloc, code, &mut heap, script)?;
     assert_eq!(rt; answer, Ok(()));
@@ -247,20 +247,26 @@ fn place(object: u32, at: u32) -> Option<Scalar> {
 }
 
 fn sets_globals(rt: &impl Abort, alloc: Global, code: &Checked) -> Result<(), Fail> {
-    sets(rt, alloc, code, b"", 4, int(64, 0), None)?;
-    sets(rt, alloc, code, b".init @x = 5", 4, int(64, 5), None)?;
-    sets(rt, alloc, code, b".init @b = -128", 5, int(8, 128), None)?;
-    sets(rt, alloc, code, b".init @x = @k", 4, int(64, 7), None)?;
-    sets(rt, alloc, code, b".init @p = @x", 1, place(4, 0), None)?;
-    sets(rt, alloc, code, b".init @p = &@a[1]", 1, place(2, 1), None)?;
+    sets(rt, alloc, code, b"", 4, [int(64, 0), None])?;
+    sets(rt, alloc, code, b".init @x = 5", 4, [int(64, 5), None])?;
+    sets(rt, alloc, code, b".init @b = -128", 5, [int(8, 128), None])?;
+    sets(rt, alloc, code, b".init @x = @k", 4, [int(64, 7), None])?;
+    sets(rt, alloc, code, b".init @p = @x", 1, [place(4, 0), None])?;
+    sets(
+        rt,
+        alloc,
+        code,
+        b".init @p = &@a[1]",
+        1,
+        [place(2, 1), None],
+    )?;
     sets(
         rt,
         alloc,
         code,
         b".init @f = @main",
         3,
-        Some(Scalar::Func(0)),
-        None,
+        [Some(Scalar::Func(0)), None],
     )?;
     sets(
         rt,
@@ -268,8 +274,7 @@ fn sets_globals(rt: &impl Abort, alloc: Global, code: &Checked) -> Result<(), Fa
         code,
         b".init @f = NULL",
         3,
-        Some(Scalar::Null),
-        None,
+        [Some(Scalar::Null), None],
     )?;
     sets(
         rt,
@@ -277,8 +282,7 @@ fn sets_globals(rt: &impl Abort, alloc: Global, code: &Checked) -> Result<(), Fa
         code,
         b".init @a[1] = 5",
         2,
-        int(64, 0),
-        int(64, 5),
+        [int(64, 0), int(64, 5)],
     )?;
     sets(
         rt,
@@ -286,8 +290,7 @@ fn sets_globals(rt: &impl Abort, alloc: Global, code: &Checked) -> Result<(), Fa
         code,
         b".init @a = {1 2 3}",
         2,
-        int(64, 1),
-        int(64, 2),
+        [int(64, 1), int(64, 2)],
     )
 }
 
@@ -299,8 +302,7 @@ fn sets_objects(rt: &impl Abort, alloc: Global, code: &Checked) -> Result<(), Fa
         code,
         b".new $a <@n> .init @g = $a",
         0,
-        node,
-        None,
+        [node, None],
     )?;
     sets(
         rt,
@@ -308,17 +310,16 @@ fn sets_objects(rt: &impl Abort, alloc: Global, code: &Checked) -> Result<(), Fa
         code,
         b".new $a <@n> .init @w = {9 $a}",
         6,
-        int(64, 9),
-        node,
+        [int(64, 9), node],
     )?;
     let script = b".newhybrid $h <@hf> 2 .init $h = {1 {2 3}}";
-    sets(rt, alloc, code, script, 7, int(8, 1), int(64, 2))?;
+    sets(rt, alloc, code, script, 7, [int(8, 1), int(64, 2)])?;
     let script = b".newhybrid $h <@hf> 2 .init $h[1][0] = 4 .init @p = &$h[1]";
-    sets(rt, alloc, code, script, 7, int(8, 0), int(64, 4))?;
+    sets(rt, alloc, code, script, 7, [int(8, 0), int(64, 4)])?;
     let script = b".newhybrid $h <@hf> 2 .init $h[1][0] = 4 .init @p = &$h[1]";
-    sets(rt, alloc, code, script, 1, place(7, 1), None)?;
+    sets(rt, alloc, code, script, 1, [place(7, 1), None])?;
     let script = b".newhybrid $h <@hy> 10 .new $v <@v>";
-    sets(rt, alloc, code, script, 7, int(64, 0), int(64, 0))
+    sets(rt, alloc, code, script, 7, [int(64, 0), int(64, 0)])
 }
 
 /// What the commands before a refused one made stands, and the refused one sets nothing.

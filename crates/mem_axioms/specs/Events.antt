@@ -21,21 +21,11 @@ use Rattle.mem_axioms.specs.declared.types.Event.{Event}
 -- An order is atomic unless it is NOT_ATOMIC.
 abbrev pub is_atomic : Order → Bool
 is_atomic NotAtomic = false
-is_atomic Relaxed = true
-is_atomic Consume = true
-is_atomic Acquire = true
-is_atomic Release = true
-is_atomic AcqRel = true
-is_atomic SeqCst = true
+is_atomic _ = true
 
 abbrev pub is_seq_cst : Order → Bool
-is_seq_cst NotAtomic = false
-is_seq_cst Relaxed = false
-is_seq_cst Consume = false
-is_seq_cst Acquire = false
-is_seq_cst Release = false
-is_seq_cst AcqRel = false
 is_seq_cst SeqCst = true
+is_seq_cst _ = false
 
 -- A read or update loads a value from its cell, a write or update stores one.
 abbrev pub loads : Mode → Bool

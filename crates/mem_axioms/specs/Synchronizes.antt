@@ -12,23 +12,18 @@ use Rattle.mem_axioms.specs.declared.types.Event.{Event}
 
 -- The orders with which a read, update or fence is an acquire. CONSUME means ACQUIRE.
 abbrev pub acquires : Order → Bool
-acquires NotAtomic = false
-acquires Relaxed = false
 acquires Consume = true
 acquires Acquire = true
-acquires Release = false
 acquires AcqRel = true
 acquires SeqCst = true
+acquires _ = false
 
 -- The orders with which a write, update or fence is a release.
 abbrev pub releases : Order → Bool
-releases NotAtomic = false
-releases Relaxed = false
-releases Consume = false
-releases Acquire = false
 releases Release = true
 releases AcqRel = true
 releases SeqCst = true
+releases _ = false
 
 -- Whether a write or update at the next position goes on a release sequence whose head is by that thread:
 -- an update does; under C11 an atomic write by the head's own thread does too.

@@ -7,7 +7,7 @@ ghost use Rattle.mem_axioms.specs.Flags.{AreRowsOf};
 use crate::event_facts::{atomic, modification, order_in};
 use crate::read_test::on_same_cell;
 use crate::rows::{Row, happens_before_next};
-use crate::types::{Event, Rule};
+use crate::types::{Event, Numbered, Rule};
 
 /// Whether both events access one cell by two threads, one of them a write or update, and not both atomic.
 fn conflicts(event: &Event, next: &Event) -> bool
@@ -19,19 +19,12 @@ fn conflicts(event: &Event, next: &Event) -> bool
         && !(atomic(order_in(event)) && atomic(order_in(next)))
 }
 
-/// Whether event `i`, which is `event`, races with `next`.
-fn races_with(
-    rule: Rule,
-    events: &[Event],
-    rows: &[Row],
-    next: &Event,
-    i: usize,
-    event: &Event,
-) -> bool
+/// Whether `other` races with `next`.
+fn races_with(rule: Rule, events: &[Event], rows: &[Row], next: &Event, other: Numbered) -> bool
     requires { AreRowsOf rule (reverse events.now) rows.now }
-    ensures { result ≡ races rule (reverse events.now) next.now i event.now }
+    ensures { result ≡ races rule (reverse events.now) next.now other.entry.number other.entry.event.now }
 {
-    conflicts(event, next) && !happens_before_next(rule, events, rows, next, i)
+    conflicts(other.event, next) && !happens_before_next(rule, events, rows, next, other.number)
 }
 
 /// The least racing event up to event `i`, where `least` is that of those before it.
@@ -49,9 +42,13 @@ fn least_up_to(
     requires least { least ≡ least_event (races rule (reverse events.now) next.now) (reverse (take i events.now)) }
     ensures { result ≡ least_event (races rule (reverse events.now) next.now) (reverse (take (i + 1) events.now)) }
 {
+    let other = Numbered {
+        number: i,
+        event: &events[i],
+    };
     match least {
         Some(j) => Some(j),
-        None if races_with(rule, events, rows, next, i, &events[i]) => Some(i as u32),
+        None if races_with(rule, events, rows, next, other) => Some(i as u32),
         None => None,
     }
 }

@@ -9,7 +9,7 @@ ghost use Rattle.mem_axioms.specs.PassedOver.{has_seq_cst_from, is_bound, is_pas
 
 use crate::event_facts::{fence, is_of_cell, order_in, position_in, seq_cst, seq_cst_fence};
 use crate::rows::{Row, happens_before_next};
-use crate::types::{Event, Kind, Mode, Rule};
+use crate::types::{Event, Kind, Mode, Numbered, Rule};
 
 /// Whether both events access one cell.
 pub fn on_same_cell(event: &Event, other: &Event) -> bool
@@ -32,20 +32,21 @@ fn passes_over(read: &Event, other: &Event) -> bool
     on_same_cell(other, read) && reads && position_in(read) < position_in(other)
 }
 
-/// Whether event `a`, which is `event`, is a SEQ_CST fence at `b` or after it that happens before the read.
+/// Whether `other` is a SEQ_CST fence at `b` or after it that happens before the read.
 fn is_fence_from(
     rule: Rule,
     events: &[Event],
     rows: &[Row],
     read: &Event,
     b: usize,
-    a: usize,
-    event: &Event,
+    other: Numbered,
 ) -> bool
     requires { AreRowsOf rule (reverse events.now) rows.now }
-    ensures { result ≡ (is_seq_cst_fence event.now && nat_le b a && happens_before rule (read.now ∷ reverse events.now) a (length events.now)) }
+    ensures { result ≡ (is_seq_cst_fence other.entry.event.now && nat_le b other.entry.number && happens_before rule (read.now ∷ reverse events.now) other.entry.number (length events.now)) }
 {
-    seq_cst_fence(event) && b <= a && happens_before_next(rule, events, rows, read, a)
+    seq_cst_fence(other.event)
+        && b <= other.number
+        && happens_before_next(rule, events, rows, read, other.number)
 }
 
 /// Whether the read is SEQ_CST, or a SEQ_CST fence at `b` or after it happens before the read.
@@ -57,30 +58,33 @@ fn is_seq_cst_from(rule: Rule, events: &[Event], rows: &[Row], read: &Event, b: 
         return true;
     }
     for a in (0..events.len()).rev() {
-        if is_fence_from(rule, events, rows, read, b, a, &events[a]) {
+        let other = Numbered {
+            number: a,
+            event: &events[a],
+        };
+        if is_fence_from(rule, events, rows, read, b, other) {
             return true;
         }
     }
     false
 }
 
-/// Whether event `b`, which is `event`, is SEQ_CST, is access `y` or a fence that `y` happens before, and binds the read.
+/// Whether `other` is SEQ_CST, is access `y` or a fence that `y` happens before, and binds the read.
 fn binds(
     rule: Rule,
     events: &[Event],
     rows: &[Row],
     read: &Event,
     y: usize,
-    b: usize,
-    event: &Event,
+    other: Numbered,
 ) -> bool
     requires rows { AreRowsOf rule (reverse events.now) rows.now }
-    requires b { b < length events.now }
-    ensures { result ≡ (has_seq_cst b event.now && is_or_is_fenced rule (reverse events.now) y b event.now && has_seq_cst_from rule (reverse events.now) read.now b) }
+    requires number { other.number < length events.now }
+    ensures { result ≡ (has_seq_cst other.entry.number other.entry.event.now && is_or_is_fenced rule (reverse events.now) y other.entry.number other.entry.event.now && has_seq_cst_from rule (reverse events.now) read.now other.entry.number) }
 {
-    seq_cst(order_in(event))
-        && (b == y || (fence(event) && rows[b].holds(y)))
-        && is_seq_cst_from(rule, events, rows, read, b)
+    seq_cst(order_in(other.event))
+        && (other.number == y || (fence(other.event) && rows[other.number].holds(y)))
+        && is_seq_cst_from(rule, events, rows, read, other.number)
 }
 
 /// Whether SEQ_CST bars the read from a position below that of access `y`.
@@ -89,28 +93,25 @@ fn is_barred(rule: Rule, events: &[Event], rows: &[Row], read: &Event, y: usize)
     ensures { result ≡ is_bound rule (reverse events.now) read.now y }
 {
     for b in (0..events.len()).rev() {
-        if binds(rule, events, rows, read, y, b, &events[b]) {
+        let other = Numbered {
+            number: b,
+            event: &events[b],
+        };
+        if binds(rule, events, rows, read, y, other) {
             return true;
         }
     }
     false
 }
 
-/// Whether the read passes over access `y`, which is `event`, against an axiom.
-fn is_breach(
-    rule: Rule,
-    events: &[Event],
-    rows: &[Row],
-    read: &Event,
-    y: usize,
-    event: &Event,
-) -> bool
+/// Whether the read passes over `other` against an axiom.
+fn is_breach(rule: Rule, events: &[Event], rows: &[Row], read: &Event, other: Numbered) -> bool
     requires { AreRowsOf rule (reverse events.now) rows.now }
-    ensures { result ≡ is_passed rule (reverse events.now) read.now y event.now }
+    ensures { result ≡ is_passed rule (reverse events.now) read.now other.entry.number other.entry.event.now }
 {
-    passes_over(read, event)
-        && (happens_before_next(rule, events, rows, read, y)
-            || is_barred(rule, events, rows, read, y))
+    passes_over(read, other.event)
+        && (happens_before_next(rule, events, rows, read, other.number)
+            || is_barred(rule, events, rows, read, other.number))
 }
 
 /// Whether the read passes over no access against an axiom.
@@ -119,7 +120,11 @@ pub fn may_come_next(rule: Rule, events: &[Event], rows: &[Row], read: &Event) -
     ensures { result ≡ may_read rule (reverse events.now) read.now }
 {
     for y in (0..events.len()).rev() {
-        if is_breach(rule, events, rows, read, y, &events[y]) {
+        let other = Numbered {
+            number: y,
+            event: &events[y],
+        };
+        if is_breach(rule, events, rows, read, other) {
             return false;
         }
     }

@@ -4,7 +4,7 @@ ghost use Rattle.mem_axioms.specs.Flags.{flag, AreRowsOf};
 ghost use Rattle.mem_axioms.specs.HappensBefore.{precedes, happens_before};
 
 use crate::synchronizing::precedes_next;
-use crate::types::{Event, Rule};
+use crate::types::{Event, Numbered, Rule};
 use std::alloc::{AllocError, Global};
 use std::marker::Model;
 
@@ -67,25 +67,17 @@ fn join_flags(flags: &mut [bool], other: &Row)
     }
 }
 
-/// Adds event `k`, which is `by`, and what happens before it to a row, where it precedes `next`.
-fn add_flags(
-    rule: Rule,
-    events: &[Event],
-    rows: &[Row],
-    k: usize,
-    by: &Event,
-    next: &Event,
-    row: &mut Row,
-)
+/// Adds event `by`, and what happens before it, to a row, where it precedes `next`.
+fn add_flags(rule: Rule, events: &[Event], rows: &[Row], by: Numbered, next: &Event, row: &mut Row)
     requires rows { AreRowsOf rule (reverse events.now) rows.now }
-    requires k { k < length events.now }
+    requires number { by.number < length events.now }
     requires size { length events.now ≤ length row.old }
     ensures size { length row.new ≡ length row.old }
-    ensures flags { (i : ℕ) → flag row.new i ≡ ((precedes rule (reverse events.now) k by.now next.now && ((k == i) || happens_before rule (reverse events.now) i k)) || flag row.old i) }
+    ensures flags { (i : ℕ) → flag row.new i ≡ ((precedes rule (reverse events.now) by.entry.number by.entry.event.now next.now && ((by.entry.number == i) || happens_before rule (reverse events.now) i by.entry.number)) || flag row.old i) }
 {
-    if precedes_next(rule, events, k, by, next) {
-        row.mark(k);
-        row.join(&rows[k]);
+    if precedes_next(rule, events, by, next) {
+        row.mark(by.number);
+        row.join(&rows[by.number]);
     }
 }
 
@@ -97,25 +89,28 @@ pub fn fill_row(rule: Rule, events: &[Event], rows: &[Row], next: &Event, row: &
     ensures { (i : ℕ) → flag row.new i ≡ happens_before rule (next.now ∷ reverse events.now) i (length events.now) }
 {
     for k in 0..events.len() {
-        add_flags(rule, events, rows, k, &events[k], next, row);
+        let by = Numbered {
+            number: k,
+            event: &events[k],
+        };
+        add_flags(rule, events, rows, by, next, row);
     }
 }
 
-/// Whether event `k`, which is `by`, precedes `next`, and event `i` is it or happens before it.
+/// Whether `by` precedes `next`, and event `i` is `by` or happens before it.
 fn leads_to_next(
     rule: Rule,
     events: &[Event],
     rows: &[Row],
-    k: usize,
-    by: &Event,
+    by: Numbered,
     next: &Event,
     i: usize,
 ) -> bool
     requires rows { AreRowsOf rule (reverse events.now) rows.now }
-    requires k { k < length events.now }
-    ensures { result ≡ (precedes rule (reverse events.now) k by.now next.now && ((k == i) || happens_before rule (reverse events.now) i k)) }
+    requires number { by.number < length events.now }
+    ensures { result ≡ (precedes rule (reverse events.now) by.entry.number by.entry.event.now next.now && ((by.entry.number == i) || happens_before rule (reverse events.now) i by.entry.number)) }
 {
-    (k == i || rows[k].holds(i)) && precedes_next(rule, events, k, by, next)
+    (by.number == i || rows[by.number].holds(i)) && precedes_next(rule, events, by, next)
 }
 
 /// Whether event `i` happens before `next`.
@@ -130,7 +125,11 @@ pub fn happens_before_next(
     ensures { result ≡ happens_before rule (next.now ∷ reverse events.now) i (length events.now) }
 {
     for k in (0..events.len()).rev() {
-        if leads_to_next(rule, events, rows, k, &events[k], next, i) {
+        let by = Numbered {
+            number: k,
+            event: &events[k],
+        };
+        if leads_to_next(rule, events, rows, by, next, i) {
             return true;
         }
     }

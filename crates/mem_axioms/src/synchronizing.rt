@@ -10,7 +10,7 @@ use crate::event_facts::{
     acquire, atomic, fence, gives_up_stack, makes, modifies_cell, order_in, position_in, release,
     taken_by, update, wake,
 };
-use crate::types::{Event, Kind, Mode, Rule};
+use crate::types::{Event, Kind, Mode, Numbered, Rule};
 use heap_cells::CellId;
 
 /// Whether a write or update goes on a release sequence whose head is by the thread.
@@ -24,25 +24,18 @@ fn goes_on(rule: Rule, event: &Event, thread: u32) -> bool
     update(event) || own
 }
 
-/// Whether event `h`, which is `head`, heads a release sequence that has the position.
-fn heads_position(
-    rule: Rule,
-    events: &[Event],
-    cell: CellId,
-    position: u32,
-    h: usize,
-    head: &Event,
-) -> bool
-    ensures { result ≡ heads rule (reverse events.now) cell position h head.now }
+/// Whether `head` heads a release sequence that has the position.
+fn heads_position(rule: Rule, events: &[Event], cell: CellId, position: u32, head: Numbered) -> bool
+    ensures { result ≡ heads rule (reverse events.now) cell position head.entry.number head.entry.event.now }
 {
     let mut at = position;
     for i in (0..events.len()).rev() {
         let event = &events[i];
         if modifies_cell(event, cell) && position_in(event) == at {
-            if atomic(order_in(event)) && h == i {
+            if atomic(order_in(event)) && head.number == i {
                 return true;
             }
-            if !goes_on(rule, event, head.thread) {
+            if !goes_on(rule, event, head.event.thread) {
                 return false;
             }
             at = at.saturating_sub(1);
@@ -51,28 +44,27 @@ fn heads_position(
     false
 }
 
-/// Whether event `i`, which is `by`, is the head `h` and a release, or a release fence before it.
-fn releases_by(i: usize, by: &Event, h: usize, head: &Event) -> bool
-    ensures { result ≡ (((i == h) && releases (order_of head.now)) || fences i by.now h head.now) }
+/// Whether `by` is the head and a release, or a release fence before it.
+fn releases_by(by: Numbered, head: Numbered) -> bool
+    ensures { result ≡ (((by.entry.number == head.entry.number) && releases (order_of head.entry.event.now)) || fences by.entry.number by.entry.event.now head.entry.number head.entry.event.now) }
 {
-    let is_fence = i < h && by.thread == head.thread && fence(by) && release(order_in(by));
-    (i == h && release(order_in(head))) || is_fence
+    let is_fence = by.number < head.number
+        && by.event.thread == head.event.thread
+        && fence(by.event)
+        && release(order_in(by.event));
+    (by.number == head.number && release(order_in(head.event))) || is_fence
 }
 
-/// Whether event `i`, which is `by`, released the position.
-fn released_at(
-    rule: Rule,
-    events: &[Event],
-    cell: CellId,
-    position: u32,
-    i: usize,
-    by: &Event,
-) -> bool
-    ensures { result ≡ released rule (reverse events.now) cell position i by.now }
+/// Whether `by` released the position.
+fn released_at(rule: Rule, events: &[Event], cell: CellId, position: u32, by: Numbered) -> bool
+    ensures { result ≡ released rule (reverse events.now) cell position by.entry.number by.entry.event.now }
 {
     for h in (0..events.len()).rev() {
-        let head = &events[h];
-        if releases_by(i, by, h, head) && heads_position(rule, events, cell, position, h, head) {
+        let head = Numbered {
+            number: h,
+            event: &events[h],
+        };
+        if releases_by(by, head) && heads_position(rule, events, cell, position, head) {
             return true;
         }
     }
@@ -80,8 +72,8 @@ fn released_at(
 }
 
 /// The same for the position that an atomic read or update takes.
-fn released_to_read(rule: Rule, events: &[Event], read: &Event, i: usize, by: &Event) -> bool
-    ensures { result ≡ released_to rule (reverse events.now) read.now i by.now }
+fn released_to_read(rule: Rule, events: &[Event], read: &Event, by: Numbered) -> bool
+    ensures { result ≡ released_to rule (reverse events.now) read.now by.entry.number by.entry.event.now }
 {
     match read.kind {
         Kind::Access {
@@ -92,33 +84,31 @@ fn released_to_read(rule: Rule, events: &[Event], read: &Event, i: usize, by: &E
         } => {
             !matches!(mode, Mode::Write)
                 && atomic(order)
-                && released_at(rule, events, cell, taken_by(read), i, by)
+                && released_at(rule, events, cell, taken_by(read), by)
         }
         _ => false,
     }
 }
 
-/// Whether event `r`, which is `read`, is sequenced before `next` and takes what event `i` released.
-fn leaves_to(
-    rule: Rule,
-    events: &[Event],
-    r: usize,
-    read: &Event,
-    i: usize,
-    by: &Event,
-    next: &Event,
-) -> bool
-    ensures { result ≡ (nat_lt i r && (read.now.thread == next.now.thread) && released_to rule (reverse events.now) read.now i by.now) }
+/// Whether `read` is sequenced before `next` and takes what `by` released.
+fn leaves_to(rule: Rule, events: &[Event], read: Numbered, by: Numbered, next: &Event) -> bool
+    ensures { result ≡ (nat_lt by.entry.number read.entry.number && (read.entry.event.now.thread == next.now.thread) && released_to rule (reverse events.now) read.entry.event.now by.entry.number by.entry.event.now) }
 {
-    i < r && read.thread == next.thread && released_to_read(rule, events, read, i, by)
+    by.number < read.number
+        && read.event.thread == next.thread
+        && released_to_read(rule, events, read.event, by)
 }
 
-/// Whether a read before the fence `next` takes what event `i` released.
-fn left_for_fence(rule: Rule, events: &[Event], i: usize, by: &Event, next: &Event) -> bool
-    ensures { result ≡ any_event (λ r er. nat_lt i r && (er.thread == next.now.thread) && released_to rule (reverse events.now) er i by.now) (reverse events.now) }
+/// Whether a read before the fence `next` takes what `by` released.
+fn left_for_fence(rule: Rule, events: &[Event], by: Numbered, next: &Event) -> bool
+    ensures { result ≡ any_event (λ r er. nat_lt by.entry.number r && (er.thread == next.now.thread) && released_to rule (reverse events.now) er by.entry.number by.entry.event.now) (reverse events.now) }
 {
     for r in (0..events.len()).rev() {
-        if leaves_to(rule, events, r, &events[r], i, by, next) {
+        let read = Numbered {
+            number: r,
+            event: &events[r],
+        };
+        if leaves_to(rule, events, read, by, next) {
             return true;
         }
     }
@@ -126,12 +116,12 @@ fn left_for_fence(rule: Rule, events: &[Event], i: usize, by: &Event, next: &Eve
 }
 
 /// Case 1: by what was released.
-fn reaches_acquire(rule: Rule, events: &[Event], i: usize, by: &Event, next: &Event) -> bool
-    ensures { result ≡ synchronizes_by_release rule (reverse events.now) i by.now next.now }
+fn reaches_acquire(rule: Rule, events: &[Event], by: Numbered, next: &Event) -> bool
+    ensures { result ≡ synchronizes_by_release rule (reverse events.now) by.entry.number by.entry.event.now next.now }
 {
     acquire(order_in(next))
-        && (released_to_read(rule, events, next, i, by)
-            || (fence(next) && left_for_fence(rule, events, i, by, next)))
+        && (released_to_read(rule, events, next, by)
+            || (fence(next) && left_for_fence(rule, events, by, next)))
 }
 
 /// Whether event `i` is the last that left or made the stack.
@@ -158,28 +148,28 @@ fn enters_stack(events: &[Event], i: usize, next: &Event) -> bool
 }
 
 /// Case 4: by a wake.
-fn woken_by(i: usize, by: &Event, next: &Event) -> bool
-    ensures { result ≡ synchronizes_by_wake i by.now next.now }
+fn woken_by(by: Numbered, next: &Event) -> bool
+    ensures { result ≡ synchronizes_by_wake by.entry.number by.entry.event.now next.now }
 {
     match next.kind {
-        Kind::Woken { wake: woke } => i == woke as usize && wake(by),
+        Kind::Woken { wake: woke } => by.number == woke as usize && wake(by.event),
         _ => false,
     }
 }
 
-/// Whether event `i`, which is `by`, synchronizes with `next`.
-fn synchronizes_with(rule: Rule, events: &[Event], i: usize, by: &Event, next: &Event) -> bool
-    ensures { result ≡ synchronizes rule (reverse events.now) i by.now next.now }
+/// Whether `by` synchronizes with `next`.
+fn synchronizes_with(rule: Rule, events: &[Event], by: Numbered, next: &Event) -> bool
+    ensures { result ≡ synchronizes rule (reverse events.now) by.entry.number by.entry.event.now next.now }
 {
-    reaches_acquire(rule, events, i, by, next)
-        || enters_stack(events, i, next)
-        || makes(by, next.thread)
-        || woken_by(i, by, next)
+    reaches_acquire(rule, events, by, next)
+        || enters_stack(events, by.number, next)
+        || makes(by.event, next.thread)
+        || woken_by(by, next)
 }
 
-/// Whether event `i`, which is `by`, is sequenced before `next` or synchronizes with it.
-pub fn precedes_next(rule: Rule, events: &[Event], i: usize, by: &Event, next: &Event) -> bool
-    ensures { result ≡ precedes rule (reverse events.now) i by.now next.now }
+/// Whether `by` is sequenced before `next` or synchronizes with it.
+pub fn precedes_next(rule: Rule, events: &[Event], by: Numbered, next: &Event) -> bool
+    ensures { result ≡ precedes rule (reverse events.now) by.entry.number by.entry.event.now next.now }
 {
-    by.thread == next.thread || synchronizes_with(rule, events, i, by, next)
+    by.event.thread == next.thread || synchronizes_with(rule, events, by, next)
 }

@@ -75,6 +75,15 @@ pub struct Event {
     pub kind: Kind,
 }
 
+/// An event of a log with its number.
+#[derive(Clone, Copy)]
+pub struct Numbered<'a> {
+    /// How many events came before it.
+    pub number: usize,
+    /// The event.
+    pub event: &'a Event,
+}
+
 /// What a thread wants of a cell.
 #[derive(Clone, Copy, Debug, PartialEq, Eq)]
 pub enum Wanted {

@@ -30,6 +30,17 @@ pub struct CellViews {
     pub seq_cst: Vec<AccessIndex>,
 }
 
+/// An event that is added.
+#[derive(Clone, Copy)]
+pub struct NextEvent<'a> {
+    /// The event.
+    pub event: &'a Event,
+    /// How many events came before it.
+    pub number: u32,
+    /// The clock that it gives to the sequences that it heads, if it gives one.
+    pub given: &'a Option<Clock>,
+}
+
 /// The value of an access, or NULL.
 fn value_in(event: &Event) -> Scalar
     ensures { result ≡ value_of event.now }
@@ -151,18 +162,19 @@ fn go_on(sequence: &mut Vec<u32>, event: &Event, own: u32)
     sequence[event.thread as usize] = own;
 }
 
-/// Adds an entry for a thread if it belongs to the indexes.
-fn index_if(indexes: &mut Vec<AccessIndex>, belongs: bool, thread: u32, number: u32, position: u32)
-    requires number { number < 4294967295 }
-    requires there { thread < length indexes.old.items }
-    requires room { 0 < (index_at indexes.old.items thread).spare }
-    requires above { All (λ entry. entry.event < suc number) (accesses_at indexes.old.items thread) }
-    ensures entries { (u : ℕ) → accesses_at indexes.new.items u ≡ (if belongs && (u == thread) then record { event = suc number; position = position } ∷ accesses_at indexes.old.items u else accesses_at indexes.old.items u) }
+/// Adds an entry for an access if it belongs to the indexes.
+fn index_if(indexes: &mut Vec<AccessIndex>, belongs: bool, next: NextEvent)
+    requires number { next.number < 4294967295 }
+    requires there { next.event.now.thread < length indexes.old.items }
+    requires room { 0 < (index_at indexes.old.items next.event.now.thread).spare }
+    requires above { All (λ entry. entry.event < suc next.number) (accesses_at indexes.old.items next.event.now.thread) }
+    ensures entries { (u : ℕ) → accesses_at indexes.new.items u ≡ (if belongs && (u == next.entry.event.now.thread) then record { event = suc next.entry.number; position = position_of next.entry.event.now } ∷ accesses_at indexes.old.items u else accesses_at indexes.old.items u) }
     ensures spare { (u : ℕ) → (index_at indexes.old.items u).spare ≤ (index_at indexes.new.items u).spare + 1 }
     ensures len { length indexes.new.items ≡ length indexes.old.items }
 {
     if belongs {
-        indexes::push(indexes, thread as usize, number + 1, position);
+        let thread = next.event.thread as usize;
+        indexes::push(indexes, thread, next.number + 1, position_in(next.event));
     }
 }
 
@@ -184,18 +196,17 @@ fn release_position(
     clocks: &mut ClockList,
     released: &mut Vec<u32>,
     sequence: &mut Vec<u32>,
-    event: &Event,
-    given: &Option<Clock>,
+    next: NextEvent,
 )
-    requires next { is_modification event.now ≡ true → position_of event.now ≡ length released.old.items }
+    requires position { is_modification next.event.now ≡ true → position_of next.event.now ≡ length released.old.items }
     requires clocks { 2 ≤ clocks.old.spare }
     requires room { vec_len released.old < vec_capacity released.old }
-    requires there { event.now.thread < length sequence.old.items }
+    requires there { next.event.now.thread < length sequence.old.items }
     requires released { (p : ℕ) → slice_index released.old.items p ≤ length clocks.old.ends }
     requires sequence { (t : ℕ) → slice_index sequence.old.items t ≤ length clocks.old.ends }
-    ensures released { (p u : ℕ) → kept_at clocks.new (slice_index released.new.items p) u ≡ (if is_modification event.now && (position_of event.now == p) then max (known_by given.now u) (if is_update event.now then kept_at clocks.old (slice_index released.old.items (p - 1)) u else if continues rule event.now event.now.thread then kept_at clocks.old (slice_index sequence.old.items event.now.thread) u else 0) else kept_at clocks.old (slice_index released.old.items p) u) }
-    ensures sequence { (t u : ℕ) → kept_at clocks.new (slice_index sequence.new.items t) u ≡ (if is_modification event.now then max (if t == event.now.thread then known_by given.now u else 0) (if continues rule event.now t then kept_at clocks.old (slice_index sequence.old.items t) u else 0) else kept_at clocks.old (slice_index sequence.old.items t) u) }
-    ensures positions { length released.new.items ≡ (if is_modification event.now then length released.old.items + 1 else length released.old.items) }
+    ensures released { (p u : ℕ) → kept_at clocks.new (slice_index released.new.items p) u ≡ (if is_modification next.entry.event.now && (position_of next.entry.event.now == p) then max (known_by next.entry.given.now u) (if is_update next.entry.event.now then kept_at clocks.old (slice_index released.old.items (p - 1)) u else if continues rule next.entry.event.now next.entry.event.now.thread then kept_at clocks.old (slice_index sequence.old.items next.entry.event.now.thread) u else 0) else kept_at clocks.old (slice_index released.old.items p) u) }
+    ensures sequence { (t u : ℕ) → kept_at clocks.new (slice_index sequence.new.items t) u ≡ (if is_modification next.entry.event.now then max (if t == next.entry.event.now.thread then known_by next.entry.given.now u else 0) (if continues rule next.entry.event.now t then kept_at clocks.old (slice_index sequence.old.items t) u else 0) else kept_at clocks.old (slice_index sequence.old.items t) u) }
+    ensures positions { length released.new.items ≡ (if is_modification next.entry.event.now then length released.old.items + 1 else length released.old.items) }
     ensures named { (p : ℕ) → slice_index released.new.items p ≤ length clocks.new.ends }
     ensures named_sequence { (t : ℕ) → slice_index sequence.new.items t ≤ length clocks.new.ends }
     ensures grown { Grown clocks.old clocks.new }
@@ -204,9 +215,10 @@ fn release_position(
     ensures room { vec_len released.new ≤ vec_len released.old + 1 }
     ensures capacity { vec_capacity released.old ≤ vec_capacity released.new }
 {
+    let event = next.event;
     if modification(event) {
-        let own = own_sequence(rule, clocks, sequence, event, given);
-        let number = released_by(clocks, released, event, given, own);
+        let own = own_sequence(rule, clocks, sequence, event, next.given);
+        let number = released_by(clocks, released, event, next.given, own);
         released.push_reserved(number);
         go_on(sequence, event, own);
     }
@@ -270,65 +282,30 @@ impl CellViews {
         indexes::reserve(&mut self.seq_cst, alloc, thread, count)
     }
 
-    /// Adds an access of the cell with its number, which may give a clock to the sequences that it heads.
-    pub fn add(
-        &mut self,
-        rule: Rule,
-        clocks: &mut ClockList,
-        event: &Event,
-        number: u32,
-        given: &Option<Clock>,
-    )
-        requires number { number < 4294967295 }
-        requires room { CellRoom 1 event.now.thread self.old }
-        requires below { CellBelow (suc number) event.now.thread self.old }
-        requires next { is_modification event.now ≡ true → position_of event.now ≡ length self.old.released.items }
+    /// Adds an access of the cell.
+    pub fn add(&mut self, rule: Rule, clocks: &mut ClockList, next: NextEvent)
+        requires number { next.number < 4294967295 }
+        requires room { CellRoom 1 next.event.now.thread self.old }
+        requires below { CellBelow (suc next.number) next.event.now.thread self.old }
+        requires position { is_modification next.event.now ≡ true → position_of next.event.now ≡ length self.old.released.items }
         requires clocks { 2 ≤ clocks.old.spare }
         requires named { Named clocks.old self.old }
         requires few { length self.old.history.values < 4294967295 }
-        ensures added { CellAdded rule clocks.old clocks.new self.old self.new number event.now given.now }
+        ensures added { CellAdded rule clocks.old clocks.new self.old self.new next.entry.number next.entry.event.now next.entry.given.now }
         ensures clocks { clocks.old.spare ≤ clocks.new.spare + 2 }
-        ensures room { (count : ℕ) → CellRoom (count + 1) event.now.thread self.old → CellRoom count event.now.thread self.new }
+        ensures room { (count : ℕ) → CellRoom (count + 1) next.entry.event.now.thread self.old → CellRoom count next.entry.event.now.thread self.new }
     {
-        let thread = event.thread;
-        let position = position_in(event);
+        let event = next.event;
         make_position(&mut self.history, event);
-        release_position(
-            rule,
-            clocks,
-            &mut self.released,
-            &mut self.sequence,
-            event,
-            given,
-        );
-        index_if(&mut self.all, true, thread, number, position);
-        index_if(
-            &mut self.modifications,
-            modification(event),
-            thread,
-            number,
-            position,
-        );
-        index_if(
-            &mut self.not_atomic,
-            not_atomic(event),
-            thread,
-            number,
-            position,
-        );
+        release_position(rule, clocks, &mut self.released, &mut self.sequence, next);
+        index_if(&mut self.all, true, next);
+        index_if(&mut self.modifications, modification(event), next);
+        index_if(&mut self.not_atomic, not_atomic(event), next);
         index_if(
             &mut self.not_atomic_modifications,
             not_atomic_modification(event),
-            thread,
-            number,
-            position,
+            next,
         );
-        index_if(
-            &mut self.seq_cst,
-            with_seq_cst(event),
-            thread,
-            number,
-            position,
-        );
+        index_if(&mut self.seq_cst, with_seq_cst(event), next);
     }
 }

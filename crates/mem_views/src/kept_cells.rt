@@ -16,12 +16,12 @@ ghost use Rattle.mem_views.specs.Roominess.{CellFits};
 ghost use Rattle.mem_views.specs.Holding.{CellsHold};
 ghost use Rattle.mem_views.specs.declared.cell.CellViews.{CellViews};
 
-use crate::cell::CellViews;
+use crate::cell::{CellViews, NextEvent};
 use crate::places::Places;
-use clocks::{Clock, ClockList};
+use clocks::ClockList;
 use heap_cells::CellId;
+use mem_axioms::Rule;
 use mem_axioms::event_facts::cell_of;
-use mem_axioms::{Event, Rule};
 use std::alloc::{AllocError, Global};
 
 /// Adds an access to what is kept at a place.
@@ -30,22 +30,20 @@ fn add_at(
     place: usize,
     rule: Rule,
     clocks: &mut ClockList,
-    event: &Event,
-    number: u32,
-    given: &Option<Clock>,
+    next: NextEvent,
 )
-    requires number { number < 4294967295 }
+    requires number { next.number < 4294967295 }
     requires clocks { 2 ≤ clocks.old.spare }
     requires named { (d : CellViews) → Named clocks.old (slice_index_or kept.old.items place d) }
     requires there { place < length kept.old.items }
-    requires room { (d : CellViews) → CellRoom 1 event.now.thread (slice_index_or kept.old.items place d) }
-    requires below { (d : CellViews) → CellBelow (suc number) event.now.thread (slice_index_or kept.old.items place d) }
-    requires next { (d : CellViews) → is_modification event.now ≡ true → position_of event.now ≡ length (slice_index_or kept.old.items place d).released.items }
+    requires room { (d : CellViews) → CellRoom 1 next.event.now.thread (slice_index_or kept.old.items place d) }
+    requires below { (d : CellViews) → CellBelow (suc next.number) next.event.now.thread (slice_index_or kept.old.items place d) }
+    requires position { (d : CellViews) → is_modification next.event.now ≡ true → position_of next.event.now ≡ length (slice_index_or kept.old.items place d).released.items }
     requires few { (d : CellViews) → length (slice_index_or kept.old.items place d).history.values < 4294967295 }
-    ensures added { AddedAt rule clocks.old clocks.new kept.old.items kept.new.items place number event.now given.now }
+    ensures added { AddedAt rule clocks.old clocks.new kept.old.items kept.new.items place next.entry.number next.entry.event.now next.entry.given.now }
     ensures clocks { clocks.old.spare ≤ clocks.new.spare + 2 }
 {
-    kept[place].add(rule, clocks, event, number, given);
+    kept[place].add(rule, clocks, next);
 }
 
 /// Adds an event to what is kept of the cell that it accesses.
@@ -54,22 +52,20 @@ pub fn add_access(
     clocks: &mut ClockList,
     places: &Places,
     kept: &mut Vec<CellViews>,
-    event: &Event,
-    number: u32,
-    given: &Option<Clock>,
+    next: NextEvent,
 )
-    requires number { number < 4294967295 }
+    requires number { next.number < 4294967295 }
     requires clocks { 2 ≤ clocks.old.spare }
-    requires can { (cell : CellId) → accesses cell event.now ≡ true → CanAdd number event.now clocks.old places.now.objects.items kept.old.items cell }
-    ensures holds { (log : List Event) → number ≡ length log → ((u : ℕ) → known_by given.now u ≡ gives (views rule log) number event.now u) → CellsHold rule log clocks.old places.now.objects.items kept.old.items → CellsHold rule (event.now ∷ log) clocks.new places.now.objects.items kept.new.items }
+    requires can { (cell : CellId) → accesses cell next.event.now ≡ true → CanAdd next.number next.event.now clocks.old places.now.objects.items kept.old.items cell }
+    ensures holds { (log : List Event) → next.entry.number ≡ length log → ((u : ℕ) → known_by next.entry.given.now u ≡ gives (views rule log) next.entry.number next.entry.event.now u) → CellsHold rule log clocks.old places.now.objects.items kept.old.items → CellsHold rule (next.entry.event.now ∷ log) clocks.new places.now.objects.items kept.new.items }
     ensures clocks { clocks.old.spare ≤ clocks.new.spare + 2 }
-    ensures room { (count : ℕ) (cell : CellId) → accesses cell event.now ≡ true → CellRoomAt (count + 1) event.now.thread places.now.objects.items kept.old.items cell → CellRoomAt count event.now.thread places.now.objects.items kept.new.items cell }
-    ensures same { ((cell : CellId) → accesses cell event.now ≡ false) → kept.new.items ≡ kept.old.items }
+    ensures room { (count : ℕ) (cell : CellId) → accesses cell next.entry.event.now ≡ true → CellRoomAt (count + 1) next.entry.event.now.thread places.now.objects.items kept.old.items cell → CellRoomAt count next.entry.event.now.thread places.now.objects.items kept.new.items cell }
+    ensures same { ((cell : CellId) → accesses cell next.entry.event.now ≡ false) → kept.new.items ≡ kept.old.items }
     ensures len { length kept.new.items ≡ length kept.old.items }
 {
-    if let Some(cell) = cell_of(event) {
+    if let Some(cell) = cell_of(next.event) {
         if let Some(place) = places.find(cell) {
-            add_at(kept, place, rule, clocks, event, number, given);
+            add_at(kept, place, rule, clocks, next);
         }
     }
 }

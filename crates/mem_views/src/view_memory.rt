@@ -23,7 +23,7 @@ ghost use Rattle.mem_views.specs.Answers.{IsKnown};
 ghost use Rattle.mem_views.specs.Bounds.{search_bound, values_bound};
 ghost use Rattle.mem_views.specs.Differing.{differs_from, floor_bound, count_bound, looks_bound};
 
-use crate::cell::CellViews;
+use crate::cell::{CellViews, NextEvent};
 use crate::floors::{fences_before, found_floor, greatest_of_kinds, last_fence};
 use crate::gains::{gain, given_by, taken_from};
 use crate::kept_cells;
@@ -74,6 +74,30 @@ pub struct ViewMemory {
     ghost rows_fit: { RowsRoom room.events rows },
     ghost clocks_fit: { room.events + room.events ≤ clocks.spare },
     ghost cell_fits: { CellFits room places.objects.items kept.items },
+}
+
+/// A read of a cell: a load, or a comparison that fails.
+#[derive(Clone, Copy)]
+struct Read {
+    /// The thread that reads.
+    thread: u32,
+    /// The cell that it reads.
+    cell: CellId,
+    /// The order of the read.
+    order: Order,
+    /// The value that may not be read, if there is one.
+    excluded: Option<Scalar>,
+}
+
+/// The positions of a cell from a floor on that have another value.
+#[derive(Clone, Copy)]
+struct OtherValues {
+    /// The cell.
+    cell: CellId,
+    /// The floor.
+    floor: u32,
+    /// The value that they do not have.
+    scalar: Scalar,
 }
 
 /// Adds the thread that the event makes, if it makes one.
@@ -216,9 +240,11 @@ impl ViewMemory {
             &mut self.clocks,
             &self.places,
             &mut self.kept,
-            &event,
-            self.next,
-            &given,
+            NextEvent {
+                event: &event,
+                number: self.next,
+                given: &given,
+            },
         );
         add_thread(&mut self.made, &event);
         self.tape.push(event);
@@ -315,40 +341,23 @@ impl ViewMemory {
     }
 
     /// Whether the position is from the floor on and has another value.
-    fn differs<L: Ledger>(
-        &self,
-        cell: CellId,
-        floor: u32,
-        scalar: Scalar,
-        position: u32,
-        steps: &mut Steps<L>,
-    ) -> bool
-        requires cell { HasCell self.now.objects.values cell }
-        requires position { position ≤ newest self.now.tape.events cell }
-        ensures differs { result ≡ differs_from (initial_of self.now.objects.values) self.now.tape.events cell floor scalar position }
+    fn differs<L: Ledger>(&self, others: OtherValues, position: u32, steps: &mut Steps<L>) -> bool
+        requires cell { HasCell self.now.objects.values others.cell }
+        requires position { position ≤ newest self.now.tape.events others.cell }
+        ensures differs { result ≡ differs_from (initial_of self.now.objects.values) self.now.tape.events others.cell others.floor others.scalar position }
         ensures cost { steps.new ≤ steps.old + 1 }
     {
-        floor <= position && !self.holds(cell, scalar, position, steps)
+        others.floor <= position && !self.holds(others.cell, others.scalar, position, steps)
     }
 
     /// Position 0, if it is from the floor on and has another value: 1 or 0 positions.
-    fn count_initial<L: Ledger>(
-        &self,
-        cell: CellId,
-        floor: u32,
-        scalar: Scalar,
-        steps: &mut Steps<L>,
-    ) -> u32
-        requires { HasCell self.now.objects.values cell }
-        ensures count { result ≡ length (below (differs_from (initial_of self.now.objects.values) self.now.tape.events cell floor scalar) 1) }
+    fn count_initial<L: Ledger>(&self, others: OtherValues, steps: &mut Steps<L>) -> u32
+        requires { HasCell self.now.objects.values others.cell }
+        ensures count { result ≡ length (below (differs_from (initial_of self.now.objects.values) self.now.tape.events others.cell others.floor others.scalar) 1) }
         ensures at_most { result ≤ 1 }
         ensures cost { steps.new ≤ steps.old + 1 }
     {
-        if self.differs(cell, floor, scalar, 0, steps) {
-            1
-        } else {
-            0
-        }
+        if self.differs(others, 0, steps) { 1 } else { 0 }
     }
 
     /// How many of the later positions, from one up to another, that one not among them, have another value.
@@ -374,53 +383,45 @@ impl ViewMemory {
     }
 
     /// How many positions below one, from the floor on, have another value.
-    fn count_differing<L: Ledger>(
-        &self,
-        cell: CellId,
-        floor: u32,
-        end: u32,
-        scalar: Scalar,
-        steps: &mut Steps<L>,
-    ) -> u32
-        requires cell { HasCell self.now.objects.values cell }
-        requires floor { floor ≤ end }
+    fn count_differing<L: Ledger>(&self, others: OtherValues, end: u32, steps: &mut Steps<L>) -> u32
+        requires cell { HasCell self.now.objects.values others.cell }
+        requires floor { others.floor ≤ end }
         requires some { 0 < end }
-        requires end { end ≤ newest self.now.tape.events cell + 1 }
-        ensures count { result ≡ length (below (differs_from (initial_of self.now.objects.values) self.now.tape.events cell floor scalar) end) }
+        requires end { end ≤ newest self.now.tape.events others.cell + 1 }
+        ensures count { result ≡ length (below (differs_from (initial_of self.now.objects.values) self.now.tape.events others.cell others.floor others.scalar) end) }
         ensures at_most { result ≤ end }
         ensures cost { (d : ℕ) → length self.now.tape.events < 2 ^ d → steps.new ≤ steps.old + count_bound d }
     {
-        let initial = self.count_initial(cell, floor, scalar, steps);
-        initial + self.count_later(cell, greater(floor, 1), end, scalar, steps)
+        let initial = self.count_initial(others, steps);
+        let from = greater(others.floor, 1);
+        initial + self.count_later(others.cell, from, end, others.scalar, steps)
     }
 
     /// The n-th position from the floor on that has another value, from the newest down. Below it are those that are older, and
     /// below the next one more, so it is searched by halves.
     fn nth_differing<L: Ledger>(
         &self,
-        cell: CellId,
-        floor: u32,
+        others: OtherValues,
         last: u32,
-        scalar: Scalar,
         n: u32,
         steps: &mut Steps<L>,
     ) -> u32
-        requires cell { HasCell self.now.objects.values cell }
-        requires last { last ≡ newest self.now.tape.events cell }
-        requires floor { floor ≤ last }
+        requires cell { HasCell self.now.objects.values others.cell }
+        requires last { last ≡ newest self.now.tape.events others.cell }
+        requires floor { others.floor ≤ last }
         requires few { last + 1 < 4294967295 }
-        requires n { n < length (below (differs_from (initial_of self.now.objects.values) self.now.tape.events cell floor scalar) (last + 1)) }
-        ensures nth { slice_get (below (differs_from (initial_of self.now.objects.values) self.now.tape.events cell floor scalar) (last + 1)) n ≡ Some result }
+        requires n { n < length (below (differs_from (initial_of self.now.objects.values) self.now.tape.events others.cell others.floor others.scalar) (last + 1)) }
+        ensures nth { slice_get (below (differs_from (initial_of self.now.objects.values) self.now.tape.events others.cell others.floor others.scalar) (last + 1)) n ≡ Some result }
         ensures at_most { result ≤ last }
         ensures cost { (d : ℕ) → length self.now.tape.events < 2 ^ d → steps.new ≤ steps.old + (d + 1) * count_bound d }
     {
-        let all = self.count_differing(cell, floor, last + 1, scalar, steps);
+        let all = self.count_differing(others, last + 1, steps);
         let older = all - (n + 1);
-        let mut low = floor;
+        let mut low = others.floor;
         let mut high = last + 1;
         while low + 1 < high {
             let middle = low + (high - low) / 2;
-            let fewer = self.count_differing(cell, floor, middle, scalar, steps);
+            let fewer = self.count_differing(others, middle, steps);
             if fewer <= older {
                 low = middle;
             } else {
@@ -431,51 +432,50 @@ impl ViewMemory {
     }
 
     /// How many positions may be read.
-    fn count_reads<L: Ledger>(
-        &self,
-        thread: u32,
-        cell: CellId,
-        order: Order,
-        excluded: Option<Scalar>,
-        steps: &mut Steps<L>,
-    ) -> u32
-        requires cell { HasCell self.now.objects.values cell }
+    fn count_reads<L: Ledger>(&self, read: Read, steps: &mut Steps<L>) -> u32
+        requires cell { HasCell self.now.objects.values read.cell }
         requires count { length self.now.tape.events + 1 < 4294967295 }
-        ensures count { result ≡ length (reads self.now.rule (initial_of self.now.objects.values) self.now.tape.events thread cell order excluded) }
+        ensures count { result ≡ length (reads self.now.rule (initial_of self.now.objects.values) self.now.tape.events read.thread read.cell read.order read.excluded) }
         ensures at_most { result ≤ length self.now.tape.events + 1 }
-        ensures cost { (d : ℕ) → length self.now.tape.events < 2 ^ d → steps.new ≤ steps.old + (floor_bound self.now.tape.events d + looks_bound d excluded) }
+        ensures cost { (d : ℕ) → length self.now.tape.events < 2 ^ d → steps.new ≤ steps.old + (floor_bound self.now.tape.events d + looks_bound d read.excluded) }
     {
-        let floor = self.floor(thread, cell, order, steps);
+        let cell = read.cell;
+        let floor = self.floor(read.thread, cell, read.order, steps);
         let newest = self.newest(cell);
-        match excluded {
+        match read.excluded {
             None => newest - floor + 1,
-            Some(scalar) => self.count_differing(cell, floor, newest + 1, scalar, steps),
+            Some(scalar) => {
+                let others = OtherValues {
+                    cell,
+                    floor,
+                    scalar,
+                };
+                self.count_differing(others, newest + 1, steps)
+            }
         }
     }
 
     /// The n-th of the positions that may be read, from the newest down.
-    fn nth_read<L: Ledger>(
-        &self,
-        thread: u32,
-        cell: CellId,
-        order: Order,
-        excluded: Option<Scalar>,
-        n: u32,
-        steps: &mut Steps<L>,
-    ) -> u32
-        requires cell { HasCell self.now.objects.values cell }
+    fn nth_read<L: Ledger>(&self, read: Read, n: u32, steps: &mut Steps<L>) -> u32
+        requires cell { HasCell self.now.objects.values read.cell }
         requires count { length self.now.tape.events + 1 < 4294967295 }
-        requires n { n < length (reads self.now.rule (initial_of self.now.objects.values) self.now.tape.events thread cell order excluded) }
-        ensures nth { slice_get (reads self.now.rule (initial_of self.now.objects.values) self.now.tape.events thread cell order excluded) n ≡ Some result }
-        ensures at_most { result ≤ newest self.now.tape.events cell }
-        ensures cost { (d : ℕ) → length self.now.tape.events < 2 ^ d → steps.new ≤ steps.old + (floor_bound self.now.tape.events d + looks_bound d excluded) }
+        requires n { n < length (reads self.now.rule (initial_of self.now.objects.values) self.now.tape.events read.thread read.cell read.order read.excluded) }
+        ensures nth { slice_get (reads self.now.rule (initial_of self.now.objects.values) self.now.tape.events read.thread read.cell read.order read.excluded) n ≡ Some result }
+        ensures at_most { result ≤ newest self.now.tape.events read.cell }
+        ensures cost { (d : ℕ) → length self.now.tape.events < 2 ^ d → steps.new ≤ steps.old + (floor_bound self.now.tape.events d + looks_bound d read.excluded) }
     {
+        let cell = read.cell;
         let newest = self.newest(cell);
-        match excluded {
+        match read.excluded {
             None => newest - n,
             Some(scalar) => {
-                let floor = self.floor(thread, cell, order, steps);
-                self.nth_differing(cell, floor, newest, scalar, n, steps)
+                let floor = self.floor(read.thread, cell, read.order, steps);
+                let others = OtherValues {
+                    cell,
+                    floor,
+                    scalar,
+                };
+                self.nth_differing(others, newest, n, steps)
             }
         }
     }
@@ -501,23 +501,15 @@ impl ViewMemory {
     }
 
     /// The n-th of the positions that may be read, as an option that changes nothing.
-    fn read_chosen<L: Ledger>(
-        &self,
-        thread: u32,
-        cell: CellId,
-        order: Order,
-        excluded: Option<Scalar>,
-        n: u32,
-        steps: &mut Steps<L>,
-    ) -> Chosen
-        requires cell { HasCell self.now.objects.values cell }
+    fn read_chosen<L: Ledger>(&self, read: Read, n: u32, steps: &mut Steps<L>) -> Chosen
+        requires cell { HasCell self.now.objects.values read.cell }
         requires count { length self.now.tape.events + 1 < 4294967295 }
-        requires n { n < length (reads self.now.rule (initial_of self.now.objects.values) self.now.tape.events thread cell order excluded) }
-        ensures chosen { slice_get (map (chosen_at (initial_of self.now.objects.values) self.now.tape.events cell false) (reads self.now.rule (initial_of self.now.objects.values) self.now.tape.events thread cell order excluded)) n ≡ Some result }
-        ensures cost { (d : ℕ) → length self.now.tape.events < 2 ^ d → steps.new ≤ steps.old + (floor_bound self.now.tape.events d + looks_bound d excluded + 1) }
+        requires n { n < length (reads self.now.rule (initial_of self.now.objects.values) self.now.tape.events read.thread read.cell read.order read.excluded) }
+        ensures chosen { slice_get (map (chosen_at (initial_of self.now.objects.values) self.now.tape.events read.cell false) (reads self.now.rule (initial_of self.now.objects.values) self.now.tape.events read.thread read.cell read.order read.excluded)) n ≡ Some result }
+        ensures cost { (d : ℕ) → length self.now.tape.events < 2 ^ d → steps.new ≤ steps.old + (floor_bound self.now.tape.events d + looks_bound d read.excluded + 1) }
     {
-        let position = self.nth_read(thread, cell, order, excluded, n, steps);
-        self.chosen(cell, false, position, steps)
+        let position = self.nth_read(read, n, steps);
+        self.chosen(read.cell, false, position, steps)
     }
 
     /// The newest position, as an option that updates the cell.
@@ -607,7 +599,15 @@ impl Memory for ViewMemory {
         ensures cost { (d : ℕ) → length self.now.tape.events < 2 ^ d → steps.new ≤ steps.old + (search_bound self.now.tape.events d + values_bound d wanted.now) }
     {
         match *wanted {
-            Wanted::Load { order } => self.count_reads(thread, cell, order, None, steps),
+            Wanted::Load { order } => {
+                let read = Read {
+                    thread,
+                    cell,
+                    order,
+                    excluded: None,
+                };
+                self.count_reads(read, steps)
+            }
             Wanted::Swap => 1,
             Wanted::Compare {
                 failure,
@@ -615,13 +615,13 @@ impl Memory for ViewMemory {
                 weak,
                 ..
             } => {
-                let failures = self.count_reads(
+                let read = Read {
                     thread,
                     cell,
-                    failure,
-                    excluded(weak, expected),
-                    steps,
-                );
+                    order: failure,
+                    excluded: excluded(weak, expected),
+                };
+                let failures = self.count_reads(read, steps);
                 if self.may_succeed(cell, expected, steps) {
                     return failures + 1;
                 }
@@ -646,7 +646,15 @@ impl Memory for ViewMemory {
         ensures cost { (d : ℕ) → length self.now.tape.events < 2 ^ d → steps.new ≤ steps.old + (search_bound self.now.tape.events d + values_bound d wanted.now) }
     {
         match *wanted {
-            Wanted::Load { order } => self.read_chosen(thread, cell, order, None, n, steps),
+            Wanted::Load { order } => {
+                let read = Read {
+                    thread,
+                    cell,
+                    order,
+                    excluded: None,
+                };
+                self.read_chosen(read, n, steps)
+            }
             Wanted::Swap => self.update_chosen(cell, steps),
             Wanted::Compare {
                 failure,
@@ -654,27 +662,19 @@ impl Memory for ViewMemory {
                 weak,
                 ..
             } => {
+                let read = Read {
+                    thread,
+                    cell,
+                    order: failure,
+                    excluded: excluded(weak, expected),
+                };
                 if !self.may_succeed(cell, expected, steps) {
-                    return self.read_chosen(
-                        thread,
-                        cell,
-                        failure,
-                        excluded(weak, expected),
-                        n,
-                        steps,
-                    );
+                    return self.read_chosen(read, n, steps);
                 }
                 if n == 0 {
                     return self.update_chosen(cell, steps);
                 }
-                self.read_chosen(
-                    thread,
-                    cell,
-                    failure,
-                    excluded(weak, expected),
-                    n - 1,
-                    steps,
-                )
+                self.read_chosen(read, n - 1, steps)
             }
         }
     }

@@ -1,6 +1,7 @@
 -- Operands, lists of arguments and destinations that meet their demands have the same values by name and by number.
 use Rattle.std.proofs.Common.{◌≡◌, ℕ, true, List, [], ◌∷◌, Option, Some, None, map, length, slice_get, is_some, option_map, refl, sym, ◌∙◌, ap, ap₂, arith}
-use Rattle.demands.specs.Demands.{AllMet}
+use Rattle.std.specs.Option.{option_map_or}
+use Rattle.demands.specs.Demands.{AllMet, none}
 use Rattle.demands.specs.Names.{found}
 use Rattle.ir_lex.specs.declared.name.Name.{Name}
 use Rattle.ir_tree.specs.declared.operands.Operand.{Operand}
@@ -23,7 +24,7 @@ use Rattle.code_check.specs.declared.code.Source.{Source}
 use Rattle.code_check.specs.declared.code.Source.TheVariants as sources
 use Rattle.code_check.specs.declared.scopes.Body.{Body}
 use Rattle.code_check.specs.Operands.{is_there, variable_class, operand_class, operand_demands, int64_demands, of_type, is_class, member_demands, argument_demands, variable_demands, noted_list, variable_number, global_source, source_of, sources_of, numbers_in}
-use Rattle.code_check.specs.Destinations.{entry_takes, block_number, exceptional_demands, normal_demands, optional_normal_demands, optional_exceptional_demands, target_of, optional_target, keepalive_demands, keepalive_numbers, entered_demands, entered_code}
+use Rattle.code_check.specs.Destinations.{entry_takes, block_number, exceptional_demands, normal_demands, target_of, optional_target, keepalive_numbers, entered_demands, entered_code}
 use Rattle.code_check.specs.Destinations.{block_named as entry_named}
 use Rattle.code_check.specs.Stacks.{threadlocal_demands, optional_source}
 use Rattle.ir_tree.specs.declared.flow.Case.{Case}
@@ -176,12 +177,12 @@ pub normal_same : (s : Scope) (ls : Locals) (vars : List Value) → ScopeFits s 
     goal_named s vars d ≡ goal_at s.bundle vars (target_of (tables_in s) (body s) ls d)
 normal_same s ls vars fits d m = goal_same s ls vars fits d m.1
 
-pub optional_goal_same : (s : Scope) (ls : Locals) (vars : List Value) → ScopeFits s ls → (d : Option Destination) → AllMet (optional_exceptional_demands (tables_in s) (body s) ls d) →
+pub optional_goal_same : (s : Scope) (ls : Locals) (vars : List Value) → ScopeFits s ls → (d : Option Destination) → AllMet (option_map_or (exceptional_demands (tables_in s) (body s) ls) d none) →
     optional_goal s vars d ≡ optional_goal_at s.bundle vars (optional_target (tables_in s) (body s) ls d)
 optional_goal_same s ls vars fits None m = refl
 optional_goal_same s ls vars fits (Some d) m = ap some_goal (goal_same s ls vars fits d m)
 
-pub optional_normal_same : (s : Scope) (ls : Locals) (vars : List Value) → ScopeFits s ls → (d : Option Destination) → AllMet (optional_normal_demands (tables_in s) (body s) ls d) →
+pub optional_normal_same : (s : Scope) (ls : Locals) (vars : List Value) → ScopeFits s ls → (d : Option Destination) → AllMet (option_map_or (normal_demands (tables_in s) (body s) ls) d none) →
     optional_goal s vars d ≡ optional_goal_at s.bundle vars (optional_target (tables_in s) (body s) ls d)
 optional_normal_same s ls vars fits None m = refl
 optional_normal_same s ls vars fits (Some d) m = ap some_goal (normal_same s ls vars fits d m)
@@ -200,7 +201,7 @@ kept_classes_same s ls fits [] m = refl
 kept_classes_same s ls fits (n ∷ ns) m =
     ap₂ (λ x xs. x ∷ xs) (kept_class_same s ls n (found ls.names n.text) fits refl m.0) (kept_classes_same s ls fits ns m.1)
 
-pub kept_same : (s : Scope) (ls : Locals) (vars : List Value) → ScopeFits s ls → (ns : Option (List Name)) → AllMet (keepalive_demands ls ns) →
+pub kept_same : (s : Scope) (ls : Locals) (vars : List Value) → ScopeFits s ls → (ns : Option (List Name)) → AllMet (option_map_or (variable_demands ls) ns none) →
     kept_named s vars ns ≡ kept_at (variable_classes s) vars (keepalive_numbers ls ns)
 kept_same s ls vars fits None m = refl
 kept_same s ls vars fits (Some ns) m =

@@ -29,6 +29,7 @@ use mu_step::Machine;
 use mu_texts::{Ready, Start, Telling, let_bundle_go, let_code_go};
 use run_print::{ending_status, ending_text, lines_text};
 use std::alloc::{AllocError, Global};
+use thread_acts::RunInputs;
 
 // Puts a text in one piece; a put that fails gives the status that goes with it.
 fn put<S: Sink>(out: &mut S, text: &[u8]) -> Result<(), Status>
@@ -205,16 +206,14 @@ fn begin(
     ensures first { IfOk result (λ m. first_configuration (named code.now) start.setting start.entry ≡ Some m.configuration) }
 {
     let memory = ViewMemory::new(alloc, start.rule);
-    Machine::new(
-        alloc,
-        code,
-        start.entry,
-        start.heap,
+    let inputs = RunInputs {
+        heap: start.heap,
         memory,
-        start.client,
-        start.picks,
-        start.budget,
-    )
+        client: start.client,
+        picks: start.picks,
+        budget: start.budget,
+    };
+    Machine::new(alloc, code, start.entry, inputs)
 }
 
 // Makes the steps of a run up to its ending, which comes within so many, and writes what is to be told of it.

@@ -23,6 +23,7 @@ use mem_axioms::Memory;
 use mu_model::StepEnd;
 use std::alloc::AllocError;
 use step_forms::{Act, Room, Variables, decide, forms_are_there};
+use thread_acts::futexes::CellWait;
 use thread_acts::making::Making;
 use thread_acts::state::State;
 
@@ -115,7 +116,14 @@ fn perform_rare<M: Memory, C: Determined>(
             timed,
             expected,
             cell,
-        } => state.wait(code, timed, expected, cell, values, out),
+        } => {
+            let wait = CellWait {
+                timed,
+                expected,
+                cell,
+            };
+            state.wait(code, wait, values, out)
+        }
         Act::Wakes { many, cell } => wake(state, code, many, cell, values, out),
         Act::MakesStack { function } => { state.make_stack(code, function, values, out) }
         Act::KillsStack { stack } => { state.kill_stack(code, stack, values, out) }

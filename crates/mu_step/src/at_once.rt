@@ -16,7 +16,7 @@ use crate::step::{Lists, pick_thread, settle};
 use bundle_check::Checked;
 use client_hooks::Determined;
 use mem_axioms::Memory;
-use step_forms::{AtOnce, CaseRows, Room, Variables, decide_at_once};
+use step_forms::{AtOnce, CaseRows, FrameView, Room, Variables, decide_at_once};
 use thread_acts::state::State;
 
 /// What the thread's next instruction asks, where that is decided at once, with values and classes in the room.
@@ -36,16 +36,14 @@ fn asks_at_once<M: Memory, C: Determined>(
     let top = state.frames.top();
     let block = code.block(top.block);
     let form = &block.code.as_slice()[top.at as usize].form;
-    decide_at_once(
-        code,
-        rows,
-        top.block,
-        top.at,
-        block.classes.as_slice(),
-        &Variables::of(&top.slots),
-        form,
-        room,
-    )
+    let vars = Variables::of(&top.slots);
+    let view = FrameView {
+        block: top.block,
+        at: top.at,
+        types: block.classes.as_slice(),
+        vars: &vars,
+    };
+    decide_at_once(code, rows, view, form, room)
 }
 
 /// The thread does its next instruction at once, or nothing changes.

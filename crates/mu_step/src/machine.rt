@@ -16,12 +16,11 @@ use client_hooks::Determined;
 use mem_axioms::Memory;
 use model_numbers::programs_are_same;
 use mu_model::{Ending, Lines, StepEnd};
-use mu_threads::Schedule;
 use std::alloc::{AllocError, Global};
 use std::marker::Model;
 use step_forms::CaseRows;
+use thread_acts::RunInputs;
 use thread_acts::state::State;
-use typed_heap::Heap;
 
 /// A machine that runs checked code, over any memory and any client whose answers are a function of what it is shown. Contracts see the
 /// bundle, the configuration that its run has come to, and whether the run's ending was told.
@@ -55,23 +54,20 @@ impl<'a, M: Memory + Drop, C: Determined + Drop> Machine<'a, M, C> {
         alloc: Global,
         code: &'a Checked,
         entry: u32,
-        heap: Heap,
-        memory: M,
-        client: C,
-        picks: Schedule,
-        budget: u32,
+        inputs: RunInputs<M, C>,
     ) -> Result<Machine<'a, M, C>, AllocError>
-        requires log { M.log memory ≡ [] }
-        requires objects { M.objects memory ≡ [] }
-        requires budget { budget ≤ 1000000 }
+        requires log { M.log inputs.memory ≡ [] }
+        requires objects { M.objects inputs.memory ≡ [] }
+        requires budget { inputs.budget ≤ 1000000 }
         requires body { IsSomeAnd ((named code.now).body entry) IsSome }
         ensures bundle { IfOk result (λ m. m.bundle ≡ code.now) }
         ensures fresh { IfOk result (λ m. m.ended ≡ false) }
-        ensures first { IfOk result (λ m. (cells : ℕ) → heap.left ≡ cells_left (bundle_tables code.now) cells heap.objects → first_configuration (named code.now) (record { objects = heap.objects; client = C.stands_for client; picks = picks; cells = cells; budget = budget; rule = M.rule memory }) entry ≡ Some m.configuration) }
+        ensures first { IfOk result (λ m. (cells : ℕ) → inputs.heap.left ≡ cells_left (bundle_tables code.now) cells inputs.heap.objects
+            → first_configuration (named code.now) (record { objects = inputs.heap.objects; client = C.stands_for inputs.client; picks = inputs.picks; cells = cells; budget = inputs.budget; rule = M.rule inputs.memory }) entry ≡ Some m.configuration) }
     {
         let _items = code.items();
         programs_are_same();
-        let state = State::start(alloc, code, entry, heap, memory, client, picks, budget)?;
+        let state = State::start(alloc, code, entry, inputs)?;
         Ok(Machine {
             code,
             state,

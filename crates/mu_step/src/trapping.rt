@@ -120,7 +120,6 @@ fn consult<M: Memory, C: Determined>(
     ensures same { state.new ≡ state.old }
     ensures wait { wait.new ≡ wait.old }
 {
-    let waits = copied(state.alloc, view.asked())?;
     exchange_on_top(&mut state.frames, wait);
     state
         .seats
@@ -130,9 +129,7 @@ fn consult<M: Memory, C: Determined>(
         &state.client,
         view,
         &mut state.seats,
-        state.thread,
         state.stack,
-        waits,
     );
     state
         .seats

@@ -7,6 +7,7 @@ pub mod Listings
 pub mod Held
 pub mod Keys
 pub mod Ordered
+pub mod RankedTypes
 pub mod Examples
 pub mod TypeDemands
 pub mod Rounds
@@ -15,4 +16,5 @@ pub mod Blocks
 pub mod Edges
 pub mod Leads
 pub mod Names
+pub mod Partitions
 pub mod Targets

@@ -13,6 +13,13 @@ use super::rows::{at, push_to};
 use std::alloc::AllocError;
 use type_laws::TypeDef;
 
+/// The definitions, and for each type the arguments that lead to it.
+#[derive(Clone, Copy)]
+pub struct Links<'a> {
+    pub definitions: &'a [TypeDef],
+    pub preds: &'a [Vec<Edge>],
+}
+
 #[tactic(auto, using(crate::proofs::RowLemmas::pushed_kept, crate::proofs::RowLemmas::pushed_there, crate::proofs::RowLemmas::pushed_only))]
 fn gather_edge(
     definitions: &[TypeDef],
@@ -59,44 +66,42 @@ fn gather_one(
 
 /// All that lead into the block s, whose list is `row`.
 pub fn gather(
-    definitions: &[TypeDef],
-    preds: &[Vec<Edge>],
+    links: Links,
     block: &[usize],
     row: &[usize],
     s: usize,
     buckets: &mut [Vec<usize>],
     places: &mut Vec<usize>,
 ) -> Result<(), AllocError>
-    requires { IsForward definitions.now (lists preds.now) }
+    requires { IsForward links.definitions.now (lists links.preds.now) }
     ensures len { length buckets.new ≡ length buckets.old }
     ensures kept { OnOk result ((k x : ℕ) → Holds (lists buckets.old) k x → Holds (lists buckets.new) k x) }
-    ensures complete { OnOk result ((k x y : ℕ) → k < length buckets.old → Contains row.now y → slice_index block.now y ≡ s → Holds (lists preds.now) y (edge_of k x) → Holds (lists buckets.new) k x) }
-    ensures sound { OnOk result ((k x : ℕ) → Holds (lists buckets.new) k x → Holds (lists buckets.old) k x ⊎ LeadsTo definitions.now block.now s x k) }
+    ensures complete { OnOk result ((k x y : ℕ) → k < length buckets.old → Contains row.now y → slice_index block.now y ≡ s → Holds (lists links.entry.preds.now) y (edge_of k x) → Holds (lists buckets.new) k x) }
+    ensures sound { OnOk result ((k x : ℕ) → Holds (lists buckets.new) k x → Holds (lists buckets.old) k x ⊎ LeadsTo links.entry.definitions.now block.now s x k) }
 {
     for i in 0..row.len() {
         let y = row[i];
-        gather_member(definitions, preds, block, y, s, buckets, places)?;
+        gather_member(links, block, y, s, buckets, places)?;
     }
     Ok(())
 }
 
 fn gather_member(
-    definitions: &[TypeDef],
-    preds: &[Vec<Edge>],
+    links: Links,
     block: &[usize],
     y: usize,
     s: usize,
     buckets: &mut [Vec<usize>],
     places: &mut Vec<usize>,
 ) -> Result<(), AllocError>
-    requires { IsForward definitions.now (lists preds.now) }
+    requires { IsForward links.definitions.now (lists links.preds.now) }
     ensures len { length buckets.new ≡ length buckets.old }
     ensures kept { OnOk result ((k x : ℕ) → Holds (lists buckets.old) k x → Holds (lists buckets.new) k x) }
-    ensures complete { OnOk result ((k x : ℕ) → k < length buckets.old → slice_index block.now y ≡ s → Holds (lists preds.now) y (edge_of k x) → Holds (lists buckets.new) k x) }
-    ensures sound { OnOk result ((k x : ℕ) → Holds (lists buckets.new) k x → Holds (lists buckets.old) k x ⊎ LeadsTo definitions.now block.now s x k) }
+    ensures complete { OnOk result ((k x : ℕ) → k < length buckets.old → slice_index block.now y ≡ s → Holds (lists links.entry.preds.now) y (edge_of k x) → Holds (lists buckets.new) k x) }
+    ensures sound { OnOk result ((k x : ℕ) → Holds (lists buckets.new) k x → Holds (lists buckets.old) k x ⊎ LeadsTo links.entry.definitions.now block.now s x k) }
 {
-    if y < preds.len() && at(block, y) == s {
-        gather_one(definitions, &preds[y], y, buckets, places)?;
+    if y < links.preds.len() && at(block, y) == s {
+        gather_one(links.definitions, &links.preds[y], y, buckets, places)?;
     }
     Ok(())
 }

@@ -5,10 +5,9 @@ ghost use Rattle.type_laws.specs.Leaves.{leaves, leaves_by, times};
 ghost use Rattle.type_laws.specs.Same.{IsGraph};
 ghost use Rattle.type_laws.specs.Partition.{IsLeast};
 ghost use Rattle.type_laws.specs.Class.{class_of};
-ghost use Rattle.type_laws.specs.Ranks.{AreRanked};
-ghost use Rattle.mu_types.specs.Ordered.{IsOrder};
 ghost use Rattle.mu_types.specs.Rows.{lists};
-ghost use Rattle.mu_types.specs.Listings.{row_by, Lists, IsIdentity, RowsDone, DoneTo};
+ghost use Rattle.mu_types.specs.Listings.{row_by, Lists, IsIdentity, RowsDone};
+ghost use Rattle.mu_types.specs.RankedTypes.{AreRankedTypes, AreDone};
 ghost use Rattle.mu_types.specs.Held.{RowsHold};
 ghost use Rattle.mu_types.specs.Walks.{is_marked};
 
@@ -157,37 +156,41 @@ fn put_row(rows: &mut [Vec<u32>], t: usize, row: Vec<u32>)
     rows[t] = row;
 }
 
+/// Types with their classes, and with ranks that order them, so that parts come before their wholes.
+#[derive(Clone, Copy)]
+struct Ranked<'a> {
+    definitions: &'a [TypeDef],
+    /// The class of each type.
+    class: &'a [usize],
+    /// The rank of each type.
+    rank: &'a [usize],
+    /// The types by rank.
+    order: &'a [usize],
+}
+
 // lists the leaves of a type for its class, where that has none yet
 #[tactic(auto, using(crate::proofs::Ordered::class_below))]
 fn list_type(
     alloc: Global,
-    all: &[TypeDef],
-    class: &[usize],
-    rank: &[usize],
+    types: Ranked,
     t: usize,
     rows: &mut [Vec<u32>],
     done: &mut [bool],
 ) -> Result<(), AllocError>
-    requires graph { IsGraph all.now }
-    requires class { IsLeast all.now class.now }
-    requires few { length all.now < 2 ^ 32 }
-    requires ranked { AreRanked all.now rank.now }
-    requires t { t < length all.now }
-    requires rows { length rows.old ≡ length all.now }
-    requires marks { length done.old ≡ length all.now }
-    requires held { RowsDone all.now (lists rows.old) done.old }
-    requires found { DoneTo all.now class.now rank.now done.old (slice_index rank.now t) }
-    ensures rows { length rows.new ≡ length all.now }
-    ensures marks { length done.new ≡ length all.now }
-    ensures held { OnOk result (RowsDone all.now (lists rows.new) done.new) }
+    requires ranked { AreRankedTypes types.definitions.now types.class.now types.rank.now types.order.now }
+    requires t { t < length types.definitions.now }
+    requires done { AreDone types.definitions.now types.class.now types.rank.now rows.old done.old (slice_index types.rank.now t) }
+    ensures rows { length rows.new ≡ length rows.old }
+    ensures marks { length done.new ≡ length done.old }
+    ensures held { OnOk result (RowsDone types.entry.definitions.now (lists rows.new) done.new) }
     ensures kept { OnOk result ((c : ℕ) → is_marked done.old c ≡ true → is_marked done.new c ≡ true) }
-    ensures listed { OnOk result (is_marked done.new (slice_index class.now t) ≡ true) }
+    ensures listed { OnOk result (is_marked done.new (slice_index types.entry.class.now t) ≡ true) }
 {
-    let c = at(class, t);
+    let c = at(types.class, t);
     if done[c] {
         return Ok(());
     }
-    let row = listed(alloc, &all[t], c as u32, rows, class)?;
+    let row = listed(alloc, &types.definitions[t], c as u32, rows, types.class)?;
     put_row(rows, c, row);
     done[c] = true;
     Ok(())
@@ -195,57 +198,37 @@ fn list_type(
 
 fn list_at(
     alloc: Global,
-    all: &[TypeDef],
-    class: &[usize],
-    rank: &[usize],
-    order: &[usize],
+    types: Ranked,
     i: usize,
     rows: &mut [Vec<u32>],
     done: &mut [bool],
 ) -> Result<(), AllocError>
-    requires graph { IsGraph all.now }
-    requires class { IsLeast all.now class.now }
-    requires few { length all.now < 2 ^ 32 }
-    requires ranked { AreRanked all.now rank.now }
-    requires order { IsOrder (length all.now) rank.now order.now }
-    requires rows { length rows.old ≡ length all.now }
-    requires marks { length done.old ≡ length all.now }
-    requires held { RowsDone all.now (lists rows.old) done.old }
-    requires found { DoneTo all.now class.now rank.now done.old i }
-    ensures rows { length rows.new ≡ length all.now }
-    ensures marks { length done.new ≡ length all.now }
-    ensures held { OnOk result (RowsDone all.now (lists rows.new) done.new) }
-    ensures found { OnOk result (DoneTo all.now class.now rank.now done.new (i + 1)) }
+    requires ranked { AreRankedTypes types.definitions.now types.class.now types.rank.now types.order.now }
+    requires done { AreDone types.definitions.now types.class.now types.rank.now rows.old done.old i }
+    ensures { OnOk result (AreDone types.entry.definitions.now types.entry.class.now types.entry.rank.now rows.new done.new (i + 1)) }
 {
-    let t = at(order, i);
-    if t < all.len() && at(rank, t) == i {
-        list_type(alloc, all, class, rank, t, rows, done)?;
+    let t = at(types.order, i);
+    if t < types.definitions.len() && at(types.rank, t) == i {
+        list_type(alloc, types, t, rows, done)?;
     }
     Ok(())
 }
 
 fn list_all(
     alloc: Global,
-    all: &[TypeDef],
-    class: &[usize],
-    rank: &[usize],
-    order: &[usize],
+    types: Ranked,
     rows: &mut [Vec<u32>],
     done: &mut [bool],
 ) -> Result<(), AllocError>
-    requires graph { IsGraph all.now }
-    requires class { IsLeast all.now class.now }
-    requires few { length all.now < 2 ^ 32 }
-    requires ranked { AreRanked all.now rank.now }
-    requires order { IsOrder (length all.now) rank.now order.now }
-    requires rows { length rows.old ≡ length all.now }
-    requires marks { length done.old ≡ length all.now }
+    requires ranked { AreRankedTypes types.definitions.now types.class.now types.rank.now types.order.now }
+    requires rows { length rows.old ≡ length types.definitions.now }
+    requires marks { length done.old ≡ length types.definitions.now }
     requires none { (x : ℕ) → is_marked done.old x ≡ false }
-    ensures rows { length rows.new ≡ length all.now }
-    ensures held { OnOk result (RowsHold all.now class.now (lists rows.new)) }
+    ensures rows { length rows.new ≡ length rows.old }
+    ensures held { OnOk result (RowsHold types.entry.definitions.now types.entry.class.now (lists rows.new)) }
 {
-    for i in 0..all.len() {
-        list_at(alloc, all, class, rank, order, i, rows, done)?;
+    for i in 0..types.definitions.len() {
+        list_at(alloc, types, i, rows, done)?;
     }
     Ok(())
 }
@@ -276,6 +259,12 @@ pub fn listings_of(
         rows.push(Vec::new(alloc))?;
         done.push(false)?;
     }
-    list_all(alloc, all, class, rank, &order, &mut rows, &mut done)?;
+    let types = Ranked {
+        definitions: all,
+        class,
+        rank,
+        order: &order,
+    };
+    list_all(alloc, types, &mut rows, &mut done)?;
     Ok(rows)
 }

@@ -1,21 +1,20 @@
 // Refines a partition of types until each block leads, place by place, into one block. This is Hopcroft's algorithm, by which finite
-// automata are minimised: the blocks to part by wait in a worklist, and of the two parts of a block only the smaller is put there, unless the
-// block waits already. So each type is looked at a logarithmic number of times. That the blocks keep the same types together is proved;
-// sizes and the order of work decide how soon it ends, and need no proof.
+// automata are minimised: the blocks to part by wait in a worklist, and of the two parts of a block only the smaller is put there,
+// unless the block waits already. So each type is looked at a logarithmic number of times. That the blocks keep the same types together
+// is proved; sizes and the order of work decide how soon it ends, and need no proof.
 
 ghost use Rattle.std.specs.Prelude.{◌≡◌, ℕ, ◌<◌, ◌^◌, Some, [], length, slice_index, slice_index_or, vec_len, OnOk, IfOk};
-ghost use Rattle.mu_types.specs.Listings.{IsIdentity};
 ghost use Rattle.type_laws.specs.Same.{IsGraph};
 ghost use Rattle.type_laws.specs.Partition.{Keeps, arg};
 ghost use Rattle.mu_types.specs.Targets.{TargetsFit};
-ghost use Rattle.mu_types.specs.Rows.{lists, Holds};
+ghost use Rattle.mu_types.specs.Rows.{lists};
 ghost use Rattle.mu_types.specs.Blocks.{Listed};
-ghost use Rattle.mu_types.specs.Leads.{IsClosed, AreClosed, IsBackward, IsForward};
+ghost use Rattle.mu_types.specs.Leads.{IsClosed};
+ghost use Rattle.mu_types.specs.Partitions.{IsFit, AreFilled, AreLinked};
 
 use super::arguments::arity;
 use super::blocks::{empty_rows, first_blocks, identity, list_members, widest};
-use super::edges::Edge;
-use super::gather::gather;
+use super::gather::{Links, gather};
 use super::moves::move_all;
 use super::preds::predecessors;
 use super::rows::{at, clear_row, put};
@@ -25,6 +24,17 @@ use type_laws::TypeDef;
 // past that many types or places the first blocks are as good as any: the edges are kept in 32 bits
 const MOST: usize = u32::MAX as usize;
 
+/// The types in blocks.
+#[derive(Drop)]
+pub struct Partition {
+    /// The block of each type.
+    pub block: Vec<usize>,
+    /// The types of each block, and maybe some that left it.
+    pub members: Vec<Vec<usize>>,
+    /// The block that the touched types of each block move to; between two places each block's own number.
+    pub target: Vec<usize>,
+}
+
 /// What is known of the blocks, and which still have to be looked at.
 #[derive(Drop)]
 pub struct Plan {
@@ -32,13 +42,13 @@ pub struct Plan {
     pub next: usize,
     /// How many types each block has.
     pub sizes: Vec<usize>,
-    /// How many types of each block the present splitter touched; 0 between two splitters.
+    /// How many types of each block lead into the splitter by the present place; 0 between two places.
     pub hits: Vec<usize>,
     /// 1 for each block that is in `work`.
     pub waiting: Vec<usize>,
     /// The worklist: the blocks that the others are still to be parted by.
     pub work: Vec<usize>,
-    /// The blocks that the present splitter parts; empty between two splitters.
+    /// The blocks that the present place of the splitter parts; empty between two places.
     pub parents: Vec<usize>,
     /// Room for the blocks that touched types move to.
     pub goals: Vec<usize>,
@@ -139,114 +149,91 @@ fn part(
 
 fn part_row(
     definitions: &[TypeDef],
-    block: &mut [usize],
-    members: &mut [Vec<usize>],
+    partition: &mut Partition,
     buckets: &mut [Vec<usize>],
     p: usize,
-    target: &mut [usize],
     plan: &mut Plan,
 ) -> Result<(), AllocError>
     requires p { p < length buckets.old }
-    requires within { (k x : ℕ) → Holds (lists buckets.old) k x → x < length block.old }
-    requires closed { AreClosed definitions.now (lists buckets.old) }
-    requires keeps { Keeps definitions.now block.old }
-    requires listed { Listed block.old (lists members.old) }
-    requires target { TargetsFit target.old (length members.old) }
-    ensures within { OnOk result ((k x : ℕ) → Holds (lists buckets.new) k x → x < length block.new) }
-    ensures closed { OnOk result (AreClosed definitions.now (lists buckets.new)) }
-    ensures keeps { OnOk result (Keeps definitions.now block.new) }
-    ensures listed { OnOk result (Listed block.new (lists members.new)) }
-    ensures target { OnOk result (TargetsFit target.new (length members.new)) }
+    requires fit { IsFit definitions.now partition.old }
+    requires filled { AreFilled definitions.now buckets.old }
+    ensures fit { OnOk result (IsFit definitions.now partition.new) }
+    ensures filled { OnOk result (AreFilled definitions.now buckets.new) }
 {
-    part(definitions, block, members, &buckets[p], target, plan)?;
+    part(
+        definitions,
+        &mut partition.block,
+        &mut partition.members,
+        &buckets[p],
+        &mut partition.target,
+        plan,
+    )?;
     clear_row(buckets, p);
     Ok(())
 }
 
 fn drain(
     definitions: &[TypeDef],
-    block: &mut [usize],
-    members: &mut [Vec<usize>],
+    partition: &mut Partition,
     buckets: &mut [Vec<usize>],
     places: &mut Vec<usize>,
-    target: &mut [usize],
     plan: &mut Plan,
 ) -> Result<(), AllocError>
-    requires within { (k x : ℕ) → Holds (lists buckets.old) k x → x < length block.old }
-    requires closed { AreClosed definitions.now (lists buckets.old) }
-    requires keeps { Keeps definitions.now block.old }
-    requires listed { Listed block.old (lists members.old) }
-    requires target { TargetsFit target.old (length members.old) }
-    ensures within { OnOk result ((k x : ℕ) → Holds (lists buckets.new) k x → x < length block.new) }
-    ensures closed { OnOk result (AreClosed definitions.now (lists buckets.new)) }
-    ensures keeps { OnOk result (Keeps definitions.now block.new) }
-    ensures listed { OnOk result (Listed block.new (lists members.new)) }
-    ensures target { OnOk result (TargetsFit target.new (length members.new)) }
+    requires fit { IsFit definitions.now partition.old }
+    requires filled { AreFilled definitions.now buckets.old }
+    ensures fit { OnOk result (IsFit definitions.now partition.new) }
+    ensures filled { OnOk result (AreFilled definitions.now buckets.new) }
 {
     while let Some(p) = places.pop() {
         if p < buckets.len() {
-            part_row(definitions, block, members, buckets, p, target, plan)?;
+            part_row(definitions, partition, buckets, p, plan)?;
         }
     }
     Ok(())
 }
 
 fn turn(
-    definitions: &[TypeDef],
-    preds: &[Vec<Edge>],
-    block: &mut [usize],
-    members: &mut [Vec<usize>],
+    links: Links,
+    partition: &mut Partition,
     buckets: &mut [Vec<usize>],
     places: &mut Vec<usize>,
     s: usize,
-    target: &mut [usize],
     plan: &mut Plan,
 ) -> Result<(), AllocError>
-    requires graph { IsGraph definitions.now }
-    requires back { IsBackward definitions.now (lists preds.now) }
-    requires forward { IsForward definitions.now (lists preds.now) }
-    requires wide { (x k y : ℕ) → arg definitions.now x k ≡ Some y → k < length buckets.old }
-    requires len { length block.old ≡ length definitions.now }
-    requires within { (k x : ℕ) → Holds (lists buckets.old) k x → x < length block.old }
-    requires closed { AreClosed definitions.now (lists buckets.old) }
-    requires keeps { Keeps definitions.now block.old }
-    requires listed { Listed block.old (lists members.old) }
-    requires target { TargetsFit target.old (length members.old) }
-    ensures within { OnOk result ((k x : ℕ) → Holds (lists buckets.new) k x → x < length block.new) }
-    ensures closed { OnOk result (AreClosed definitions.now (lists buckets.new)) }
-    ensures keeps { OnOk result (Keeps definitions.now block.new) }
-    ensures listed { OnOk result (Listed block.new (lists members.new)) }
-    ensures target { OnOk result (TargetsFit target.new (length members.new)) }
+    requires linked { AreLinked links.definitions.now links.preds.now }
+    requires wide { (x k y : ℕ) → arg links.definitions.now x k ≡ Some y → k < length buckets.old }
+    requires fit { IsFit links.definitions.now partition.old }
+    requires filled { AreFilled links.definitions.now buckets.old }
+    ensures fit { OnOk result (IsFit links.entry.definitions.now partition.new) }
+    ensures filled { OnOk result (AreFilled links.entry.definitions.now buckets.new) }
 {
-    if s < members.len() {
-        gather(definitions, preds, block, &members[s], s, buckets, places)?;
-        drain(definitions, block, members, buckets, places, target, plan)?;
+    if s < partition.members.len() {
+        gather(
+            links,
+            &partition.block,
+            &partition.members[s],
+            s,
+            buckets,
+            places,
+        )?;
+        drain(links.definitions, partition, buckets, places, plan)?;
     }
     Ok(())
 }
 
 fn work_off(
     alloc: Global,
-    definitions: &[TypeDef],
-    preds: &[Vec<Edge>],
-    block: &mut [usize],
-    members: &mut [Vec<usize>],
+    links: Links,
+    partition: &mut Partition,
     buckets: &mut [Vec<usize>],
-    target: &mut [usize],
     plan: &mut Plan,
     fuel: usize,
 ) -> Result<(), AllocError>
-    requires graph { IsGraph definitions.now }
-    requires back { IsBackward definitions.now (lists preds.now) }
-    requires forward { IsForward definitions.now (lists preds.now) }
-    requires wide { (x k y : ℕ) → arg definitions.now x k ≡ Some y → k < length buckets.old }
-    requires len { length block.old ≡ length definitions.now }
-    requires within { (k x : ℕ) → Holds (lists buckets.old) k x → x < length block.old }
-    requires closed { AreClosed definitions.now (lists buckets.old) }
-    requires keeps { Keeps definitions.now block.old }
-    requires listed { Listed block.old (lists members.old) }
-    requires target { TargetsFit target.old (length members.old) }
-    ensures { OnOk result (Keeps definitions.now block.new) }
+    requires linked { AreLinked links.definitions.now links.preds.now }
+    requires wide { (x k y : ℕ) → arg links.definitions.now x k ≡ Some y → k < length buckets.old }
+    requires fit { IsFit links.definitions.now partition.old }
+    requires filled { AreFilled links.definitions.now buckets.old }
+    ensures { OnOk result (IsFit links.entry.definitions.now partition.new) }
 {
     let mut places: Vec<usize> = Vec::new(alloc);
     for _ in 0..fuel {
@@ -254,17 +241,7 @@ fn work_off(
             break;
         };
         put(&mut plan.waiting, s, 0);
-        turn(
-            definitions,
-            preds,
-            block,
-            members,
-            buckets,
-            &mut places,
-            s,
-            target,
-            plan,
-        )?;
+        turn(links, partition, buckets, &mut places, s, plan)?;
     }
     Ok(())
 }
@@ -319,66 +296,46 @@ pub fn refine(alloc: Global, definitions: &[TypeDef]) -> Result<Vec<usize>, Allo
     ensures len { IfOk result (λ v. vec_len v ≡ length definitions.now) }
     ensures keeps { IfOk result (λ v. Keeps definitions.now v.items) }
 {
-    let mut block = first_blocks(alloc, definitions)?;
+    let block = first_blocks(alloc, definitions)?;
     let width = widest(definitions);
     if definitions.is_empty() || definitions.len() > MOST || width > MOST {
         return Ok(block);
     }
     let members = list_members(alloc, &block)?;
-    let buckets = empty_rows(alloc, width)?;
     let target = identity(alloc, definitions.len())?;
+    let buckets = empty_rows(alloc, width)?;
     let plan = plan_for(alloc, &block)?;
-    part_blocks(
-        alloc,
-        definitions,
-        &mut block,
+    let partition = Partition {
+        block,
         members,
-        buckets,
         target,
-        plan,
-    )?;
-    Ok(block)
+    };
+    part_blocks(alloc, definitions, partition, buckets, plan)
 }
 
 fn part_blocks(
     alloc: Global,
     definitions: &[TypeDef],
-    block: &mut [usize],
-    members: Vec<Vec<usize>>,
-    buckets: Vec<Vec<usize>>,
-    target: Vec<usize>,
-    plan: Plan,
-) -> Result<(), AllocError>
+    mut partition: Partition,
+    mut buckets: Vec<Vec<usize>>,
+    mut plan: Plan,
+) -> Result<Vec<usize>, AllocError>
     requires graph { IsGraph definitions.now }
-    requires some { 0 < length definitions.now }
-    requires len { length block.old ≡ length definitions.now }
-    requires keeps { Keeps definitions.now block.old }
-    requires members { vec_len members ≡ length definitions.now }
-    requires listed { Listed block.old (lists members.items) }
+    requires fit { IsFit definitions.now partition }
     requires wide { (x k y : ℕ) → arg definitions.now x k ≡ Some y → k < vec_len buckets }
     requires empty { (x : ℕ) → slice_index_or (lists buckets.items) x [] ≡ [] }
     requires few { length definitions.now < 2 ^ 32 }
     requires narrow { vec_len buckets < 2 ^ 32 }
-    requires targets { vec_len target ≡ length definitions.now }
-    requires own { IsIdentity target.items (length definitions.now) }
-    ensures { OnOk result (Keeps definitions.now block.new) }
+    ensures len { IfOk result (λ v. vec_len v ≡ length definitions.now) }
+    ensures keeps { IfOk result (λ v. Keeps definitions.now v.items) }
 {
     let preds = predecessors(alloc, definitions)?;
-    let fuel = edges_of(definitions).saturating_mul(64);
-    let mut members = members;
-    let mut buckets = buckets;
-    let mut target = target;
-    let mut plan = plan;
-    work_off(
-        alloc,
+    let links = Links {
         definitions,
-        &preds,
-        block,
-        &mut members,
-        &mut buckets,
-        &mut target,
-        &mut plan,
-        fuel,
-    )?;
-    Ok(())
+        preds: &preds,
+    };
+    let fuel = edges_of(definitions).saturating_mul(64);
+    work_off(alloc, links, &mut partition, &mut buckets, &mut plan, fuel)?;
+    let Partition { block, .. } = partition;
+    Ok(block)
 }

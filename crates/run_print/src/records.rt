@@ -46,21 +46,27 @@ fn valued(
     values_text(code, values, out)
 }
 
+/// A thread, and the instruction that it has come to.
+#[derive(Clone, Copy)]
+struct ThreadPlace {
+    thread: u32,
+    block: u32,
+    at: u32,
+}
+
 // Appends words, a thread, its place and a number. Where no memory is found a part of it may have been appended.
 #[tactic(auto, using(bundle_check::proofs::Prefixes::prefix_longer, bundle_check::proofs::Prefixes::prefix_again))]
 fn counted_place(
     code: &Checked,
     words: &[u8],
-    thread: u32,
-    block: u32,
-    at: u32,
+    of: ThreadPlace,
     watchpoint: u32,
     out: &mut Vec<u8>,
 ) -> Result<(), AllocError>
-    ensures appended { OnOk result (out.new.items ≡ out.old.items ++ (words.now ++ decimal thread ++ codes " " ++ place_text code.now block at ++ codes " " ++ decimal watchpoint)) }
+    ensures appended { OnOk result (out.new.items ≡ out.old.items ++ (words.now ++ decimal of.thread ++ codes " " ++ place_text code.now of.block of.at ++ codes " " ++ decimal watchpoint)) }
     ensures begins { OnErr result (IsPrefix out.old.items out.new.items) }
 {
-    placed(code, words, thread, block, at, out)?;
+    placed(code, words, of.thread, of.block, of.at, out)?;
     numbered(b" ", watchpoint, out)
 }
 
@@ -88,15 +94,14 @@ pub fn record_text(code: &Checked, note: &Note, out: &mut Vec<u8>) -> Result<(),
             block,
             at,
             watchpoint,
-        } => counted_place(
-            code,
-            b"watchpoint t",
-            *thread,
-            *block,
-            *at,
-            *watchpoint,
-            out,
-        ),
+        } => {
+            let of = ThreadPlace {
+                thread: *thread,
+                block: *block,
+                at: *at,
+            };
+            counted_place(code, b"watchpoint t", of, *watchpoint, out)
+        }
         Note::Frame { frame, block, at } => placed(code, b"frame ", *frame, *block, *at, out),
         Note::Kept { frame, values } => valued(code, b"kept ", *frame, values, out),
         Note::TimedOut { thread, cell } => timed_out(*thread, *cell, out),

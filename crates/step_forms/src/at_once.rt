@@ -10,7 +10,8 @@ ghost use Rattle.step_forms.specs.CaseRows.{cases_of, cases_at};
 
 use crate::case_rows::CaseRows;
 use crate::computing::{binary_scalar, compare_scalar, convert_scalar};
-use crate::control::{arrive, arrive_at_one, called, returned};
+use crate::control::{SwitchOperands, arrive, arrive_at_one, called, returned};
+use crate::frame_view::FrameView;
 use crate::room::Room;
 use crate::variables::Variables;
 use bundle_check::Checked;
@@ -67,34 +68,35 @@ fn computed(code: &Checked, vars: &Variables, form: &ComputationForm) -> Option<
 fn gone(
     code: &Checked,
     rows: &mut CaseRows,
-    block: u32,
-    at: u32,
-    types: &[u32],
-    vars: &Variables,
+    view: FrameView,
     form: &ControlForm,
     values: &mut Slots,
 ) -> Option<u32>
     requires code { rows.old ≡ code.now }
-    requires place { cases_of (Control form.now) ≡ cases_at code.now block at }
-    requires there { IsSome (control_at code.now types.now vars.now form.now) }
+    requires place { cases_of (Control form.now) ≡ cases_at code.now view.block view.at }
+    requires there { IsSome (control_at code.now view.types.now view.vars.now form.now) }
     ensures same { rows.new ≡ rows.old }
-    ensures goes { IfSome result (λ block. control_at code.now types.now vars.now form.now ≡ Some (acts.Goes (record { block = block; values = values.new.values }))) }
+    ensures goes { IfSome result (λ block. control_at code.now view.entry.types.now view.entry.vars.now form.now ≡ Some (acts.Goes (record { block = block; values = values.new.values }))) }
 {
     match form {
-        ControlForm::Branch { target } => arrive(code, vars, target, values),
+        ControlForm::Branch { target } => arrive(code, view.vars, target, values),
         ControlForm::Branch2 {
             condition,
             if_one,
             if_zero,
-        } => arrive_at_one(code, vars, *condition, if_one, if_zero, values),
+        } => arrive_at_one(code, view.vars, *condition, if_one, if_zero, values),
         ControlForm::Switch {
             operand,
             default,
             cases,
             ..
         } => {
-            let cases = cases.as_slice();
-            rows.arrive(code, block, at, vars, *operand, default, cases, values)
+            let operands = SwitchOperands {
+                operand: *operand,
+                default,
+                cases: cases.as_slice(),
+            };
+            rows.arrive(code, view, operands, values)
         }
         _ => None,
     }
@@ -139,31 +141,25 @@ fn crossing(
 pub fn decide_at_once(
     code: &Checked,
     rows: &mut CaseRows,
-    block: u32,
-    at: u32,
-    types: &[u32],
-    vars: &Variables,
+    view: FrameView,
     form: &Form,
     room: &mut Room,
 ) -> AtOnce
     requires code { rows.old ≡ code.now }
-    requires place { cases_of form.now ≡ cases_at code.now block at }
-    requires there { IsSome (act_at code.now types.now vars.now form.now) }
+    requires place { cases_of form.now ≡ cases_at code.now view.block view.at }
+    requires there { IsSome (act_at code.now view.types.now view.vars.now form.now) }
     ensures same { rows.new ≡ rows.old }
-    ensures act { IfSome (decided result (lists_of room.new)) (λ act. act_at code.now types.now vars.now form.now ≡ Some act) }
+    ensures act { IfSome (decided result (lists_of room.new)) (λ act. act_at code.now view.entry.types.now view.entry.vars.now form.now ≡ Some act) }
 {
     match form {
-        Form::Computation(form) => match computed(code, vars, form) {
+        Form::Computation(form) => match computed(code, view.vars, form) {
             Some(scalar) => AtOnce::Gives(scalar),
             None => AtOnce::Other,
         },
-        Form::Control(form) => {
-            let values = &mut room.values;
-            match gone(code, rows, block, at, types, vars, form, values) {
-                Some(block) => AtOnce::Goes { block },
-                None => crossing(code, types, vars, form, room),
-            }
-        }
+        Form::Control(form) => match gone(code, rows, view, form, &mut room.values) {
+            Some(block) => AtOnce::Goes { block },
+            None => crossing(code, view.types, view.vars, form, room),
+        },
         _ => AtOnce::Other,
     }
 }

@@ -11,11 +11,12 @@ ghost use Rattle.model_numbers.specs.Sources.{value_at, goal_at};
 ghost use Rattle.model_numbers.specs.Forms.{arm_at};
 ghost use Rattle.step_forms.specs.CaseRows.{half_of, half_in, constant_half, case_half, cases_at, AreRows};
 
-use crate::control::{arrive, is_equal};
+use crate::control::{SwitchOperands, arrive, is_equal};
+use crate::frame_view::FrameView;
 use crate::operands::{constant, lent, scalar};
 use crate::variables::Variables;
 use bundle_check::Checked;
-use code_check::{CaseForm, Source, Target};
+use code_check::CaseForm;
 use mu_values::{Scalar, Slots};
 use std::alloc::{AllocError, Global};
 use std::marker::Model;
@@ -85,19 +86,17 @@ fn is_constant(code: &Checked, wanted: &Scalar, half: u64, other: u64, n: u32) -
 fn arrive_by_row(
     code: &Checked,
     vars: &Variables,
-    operand: Source,
-    default: &Target,
-    cases: &[CaseForm],
+    operands: SwitchOperands,
     row: &[u64],
     values: &mut Slots,
 ) -> Option<u32>
-    requires there { IsSome (switch_act (value_at code.now vars.now operand) (goal_at code.now vars.now default.now) (map (arm_at code.now vars.now) cases.now)) }
-    requires row { row.now ≡ map (case_half code.now) cases.now }
-    ensures { IfSome result (λ block. switch_act (value_at code.now vars.now operand) (goal_at code.now vars.now default.now) (map (arm_at code.now vars.now) cases.now) ≡ Some (acts.Goes (record { block = block; values = values.new.values }))) }
+    requires there { IsSome (switch_act (value_at code.now vars.now operands.operand) (goal_at code.now vars.now operands.default.now) (map (arm_at code.now vars.now) operands.cases.now)) }
+    requires row { row.now ≡ map (case_half code.now) operands.cases.now }
+    ensures { IfSome result (λ block. switch_act (value_at code.now vars.now operands.entry.operand) (goal_at code.now vars.now operands.entry.default.now) (map (arm_at code.now vars.now) operands.entry.cases.now) ≡ Some (acts.Goes (record { block = block; values = values.new.values }))) }
 {
-    let wanted = scalar(code, vars, operand);
+    let wanted = scalar(code, vars, operands.operand);
     let half = half_of(&wanted);
-    let mut left = cases;
+    let mut left = operands.cases;
     let mut halves = row;
     'cases: while let [other, rest @ ..] = halves {
         let [case, more @ ..] = left else {
@@ -109,7 +108,7 @@ fn arrive_by_row(
         left = more;
         halves = rest;
     }
-    arrive(code, vars, default, values)
+    arrive(code, vars, operands.default, values)
 }
 
 /// What is kept of a block: the lower halves of the constants of the SWITCH that stands at a place of it. There is one at most, which
@@ -209,24 +208,20 @@ impl<'a> CaseRows<'a> {
     pub(crate) fn arrive(
         &mut self,
         code: &Checked,
-        block: u32,
-        at: u32,
-        vars: &Variables,
-        operand: Source,
-        default: &Target,
-        cases: &[CaseForm],
+        view: FrameView,
+        operands: SwitchOperands,
         values: &mut Slots,
     ) -> Option<u32>
         requires code { self.old ≡ code.now }
-        requires place { cases.now ≡ cases_at code.now block at }
-        requires there { IsSome (switch_act (value_at code.now vars.now operand) (goal_at code.now vars.now default.now) (map (arm_at code.now vars.now) cases.now)) }
-        ensures goes { IfSome result (λ block. switch_act (value_at code.now vars.now operand) (goal_at code.now vars.now default.now) (map (arm_at code.now vars.now) cases.now) ≡ Some (acts.Goes (record { block = block; values = values.new.values }))) }
+        requires place { operands.cases.now ≡ cases_at code.now view.block view.at }
+        requires there { IsSome (switch_act (value_at code.now view.vars.now operands.operand) (goal_at code.now view.vars.now operands.default.now) (map (arm_at code.now view.vars.now) operands.cases.now)) }
+        ensures goes { IfSome result (λ block. switch_act (value_at code.now view.entry.vars.now operands.entry.operand) (goal_at code.now view.entry.vars.now operands.entry.default.now) (map (arm_at code.now view.entry.vars.now) operands.entry.cases.now) ≡ Some (acts.Goes (record { block = block; values = values.new.values }))) }
         ensures same { self.new ≡ self.old }
     {
-        if self.row(block, at).is_none() {
-            self.make(block, at, cases).ok()?;
+        if self.row(view.block, view.at).is_none() {
+            self.make(view.block, view.at, operands.cases).ok()?;
         }
-        let row = self.row(block, at)?;
-        arrive_by_row(code, vars, operand, default, cases, row, values)
+        let row = self.row(view.block, view.at)?;
+        arrive_by_row(code, view.vars, operands, row, values)
     }
 }

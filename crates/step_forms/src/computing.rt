@@ -11,7 +11,7 @@ ghost use Rattle.step_forms.specs.AtOnce.{scalar_or_fault};
 
 use crate::act::Act;
 use crate::operands::{is_one, read, scalar, scalars};
-use crate::parts::divided;
+use crate::parts::{StructField, divided};
 use crate::room::Room;
 use crate::variables::Variables;
 use bundle_check::Checked;
@@ -236,16 +236,15 @@ pub fn select(
 pub fn extractvalue(
     code: &Checked,
     vars: &Variables,
-    class: u32,
-    field: usize,
+    field: StructField,
     operand: Source,
     room: &mut Room,
 ) -> Result<Act, AllocError>
-    requires { IsSome (extractvalue_act (bundle_tables code.now) class field (value_at code.now vars.now operand)) }
-    ensures { IfOk result (λ act. extractvalue_act (bundle_tables code.now) class field (value_at code.now vars.now operand) ≡ Some (asked act (lists_of room.new))) }
+    requires { IsSome (extractvalue_act (bundle_tables code.now) field.class field.number (value_at code.now vars.now operand)) }
+    ensures { IfOk result (λ act. extractvalue_act (bundle_tables code.now) field.class field.number (value_at code.now vars.now operand) ≡ Some (asked act (lists_of room.new))) }
 {
     let value = read(code, vars, operand);
-    let parts = divided(code, class, field, scalars(&value));
+    let parts = divided(code, field, scalars(&value));
     give_value(parts.field, room)
 }
 
@@ -254,18 +253,17 @@ pub fn extractvalue(
 pub fn insertvalue(
     code: &Checked,
     vars: &Variables,
-    class: u32,
-    field: usize,
+    field: StructField,
     operand: Source,
     value: Source,
     room: &mut Room,
 ) -> Result<Act, AllocError>
-    requires { IsSome (insertvalue_act (bundle_tables code.now) class field (value_at code.now vars.now operand) (value_at code.now vars.now value)) }
-    ensures { IfOk result (λ act. insertvalue_act (bundle_tables code.now) class field (value_at code.now vars.now operand) (value_at code.now vars.now value) ≡ Some (asked act (lists_of room.new))) }
+    requires { IsSome (insertvalue_act (bundle_tables code.now) field.class field.number (value_at code.now vars.now operand) (value_at code.now vars.now value)) }
+    ensures { IfOk result (λ act. insertvalue_act (bundle_tables code.now) field.class field.number (value_at code.now vars.now operand) (value_at code.now vars.now value) ≡ Some (asked act (lists_of room.new))) }
 {
     let operand = read(code, vars, operand);
     let value = read(code, vars, value);
-    let parts = divided(code, class, field, scalars(&operand));
+    let parts = divided(code, field, scalars(&operand));
     room.scalars.clear();
     room.scalars.extend_from_slice(parts.before)?;
     room.scalars.extend_from_slice(scalars(&value))?;

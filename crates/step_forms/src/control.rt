@@ -94,6 +94,17 @@ pub(crate) fn branch2(
     }
 }
 
+/// What a SWITCH chooses a destination by.
+#[derive(Clone, Copy)]
+pub(crate) struct SwitchOperands<'a> {
+    /// What is compared with the constants of the cases.
+    pub(crate) operand: Source,
+    /// The destination where no case is equal.
+    pub(crate) default: &'a Target,
+    /// The cases, in their order.
+    pub(crate) cases: &'a [CaseForm],
+}
+
 /// Whether two scalars are one, by all that they hold. It stays out of the way of the row of a SWITCH, which seldom comes to it.
 #[tactic(auto, using(crate::specs::OperandLaws::same_told))]
 #[cold]
@@ -109,23 +120,21 @@ pub(crate) fn is_equal(a: &Scalar, b: &Scalar) -> bool
 pub(crate) fn switch(
     code: &Checked,
     vars: &Variables,
-    operand: Source,
-    default: &Target,
-    cases: &[CaseForm],
+    operands: SwitchOperands,
     room: &mut Room,
 ) -> Result<Act, AllocError>
-    requires { IsSome (switch_act (value_at code.now vars.now operand) (goal_at code.now vars.now default.now) (map (arm_at code.now vars.now) cases.now)) }
-    ensures { IfOk result (λ act. switch_act (value_at code.now vars.now operand) (goal_at code.now vars.now default.now) (map (arm_at code.now vars.now) cases.now) ≡ Some (asked act (lists_of room.new))) }
+    requires { IsSome (switch_act (value_at code.now vars.now operands.operand) (goal_at code.now vars.now operands.default.now) (map (arm_at code.now vars.now) operands.cases.now)) }
+    ensures { IfOk result (λ act. switch_act (value_at code.now vars.now operands.entry.operand) (goal_at code.now vars.now operands.entry.default.now) (map (arm_at code.now vars.now) operands.entry.cases.now) ≡ Some (asked act (lists_of room.new))) }
 {
-    let wanted = scalar(code, vars, operand);
-    let mut left = cases;
+    let wanted = scalar(code, vars, operands.operand);
+    let mut left = operands.cases;
     'cases: while let [case, more @ ..] = left {
         if is_equal(&wanted, lent(constant(code, case.constant))) {
             return branch(code, vars, &case.target, room);
         }
         left = more;
     }
-    branch(code, vars, default, room)
+    branch(code, vars, operands.default, room)
 }
 
 /// The function that a CALL calls, with the values of its arguments in the list. None comes where the callee is NULL. Where no memory

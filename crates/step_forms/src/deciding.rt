@@ -11,8 +11,9 @@ use crate::common::{
     futex_wait, futex_wait_timeout, futex_wake, kill_stack, new_stack, set_threadlocal,
 };
 use crate::computing::{binary, compare, convert, extractvalue, insertvalue, refcast, select};
-use crate::control::{branch, branch2, call, ret, switch, tailcall, throw};
+use crate::control::{SwitchOperands, branch, branch2, call, ret, switch, tailcall, throw};
 use crate::objects::{getelemiref, getfieldiref, getiref, getvarpartiref, newhybrid, shiftiref};
+use crate::parts::field_of;
 use crate::room::Room;
 use crate::stack_forms::{newthread, swap_killing, swap_returning};
 use crate::trapping::{trap, watchpoint, wpbranch};
@@ -64,13 +65,13 @@ fn compute(
             class,
             field,
             operand,
-        } => extractvalue(code, vars, *class, *field, *operand, room),
+        } => extractvalue(code, vars, field_of(*class, *field), *operand, room),
         ComputationForm::Insertvalue {
             class,
             field,
             operand,
             value,
-        } => insertvalue(code, vars, *class, *field, *operand, *value, room),
+        } => insertvalue(code, vars, field_of(*class, *field), *operand, *value, room),
     }
 }
 
@@ -97,7 +98,14 @@ fn go_on(
             default,
             cases,
             ..
-        } => switch(code, vars, *operand, default, cases.as_slice(), room),
+        } => {
+            let operands = SwitchOperands {
+                operand: *operand,
+                default,
+                cases: cases.as_slice(),
+            };
+            switch(code, vars, operands, room)
+        }
         ControlForm::Call {
             callee,
             arguments,

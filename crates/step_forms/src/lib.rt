@@ -12,6 +12,7 @@ mod computing;
 mod control;
 mod deciding;
 mod entering;
+mod frame_view;
 mod laws;
 mod objects;
 mod operands;
@@ -28,6 +29,7 @@ pub use at_once::{AtOnce, decide_at_once};
 pub use case_rows::CaseRows;
 pub use deciding::decide;
 pub use entering::Entering;
+pub use frame_view::FrameView;
 pub use laws::forms_are_there;
 pub use operands::{
     copy_classes, push_value, read_classes, read_goal, read_kept, read_values, scalar,

@@ -12,6 +12,23 @@ use bundle_check::Checked;
 use mu_types::{Classes, TypeDef};
 use mu_values::Scalar;
 
+/// A field of a struct.
+#[derive(Clone, Copy, Debug, PartialEq, Eq)]
+pub struct StructField {
+    /// The class of the struct.
+    pub class: u32,
+    /// The number of the field, counted from 0.
+    pub number: usize,
+}
+
+/// The field with that number of a struct of that class.
+pub(crate) fn field_of(class: u32, number: usize) -> StructField
+    ensures class { result.class ≡ class }
+    ensures number { result.number ≡ number }
+{
+    StructField { class, number }
+}
+
 /// A value in three parts: what stands before a field, the field, and what stands behind it.
 #[derive(Clone, Copy)]
 pub(crate) struct Parts<'a> {
@@ -85,21 +102,16 @@ fn behind<'a>(classes: &Classes, types: &[u32], value: &'a [Scalar]) -> &'a [Sca
 
 /// The parts of a value about a field.
 #[tactic(auto, using(crate::proofs::Fields::parts))]
-pub(crate) fn divided<'a>(
-    code: &Checked,
-    class: u32,
-    field: usize,
-    value: &'a [Scalar],
-) -> Parts<'a>
-    requires { IsSome (part_of (bundle_tables code.now) class field) }
-    ensures before { IsSomeAnd (part_of (bundle_tables code.now) class field) (λ q. result.before.now ≡ take q.before value.now) }
-    ensures field { IsSomeAnd (part_of (bundle_tables code.now) class field) (λ q. result.field.now ≡ take q.size (drop q.before value.now)) }
-    ensures behind { IsSomeAnd (part_of (bundle_tables code.now) class field) (λ q. result.behind.now ≡ drop (q.before + q.size) value.now) }
+pub(crate) fn divided<'a>(code: &Checked, field: StructField, value: &'a [Scalar]) -> Parts<'a>
+    requires { IsSome (part_of (bundle_tables code.now) field.class field.number) }
+    ensures before { IsSomeAnd (part_of (bundle_tables code.now) field.class field.number) (λ q. result.before.now ≡ take q.before value.now) }
+    ensures field { IsSomeAnd (part_of (bundle_tables code.now) field.class field.number) (λ q. result.field.now ≡ take q.size (drop q.before value.now)) }
+    ensures behind { IsSomeAnd (part_of (bundle_tables code.now) field.class field.number) (λ q. result.behind.now ≡ drop (q.before + q.size) value.now) }
 {
     let classes = code.classes();
-    let fields = fields(classes, class);
-    let rest = behind(classes, &fields[..field], value);
-    let size = leaf_count(classes, type_at(fields, field));
+    let fields = fields(classes, field.class);
+    let rest = behind(classes, &fields[..field.number], value);
+    let size = leaf_count(classes, type_at(fields, field.number));
     Parts {
         before: front(value, value.len() - rest.len()),
         field: front(rest, size),

@@ -40,12 +40,15 @@ const ANOTHER: u128 = 4294967295;
 /// What a thread gets whose wait with a limit is over, that is -3.
 const OVER: u128 = 4294967293;
 
-/// A wait at a cell: whether it has a limit, and the value that is expected there.
+/// A wait at a cell.
 #[derive(Clone, Copy, Debug, PartialEq, Eq)]
-struct CellWait {
-    timed: bool,
-    expected: Scalar,
-    cell: CellId,
+pub struct CellWait {
+    /// Whether it has a limit.
+    pub timed: bool,
+    /// The value that the cell is to hold, else the thread does not wait.
+    pub expected: Scalar,
+    /// Where it waits.
+    pub cell: CellId,
 }
 
 /// One result, of an integer of 32 bits.
@@ -106,28 +109,22 @@ impl<M: Memory, C: Determined> State<M, C> {
     pub fn wait(
         &mut self,
         code: &Checked,
-        timed: bool,
-        expected: Scalar,
-        cell: CellId,
+        wait: CellWait,
         values: &mut Slots,
         out: &mut Slots,
     ) -> Result<StepEnd, AllocError>
         requires left { self.old.left ≡ true }
         requires room { self.old.steps < self.old.budget }
         requires goes_on { GoesOn self.old }
-        requires there { acting code.now self.old (acts.Waits timed expected cell) ≢ Stuck }
-        ensures ok { IfOk result (λ end. answers end self.new ≡ acting code.now self.old (acts.Waits timed expected cell)) }
+        requires there { acting code.now self.old (acts.Waits wait.timed wait.expected wait.cell) ≢ Stuck }
+        ensures ok { IfOk result (λ end. answers end self.new ≡ acting code.now self.old (acts.Waits wait.timed wait.expected wait.cell)) }
         ensures err { OnErr result (self.new ≡ self.old) }
         ensures stays { IfOk result (λ end. Stays end self.old self.new) }
     {
-        match self.cell_there(cell) {
+        match self.cell_there(wait.cell) {
             Ok(cell) => {
-                let wait = CellWait {
-                    timed,
-                    expected,
-                    cell,
-                };
-                self.wait_at(code, wait, values, out)
+                let there = CellWait { cell, ..wait };
+                self.wait_at(code, there, values, out)
             }
             Err(fault) => self.refuse(code, case_of(fault), out),
         }

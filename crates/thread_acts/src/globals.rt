@@ -97,27 +97,46 @@ fn first_block(code: &Checked, function: u32) -> u32
     }
 }
 
+/// What a run begins with beside its function.
+#[derive(Drop)]
+pub struct RunInputs<M: Memory, C: Determined> {
+    /// The objects that are there, and how many cells may be made besides.
+    pub heap: Heap,
+    /// It knows nothing yet, and brings the rule of release sequences.
+    pub memory: M,
+    /// What answers at traps.
+    pub client: C,
+    /// The numbers that choose threads and values.
+    pub picks: Schedule,
+    /// How many steps may be made.
+    pub budget: u32,
+}
+
 impl<M: Memory + Drop, C: Determined + Drop> State<M, C> {
     /// Thread 0 on stack 0, in that function, with the objects of a heap, of which the memory is told. Where no memory is found nothing is
-    /// left of them.
+    /// left of what the run was to begin with.
     #[tactic(auto, using(crate::specs::Starting::starts, crate::specs::Starting::first_sound))]
     pub fn start(
         alloc: Global,
         code: &Checked,
         entry: u32,
-        heap: Heap,
-        mut memory: M,
-        client: C,
-        picks: Schedule,
-        budget: u32,
+        inputs: RunInputs<M, C>,
     ) -> Result<State<M, C>, AllocError>
-        requires log { M.log memory ≡ [] }
-        requires objects { M.objects memory ≡ [] }
-        requires budget { budget ≤ 1000000 }
+        requires log { M.log inputs.memory ≡ [] }
+        requires objects { M.objects inputs.memory ≡ [] }
+        requires budget { inputs.budget ≤ 1000000 }
         requires there { IsSomeAnd ((numbered code.now).body entry) IsSome }
         ensures whole { IfOk result (λ state. state.skip ≡ 0) }
-        ensures first { IfOk result (λ state. (cells : ℕ) → heap.left ≡ cells_left (bundle_tables code.now) cells heap.objects → starting code.now (record { objects = heap.objects; client = C.stands_for client; picks = picks; cells = cells; budget = budget; rule = M.rule memory }) entry ≡ Some (configuration state)) }
+        ensures first { IfOk result (λ state. (cells : ℕ) → inputs.heap.left ≡ cells_left (bundle_tables code.now) cells inputs.heap.objects
+            → starting code.now (record { objects = inputs.heap.objects; client = C.stands_for inputs.client; picks = inputs.picks; cells = cells; budget = inputs.budget; rule = M.rule inputs.memory }) entry ≡ Some (configuration state)) }
     {
+        let RunInputs {
+            heap,
+            mut memory,
+            client,
+            picks,
+            budget,
+        } = inputs;
         let block = first_block(code, entry);
         remember_all(alloc, &heap, &mut memory)?;
         let hand = first_frames(alloc, block)?;

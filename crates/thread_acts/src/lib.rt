@@ -16,4 +16,4 @@ mod stack_acts;
 pub mod state;
 pub mod waiting;
 
-pub use globals::first_heap;
+pub use globals::{RunInputs, first_heap};

@@ -48,28 +48,27 @@ impl<'a, C: Determined> Asks for Asking<'a, C> {
     }
 }
 
-/// Asks a client for its answer to a trap of a thread, whose stack waits for values of these types. The client sees the stack, and hands
-/// it back; nothing changes. None is misuse. It is refused for want of memory alone.
+/// Asks a client for its answer to a trap of a thread, whose stack waits for values of the types that are asked. The client sees the
+/// stack, and hands it back; nothing changes. None is misuse. It is refused for want of memory alone.
 pub fn ask<C: Determined>(
     alloc: Global,
     client: &C,
     view: &TrapView,
     seats: &mut Seats,
-    thread: u32,
     stack: u32,
-    waits: Types,
 ) -> Result<Option<Plan>, AllocError>
-    requires { IsOn seats.old thread stack }
+    requires { IsOn seats.old view.now.thread stack }
     ensures same { seats.new ≡ seats.old }
-    ensures answer { (c : Chain) → slice_get seats.old.stacks stack ≡ Some (Active thread (frames_of c))
+    ensures answer { (c : Chain) → slice_get seats.old.stacks stack ≡ Some (Active view.now.thread (frames_of c))
         → IfOk result (λ plan. option_map planned plan ≡ answer_of view.now.tables (record { thread = view.now.thread; watchpoint = view.now.watchpoint; asked = view.now.asked; frames = frames_of c }) (C.stands_for client.now)) }
 {
+    let waits = Types::from_vec(Vec::from_slice(alloc, view.asked().as_slice())?);
     let mut asking = Asking {
         alloc,
         client,
         view,
         answer: Ok(None),
     };
-    seats.ask(thread, stack, waits, &mut asking);
+    seats.ask(view.thread(), stack, waits, &mut asking);
     asking.answer
 }

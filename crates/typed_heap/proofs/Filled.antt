@@ -1,9 +1,10 @@
 -- Cells from an offset on that begin with other scalars.
-use Rattle.std.proofs.Common.{◌≡◌, ℕ, zero, suc, ◌+◌, ◌-◌, ◌<◌, ◌≤◌, List, [], ◌∷◌, length, take, drop, Option, Some, get_or, slice_get, refl, sym, ap, ◌∙◌, arith, append_assoc, add-zero, add-one}
+use Rattle.std.proofs.Common.{◌≡◌, ℕ, zero, suc, ◌+◌, ◌-◌, ◌<◌, ◌≤◌, List, [], ◌∷◌, ◌++◌, length, take, drop, Option, Some, get_or, slice_get, refl, sym, ap, ◌∙◌, arith, append_assoc, add-zero, add-one}
 use Rattle.std.specs.Prelude.{slice_range, slice_set}
 use Rattle.std.proofs.lemmas.List.{append-nil, take-append-drop, take_more_set, drop-set-lt, drop_all, length-set, length-take, length-drop}
 use Rattle.std.proofs.Math.Seq.{drop-cons}
 use Rattle.mu_values.specs.declared.scalars.Scalar.{Scalar}
+use Rattle.mu_values.specs.declared.scalars.Scalar.TheVariants.{Null}
 use Rattle.typed_heap.specs.Objects.{HeapObject, replaced, filled, with_filled}
 use Rattle.typed_heap.specs.declared.objects.Extent.{Extent}
 use Rattle.typed_heap.specs.Rows.{objects_in, IsCut, begin, end}
@@ -21,13 +22,52 @@ replaced_more old at s ss l =
     let same : (at + 1) + length ss ≡ at + length (s ∷ ss) = omega arith in
     rw (take_more_set old at s l, drop-set-lt ((at + 1) + length ss) old at s far, same, append_assoc (take at old) (s ∷ []) ss) refl
 
+one_alone : (ss : List Scalar) (d : Scalar) → length ss ≡ 1 → ss ≡ get_or ss 0 d ∷ []
+one_alone [] d one = cc
+one_alone (s ∷ []) d one = refl
+one_alone (s ∷ t ∷ ss) d one = absurd (omega (arith, one))
+
+-- a list of one
+pub replaced_one : (old : List Scalar) (at : ℕ) (ss : List Scalar) (d : Scalar) → length ss ≡ 1 → at < length old → replaced old at ss ≡ slice_set old at (get_or ss 0 d)
+replaced_one old at ss d one l =
+    let s = get_or ss 0 d in
+    ap (λ (xs : List Scalar). replaced old at xs) (one_alone ss d one) ∙ sym (replaced_more old at s [] l) ∙ replaced_nothing (slice_set old at s) (at + 1)
+
+put_first : (old : List Scalar) (n : ℕ) (s : Scalar) → n < length old → take n old ++ ((s ∷ []) ++ drop 1 (drop n old)) ≡ slice_set old n s
+put_first [] n s l = absurd (omega (arith, l))
+put_first (x ∷ old) zero s l = refl
+put_first (x ∷ old) (suc n) s l = ap (λ xs. x ∷ xs) (put_first old n s (omega (arith, l)))
+
+-- one that was lent is back
+pub put_one : (old ss : List Scalar) (n many : ℕ) (d : Scalar) → many ≡ 1 → length ss ≡ 1 → n < length old → take n old ++ (ss ++ drop many (drop n old)) ≡ slice_set old n (get_or ss 0 d)
+put_one old ss n many d e one l =
+    ap (λ (k : ℕ). take n old ++ (ss ++ drop k (drop n old))) e
+    ∙ ap (λ (xs : List Scalar). take n old ++ (xs ++ drop 1 (drop n old))) (one_alone ss d one)
+    ∙ put_first old n (get_or ss 0 d) l
+
 -- the same, where so many of them were set
-pub replaced_next : (old : List Scalar) (from i : ℕ) (ss : List Scalar) (d : Scalar) → i < length ss → from + i < length old →
+set_next : (old : List Scalar) (from i : ℕ) (ss : List Scalar) (d : Scalar) → i < length ss → from + i < length old →
     replaced (slice_set old (from + i) (get_or ss i d)) (from + (i + 1)) (drop (i + 1) ss) ≡ replaced old (from + i) (drop i ss)
-replaced_next old from i ss d l m =
+set_next old from i ss d l m =
     let s = get_or ss i d in
     let turned : from + (i + 1) ≡ (from + i) + 1 = omega arith in
     rw (turned, add-one i) (replaced_more old (from + i) s (drop (suc i) ss) m ∙ ap (λ (xs : List Scalar). replaced old (from + i) xs) (sym (drop-cons ss i d l)))
+
+range_one : (ss : List Scalar) (i : ℕ) (d : Scalar) → i < length ss → slice_range ss i (i + 1) ≡ get_or ss i d ∷ []
+range_one ss i d l =
+    let many : i + 1 - i ≡ 1 = omega arith in
+    ap (λ (n : ℕ). take n (drop i ss)) many ∙ ap (λ (xs : List Scalar). take 1 xs) (drop-cons ss i d l)
+
+pub range_is_one : (ss : List Scalar) (i : ℕ) → i < length ss → length (slice_range ss i (i + 1)) ≡ 1
+range_is_one ss i l = ap (λ (xs : List Scalar). length xs) (range_one ss i Null l)
+
+pub replaced_next : (old : List Scalar) (from i : ℕ) (ss : List Scalar) → i < length ss → from + i < length old →
+    replaced (replaced old (from + i) (slice_range ss i (i + 1))) (from + (i + 1)) (drop (i + 1) ss) ≡ replaced old (from + i) (drop i ss)
+replaced_next old from i ss l m =
+    let one = range_one ss i Null l in
+    let set : replaced old (from + i) (slice_range ss i (i + 1)) ≡ slice_set old (from + i) (get_or ss i Null) =
+    ap (λ (xs : List Scalar). replaced old (from + i) xs) one ∙ replaced_one old (from + i) (get_or ss i Null ∷ []) Null refl m in
+    ap (λ (xs : List Scalar). replaced xs (from + (i + 1)) (drop (i + 1) ss)) set ∙ set_next old from i ss Null l m
 
 -- all were set
 pub replaced_end : (old all : List Scalar) (from i : ℕ) (ss : List Scalar) → length ss ≤ i → replaced old from (drop i ss) ≡ all → old ≡ all

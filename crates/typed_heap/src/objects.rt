@@ -143,9 +143,7 @@ impl Objects {
             &mut self.initials,
             &mut self.extents,
             classes,
-            fixed,
-            run,
-            count,
+            Added { fixed, run, count },
         ) {
             Ok(()) => Ok(()),
             Err(refused) => {
@@ -243,12 +241,31 @@ fn give_cells(initials: &mut [Initial], given: &mut Vec<Scalar>, from: usize, sc
     ensures room { vec_capacity given.old - vec_len given.old ≤ vec_capacity given.new - vec_len given.new + length scalars.now }
 {
     for i in 0..scalars.len() {
-        give_cell(initials, given, from + i, scalars[i]);
+        give_cell(initials, given, from + i, &scalars[i..i + 1]);
     }
 }
 
-/// Gives a cell its initial scalar, into room that is there.
-fn give_cell(initials: &mut [Initial], given: &mut Vec<Scalar>, cell: usize, scalar: Scalar)
+/// Gives a cell its initial scalar, which is the only one of a list, into room that is there. A list is copied as a whole, where a scalar
+/// that is passed by value is taken apart.
+fn give_cell(initials: &mut [Initial], given: &mut Vec<Scalar>, cell: usize, scalar: &[Scalar])
+    requires one { length scalar.now ≡ 1 }
+    requires cell { cell < length initials.old }
+    requires own { AreOwn initials.old (length given.old.items) }
+    requires room { 0 < vec_capacity given.old - vec_len given.old }
+    ensures cells { length initials.new ≡ length initials.old }
+    ensures own { AreOwn initials.new (length given.new.items) }
+    ensures begins { map (initial_of given.new.items) initials.new ≡ replaced (map (initial_of given.old.items) initials.old) cell scalar.now }
+    ensures room { vec_capacity given.old - vec_len given.old ≤ vec_capacity given.new - vec_len given.new + 1 }
+{
+    match initials[cell] {
+        // No other cell has this number.
+        Initial::Given(number) => given[number..number + 1].copy_from_slice(scalar),
+        Initial::Null | Initial::Zero(_) => give_first(initials, given, cell, scalar[0]),
+    }
+}
+
+/// Gives a cell a scalar with a number of its own, into room that is there.
+fn give_first(initials: &mut [Initial], given: &mut Vec<Scalar>, cell: usize, scalar: Scalar)
     requires cell { cell < length initials.old }
     requires own { AreOwn initials.old (length given.old.items) }
     requires room { 0 < vec_capacity given.old - vec_len given.old }
@@ -257,15 +274,9 @@ fn give_cell(initials: &mut [Initial], given: &mut Vec<Scalar>, cell: usize, sca
     ensures begins { map (initial_of given.new.items) initials.new ≡ slice_set (map (initial_of given.old.items) initials.old) cell scalar }
     ensures room { vec_capacity given.old - vec_len given.old ≤ vec_capacity given.new - vec_len given.new + 1 }
 {
-    match initials[cell] {
-        // No other cell has this number.
-        Initial::Given(number) => given[number] = scalar,
-        Initial::Null | Initial::Zero(_) => {
-            let number = given.len();
-            given.push(scalar).unwrap();
-            initials[cell] = Initial::Given(number);
-        }
-    }
+    let number = given.len();
+    given.push(scalar).unwrap();
+    initials[cell] = Initial::Given(number);
 }
 
 /// What a new cell of a leaf begins with.
@@ -307,33 +318,42 @@ fn append_firsts(
     Ok(())
 }
 
+/// The leaves of an object that is added: some, and then others so many times over.
+#[derive(Clone, Copy)]
+struct Added<'a> {
+    /// The classes of the first leaves.
+    fixed: &'a [u32],
+    /// The classes of the leaves that repeat behind them.
+    run: &'a [u32],
+    /// How many times these stand there.
+    count: usize,
+}
+
 /// Adds an object to the rows. Where no memory is found, what was there is still first, and there is no object more.
 fn append_object(
     leaves: &mut Vec<u32>,
     initials: &mut Vec<Initial>,
     extents: &mut Vec<Extent>,
     classes: &Classes,
-    fixed: &[u32],
-    run: &[u32],
-    count: usize,
+    added: Added<'_>,
 ) -> Result<(), AllocError>
     requires narrow { AreNarrow classes.now.definitions }
-    requires leaves { All (λ c. c < length classes.now.definitions) (fixed.now ++ times count run.now) }
-    ensures leaves { OnOk result (leaves.new.items ≡ leaves.old.items ++ (fixed.now ++ times count run.now)) }
-    ensures initials { OnOk result (initials.new.items ≡ initials.old.items ++ firsts classes.now.definitions (fixed.now ++ times count run.now)) }
-    ensures extents { OnOk result (extents.new.items ≡ extents.old.items ++ record { end = length leaves.old.items + length (fixed.now ++ times count run.now); fixed = length fixed.now; run = length run.now; dead = false } ∷ []) }
+    requires leaves { All (λ c. c < length classes.now.definitions) (added.fixed.now ++ times added.count added.run.now) }
+    ensures leaves { OnOk result (leaves.new.items ≡ leaves.old.items ++ (added.entry.fixed.now ++ times added.entry.count added.entry.run.now)) }
+    ensures initials { OnOk result (initials.new.items ≡ initials.old.items ++ firsts classes.now.definitions (added.entry.fixed.now ++ times added.entry.count added.entry.run.now)) }
+    ensures extents { OnOk result (extents.new.items ≡ extents.old.items ++ record { end = length leaves.old.items + length (added.entry.fixed.now ++ times added.entry.count added.entry.run.now); fixed = length added.entry.fixed.now; run = length added.entry.run.now; dead = false } ∷ []) }
     ensures leaves_kept { take (length leaves.old.items) leaves.new.items ≡ leaves.old.items }
     ensures initials_kept { take (length initials.old.items) initials.new.items ≡ initials.old.items }
     ensures extents_kept { OnErr result (extents.new.items ≡ extents.old.items) }
 {
     let begin = leaves.len();
-    leaves.extend_from_slice(fixed)?;
-    append_times(leaves, run, count)?;
+    leaves.extend_from_slice(added.fixed)?;
+    append_times(leaves, added.run, added.count)?;
     append_firsts(initials, classes, &leaves[begin..])?;
     extents.push(Extent {
         end: leaves.len(),
-        fixed: fixed.len(),
-        run: run.len(),
+        fixed: added.fixed.len(),
+        run: added.run.len(),
         dead: false,
     })?;
     Ok(())

@@ -5,8 +5,8 @@ use Rattle.code_check.proofs.control.cases.Given as goal
 
 abbrev pub invariant-each : goal.invariant-each
 invariant-each l = record {
-  left : first_unmet (case_demands l.tables l.body l.locals l.name l.left) ≡ first_unmet (case_demands l.tables l.body l.locals l.name l.fn.cases);
-  made : l.forms ++ cases_code l.tables l.body l.locals l.left ≡ cases_code l.tables l.body l.locals l.fn.cases;
+  left : first_unmet (case_demands l.scene.tables.now l.scene.body.now l.scene.locals.now l.name l.left) ≡ first_unmet (case_demands l.scene.tables.now l.scene.body.now l.scene.locals.now l.name l.fn.cases);
+  made : l.forms ++ cases_code l.scene.tables.now l.scene.body.now l.scene.locals.now l.left ≡ cases_code l.scene.tables.now l.scene.body.now l.scene.locals.now l.fn.cases;
 }
 
 abbrev pub decreases-each : goal.decreases-each

@@ -11,8 +11,8 @@ returns-then-precedes_next-clause-flags c = λ i.
     let log = reverse c.args.events.now in
     let n = length-reverse c.args.events.now in
     let s = c.requires.rows.size in
-    let precedes_it : precedes c.args.rule log c.args.k c.args.by.now c.args.next.now ≡ true = sym c.precedes_next.ensures ∙ c.if-precedes_next.true in
-    let other_row = c.index-rows-k.result in
-    let here : flag other_row i ≡ happens_before c.args.rule log i c.args.k =
-    ap (λ row. flag row i) (get_or_read c.args.rows.now c.args.k other_row (omega arith) c.index-rows-k.is []) ∙ c.requires.rows.right c.args.k i (omega arith) in
-    rw precedes_it (marked_joined c.args.row.now c.mark.new.self c.join.new.self other_row c.args.k i _ c.mark.ensures (omega arith) c.join.ensures.size c.join.ensures.flags here (λ later. before-not c.args.rule log i c.args.k (omega arith)))
+    let precedes_it : precedes c.args.rule log c.args.by.number c.args.by.event.now c.args.next.now ≡ true = sym c.precedes_next.ensures ∙ c.if-precedes_next.true in
+    let other_row = c.index-rows-by.result in
+    let here : flag other_row i ≡ happens_before c.args.rule log i c.args.by.number =
+    ap (λ row. flag row i) (get_or_read c.args.rows.now c.args.by.number other_row (omega arith) c.index-rows-by.is []) ∙ c.requires.rows.right c.args.by.number i (omega arith) in
+    rw precedes_it (marked_joined c.args.row.now c.mark.new.self c.join.new.self other_row c.args.by.number i _ c.mark.ensures (omega arith) c.join.ensures.size c.join.ensures.flags here (λ later. before-not c.args.rule log i c.args.by.number (omega arith)))

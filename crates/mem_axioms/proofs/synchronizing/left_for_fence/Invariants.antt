@@ -5,4 +5,4 @@ use Rattle.mem_axioms.proofs.synchronizing.left_for_fence.Given as goal
 
 abbrev pub invariant-loop-r : goal.invariant-loop-r
 invariant-loop-r l =
-    any_event (λ r er. nat_lt l.i r && (er.thread == l.next.thread) && released_to l.rule (reverse l.events) er l.i l.by) (reverse l.events) ≡ any_event (λ r er. nat_lt l.i r && (er.thread == l.next.thread) && released_to l.rule (reverse l.events) er l.i l.by) (reverse (take l.r l.events))
+    any_event (λ r er. nat_lt l.by.number r && (er.thread == l.next.thread) && released_to l.rule (reverse l.events) er l.by.number l.by.event.now) (reverse l.events) ≡ any_event (λ r er. nat_lt l.by.number r && (er.thread == l.next.thread) && released_to l.rule (reverse l.events) er l.by.number l.by.event.now) (reverse (take l.r l.events))

@@ -10,4 +10,4 @@ add-requires-clause-named c = rw c.index_mut.ensures.value (c.requires.named c.i
 
 pub returns-clause-added : goal.returns-clause-added
 returns-clause-added c =
-    added-at c.args.rule c.args.clocks.now c.add.new.clocks c.args.kept.now.items c.args.place c.args.number c.args.event.now c.args.given.now c.index_mut.result.now c.add.new.self (let l = c.requires.there in omega (arith, l)) c.index_mut.ensures.value c.add.ensures.added c.add.ensures.room
+    added-at c.args.rule c.args.clocks.now c.add.new.clocks c.args.kept.now.items c.args.place c.args.next.number c.args.next.event.now c.args.next.given.now c.index_mut.result.now c.add.new.self (let l = c.requires.there in omega (arith, l)) c.index_mut.ensures.value c.add.ensures.added c.add.ensures.room

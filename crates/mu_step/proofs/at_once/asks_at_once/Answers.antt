@@ -6,7 +6,7 @@ pub decide_at_once-requires-clause-there : goal.decide_at_once-requires-clause-t
 decide_at_once-requires-clause-there g c =
     asks_same c.args.code.now _ _ _ _ _ _ _
     (asks_at c.args.code.now _ _ _ _ _ _ c.state.view_is c.top-top.ensures c.requires.waits c.requires.there c.block-block.ensures c.as_slice.ensures c.index-as_slice-top.is)
-    c.index-as_slice-top.is c.as_slice-2.ensures c.of.ensures
+    c.index-as_slice-top.is c.as_slice-2.ensures c.of-vars.ensures
 
 pub decide_at_once-requires-clause-place : goal.decide_at_once-requires-clause-place
 decide_at_once-requires-clause-place g c =
@@ -18,4 +18,4 @@ pub returns-clause-act : goal.returns-clause-act
 returns-clause-act g c =
     asked_at_once c.args.code.now _ _ _ _ _ _ _ _
     (asks_at c.args.code.now _ _ _ _ _ _ c.state.view_is c.top-top.ensures c.requires.waits c.requires.there c.block-block.ensures c.as_slice.ensures c.index-as_slice-top.is)
-    c.index-as_slice-top.is c.as_slice-2.ensures c.of.ensures c.decide_at_once.ensures.act
+    c.index-as_slice-top.is c.as_slice-2.ensures c.of-vars.ensures c.decide_at_once.ensures.act

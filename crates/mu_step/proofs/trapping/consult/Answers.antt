@@ -1,4 +1,6 @@
-use Rattle.std.proofs.Common.{ap, sym, ◌∙◌}
+use Rattle.std.proofs.Common.{Some, ap, sym, ◌∙◌}
+use Rattle.frames.specs.Chains.{frames_of}
+use Rattle.mu_model.specs.Configuration.{Active}
 use Rattle.thread_acts.specs.Held.{Held}
 use Rattle.thread_acts.specs.Hand.{hand_within}
 use Rattle.mu_step.proofs.TrapViews.{wait_again, frames_back_again, shown_frames, shown_seats, shown_there, held_again, seen_so}
@@ -7,7 +9,9 @@ use Rattle.mu_step.proofs.trapping.consult.Goals as goal
 pub returns-clause-answer : goal.returns-clause-answer
 returns-clause-answer g c =
     seen_so c.ask-answer.result c.args.view.now.tables c.args.state.now _ c.args.view.now c.args.wait.now _ c.state.view_is c.requires.thread c.requires.asked c.exchange_on_top.ensures.frames
-    (c.ask-answer.ensures.answer c.exchange_on_top.new.frames (shown_there _ _ _ _ _ (hand_within _ _ _ _ _ c.state.invariant.5 (ap (λ (s : Held). s.left) c.state.view_is ∙ c.requires.left)) c.exchange.ensures.seats))
+    (c.ask-answer.ensures.answer c.exchange_on_top.new.frames
+    (shown_there _ _ _ _ _ (hand_within _ _ _ _ _ c.state.invariant.5 (ap (λ (s : Held). s.left) c.state.view_is ∙ c.requires.left)) c.exchange.ensures.seats
+    ∙ ap (λ i. Some (Active i (frames_of c.exchange_on_top.new.frames))) (ap (λ (s : Held). s.thread) c.state.view_is ∙ sym c.requires.thread)))
 
 pub returns-clause-same : goal.returns-clause-same
 returns-clause-same g c =

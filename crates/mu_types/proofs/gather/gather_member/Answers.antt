@@ -1,12 +1,12 @@
 use Rattle.std.proofs.Common.{◌∙◌, sym, subst, inl, inr, List}
 use Rattle.std.specs.List.{Contains}
 use Rattle.mu_types.specs.declared.edges.Edge.{Edge}
-use Rattle.mu_types.proofs.RowLemmas.{row_is}
+use Rattle.mu_types.proofs.RowLemmas.{row_at}
 use Rattle.mu_types.proofs.gather.gather_member.Goals as goal
 
 pub gather_one-requires : goal.gather_one-requires
 gather_one-requires c = λ e h.
-    let r = row_is c.args.preds.now c.args.y c.index-preds-y.result c.if-y-preds.true c.index-preds-y.is in
+    let r = row_at c.args.links.preds.now c.args.y c.index-links-y.result c.if-y-links.true in
     c.requires c.args.y e (subst (λ (xs : List Edge). Contains xs e) (sym (r ∙ sym c.deref.ensures.value)) h)
 
 pub returns-in_ok-gather_one-clause-sound : goal.returns-in_ok-gather_one-clause-sound

@@ -1,15 +1,18 @@
-use Rattle.std.proofs.Common.{arith, sym, subst, List, ℕ, Vec, Global}
-use Rattle.mu_types.specs.Rows.{lists}
-use Rattle.mu_types.specs.Blocks.{Listed}
-use Rattle.mu_types.specs.Leads.{IsForward}
+use Rattle.std.proofs.Common.{arith, sym, ◌∙◌, subst, List, ℕ, Vec, Global}
+use Rattle.mu_types.specs.Partitions.{AreFilled, AreLinked}
 use Rattle.mu_types.specs.declared.edges.Edge.{Edge}
+use Rattle.mu_types.proofs.Partitions.{none_filled}
 use Rattle.mu_types.proofs.refine.part_blocks.Goals as goal
-
-pub work_off-requires-clause-listed : goal.work_off-requires-clause-listed
-work_off-requires-clause-listed c = subst (λ (ps : List (Vec ℕ Global)). Listed c.args.block.now (lists ps)) (sym c.deref_mut.ensures.value) c.requires.listed
 
 pub predecessors-requires-clause-narrow : goal.predecessors-requires-clause-narrow
 predecessors-requires-clause-narrow c = λ x k y a. let w = c.requires.wide x k y a in let n = c.requires.narrow in omega (arith, w, n)
 
-pub work_off-requires-clause-forward : goal.work_off-requires-clause-forward
-work_off-requires-clause-forward c = subst (λ (ps : List (Vec Edge Global)). IsForward c.args.definitions.now (lists ps)) (sym c.deref.ensures.value) c.in_ok-preds.ensures.forward
+pub work_off-requires-clause-linked : goal.work_off-requires-clause-linked
+work_off-requires-clause-linked c = subst (λ (ps : List (Vec Edge Global)). AreLinked c.args.definitions.now ps) (sym c.deref.ensures.value)
+    (record { graph = c.requires.graph; back = c.in_ok-preds.ensures.back; forward = c.in_ok-preds.ensures.forward })
+
+pub work_off-requires-clause-filled : goal.work_off-requires-clause-filled
+work_off-requires-clause-filled c = subst (λ (ps : List (Vec ℕ Global)). AreFilled c.args.definitions.now ps) (sym c.deref_mut.ensures.value) (none_filled c.args.definitions.now c.args.buckets.items c.requires.empty)
+
+pub returns-clause-len : goal.returns-clause-len
+returns-clause-len c = c.work_off.new.partition.block.ok.0 ∙ c.in_ok-work_off.ensures.sized

@@ -7,8 +7,8 @@ use Rattle.step_forms.proofs.case_rows.arrive_by_row.Given as goal
 
 abbrev pub invariant-cases : goal.invariant-cases
 invariant-cases l = record {
-  same : switch_act (value_at l.code l.vars l.fn.operand) (goal_at l.code l.vars l.default) (map (arm_at l.code l.vars) l.cases) ≡
-      first_equal l.wanted (goal_at l.code l.vars l.default) (map (arm_at l.code l.vars) l.left);
+  same : switch_act (value_at l.code l.vars l.operands.operand) (goal_at l.code l.vars l.operands.default.now) (map (arm_at l.code l.vars) l.operands.cases.now) ≡
+      first_equal l.wanted (goal_at l.code l.vars l.operands.default.now) (map (arm_at l.code l.vars) l.left);
   row : l.halves ≡ map (case_half l.code) l.left;
 }
 

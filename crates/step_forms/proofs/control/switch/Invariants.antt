@@ -6,8 +6,8 @@ use Rattle.step_forms.proofs.control.switch.Given as goal
 
 abbrev pub invariant-cases : goal.invariant-cases
 invariant-cases l =
-    switch_act (value_at l.code l.vars l.fn.operand) (goal_at l.code l.vars l.default) (map (arm_at l.code l.vars) l.cases) ≡
-    first_equal l.wanted (goal_at l.code l.vars l.default) (map (arm_at l.code l.vars) l.left)
+    switch_act (value_at l.code l.vars l.operands.operand) (goal_at l.code l.vars l.operands.default.now) (map (arm_at l.code l.vars) l.operands.cases.now) ≡
+    first_equal l.wanted (goal_at l.code l.vars l.operands.default.now) (map (arm_at l.code l.vars) l.left)
 
 abbrev pub decreases-cases : goal.decreases-cases
 decreases-cases l = length l.left

@@ -10,7 +10,7 @@ append_firsts-requires-clause-leaves c =
     let old = c.args.leaves.now.items in
     let whole = c.append_times.new.leaves.items in
     let count : vec_len c.args.leaves.now ≡ length old = search rules in
-    let e : whole ≡ (old ++ c.args.fixed.now) ++ times c.args.count c.args.run.now = c.in_ok-append_times.ensures.ok ∙ rw c.in_ok-extend_from_slice.ensures.items refl in
-    let tail = added_tail old c.args.fixed.now (times c.args.count c.args.run.now) whole c.len-begin.result e (c.len-begin.ensures ∙ count) in
+    let e : whole ≡ (old ++ c.args.added.fixed.now) ++ times c.args.added.count c.args.added.run.now = c.in_ok-append_times.ensures.ok ∙ rw c.in_ok-extend_from_slice.ensures.items refl in
+    let tail = added_tail old c.args.added.fixed.now (times c.args.added.count c.args.added.run.now) whole c.len-begin.result e (c.len-begin.ensures ∙ count) in
     let P : List ℕ → Type 0 = λ xs. All (λ k. k < length c.args.classes.now.definitions) xs in
     rw c.deref.ensures.value (subst P (sym tail) c.requires.leaves)

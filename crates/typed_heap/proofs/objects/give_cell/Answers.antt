@@ -1,47 +1,41 @@
-use Rattle.std.proofs.Common.{◌≡◌, ℕ, ◌+◌, ◌++◌, [], ◌∷◌, Some, length, slice_get, sym, ap, subst, ◌∙◌, refl, rules}
-use Rattle.std.specs.Vec.{vec_len}
-use Rattle.std.proofs.lemmas.List.{length-set, length-append}
+use Rattle.std.proofs.Common.{◌≡◌, ◌+◌, ◌-◌, ◌++◌, ◌<◌, List, Some, length, map, take, drop, get_or, slice_get, sym, ap, ◌∙◌, arith}
+use Rattle.std.specs.Prelude.{slice_set}
+use Rattle.std.proofs.lemmas.List.{length-set, length-map}
 use Rattle.std.proofs.lemmas.Option.{slice_get-get_or}
+use Rattle.mu_types.proofs.Leads.{lent_back}
+use Rattle.mu_values.specs.declared.scalars.Scalar.{Scalar}
+use Rattle.mu_values.specs.declared.scalars.Scalar.TheVariants.{Null}
 use Rattle.typed_heap.specs.declared.objects.Initial.TheVariants as initials
-use Rattle.typed_heap.specs.Rows.{AreOwn}
-use Rattle.typed_heap.proofs.Firsts.{given_shown}
-use Rattle.typed_heap.proofs.Apart.{known_at, own_given, overwritten_shown}
+use Rattle.typed_heap.specs.Rows.{initial_of}
+use Rattle.typed_heap.proofs.Apart.{known_at, overwritten_shown}
+use Rattle.typed_heap.proofs.Filled.{replaced_one, put_one}
 use Rattle.typed_heap.proofs.objects.give_cell.Goals as goal
 
--- ---- a cell that was given a scalar
-
-pub index_mut-requires : goal.index_mut-requires
-index_mut-requires c =
-    let is = c.args.initials.now in
-    let here : slice_get is c.args.cell ≡ Some (initials.Given c.in-Given.number) = slice_get-get_or is c.args.cell _ c.requires.cell ∙ ap Some c.in-Given.is in
-    let count : vec_len c.args.given.now ≡ length c.args.given.now.items = search rules in
-    rw count (known_at (length c.args.given.now.items) is c.args.cell c.in-Given.number c.requires.own.known here)
-
-pub returns-in-Given-clause-own : goal.returns-in-Given-clause-own
-returns-in-Given-clause-own c = subst (λ (n : ℕ). AreOwn c.args.initials.now n) (sym (length-set c.args.given.now.items c.in-Given.number c.args.scalar)) c.requires.own
-
+-- a cell that was given a scalar
 pub returns-in-Given-clause-begins : goal.returns-in-Given-clause-begins
 returns-in-Given-clause-begins c =
     let is = c.args.initials.now in
     let gs = c.args.given.now.items in
-    let here : slice_get is c.args.cell ≡ Some (initials.Given c.in-Given.number) = slice_get-get_or is c.args.cell _ c.requires.cell ∙ ap Some c.in-Given.is in
-    overwritten_shown gs c.in-Given.number c.args.scalar is c.args.cell (known_at (length gs) is c.args.cell c.in-Given.number c.requires.own.known here) c.requires.own.apart here
+    let old = map (initial_of gs) is in
+    let n = c.in-Given.number in
+    let s = get_or c.args.scalar.now 0 Null in
+    let here : slice_get is c.args.cell ≡ Some (initials.Given n) = slice_get-get_or is c.args.cell _ c.requires.cell ∙ ap Some c.in-Given.is in
+    let low : n < length gs = known_at (length gs) is c.args.cell n c.requires.own.known here in
+    let more : List Scalar = c.copy_from_slice.new.self in
+    let lent : List Scalar = c.deref_mut.result.now in
+    let put : List Scalar = take n lent ++ (more ++ drop (n + 1 - n) (drop n lent)) in
+    let written : put ≡ slice_set gs n s = rw (c.deref_mut.ensures.value, c.copy_from_slice.ensures.after) (put_one gs c.args.scalar.now n (n + 1 - n) Null (omega arith) c.requires.one low) in
+    let long : length put ≡ c.args.given.now.len = ap (λ (xs : List Scalar). length xs) written ∙ length-set gs n s ∙ ap (λ (xs : List Scalar). length xs) (sym c.deref_mut.ensures.value) ∙ c.deref_mut.ensures.len in
+    let back : take c.args.given.now.len (put ++ drop (length put) gs) ≡ slice_set gs n s = lent_back put gs c.args.given.now.len long ∙ written in
+    let within : c.args.cell < length old = omega (arith, length-map is (initial_of gs), c.requires.cell) in
+    ap (λ (xs : List Scalar). map (initial_of xs) is) back
+    ∙ overwritten_shown gs n s is c.args.cell low c.requires.own.apart here
+    ∙ sym (replaced_one old c.args.cell c.args.scalar.now Null c.requires.one within)
 
--- ---- another one
-
-pub returns-in-Null-clause-own : goal.returns-in-Null-clause-own
-returns-in-Null-clause-own c =
-    let gs = c.args.given.now.items in
-    let count : vec_len c.args.given.now ≡ length gs = search rules in
-    let items : c.push.new.self.items ≡ gs ++ c.args.scalar ∷ [] = c.push.ensures.items ∙ rw c.unwrap.ensures refl in
-    let number : c.len-number.result ≡ length gs = c.len-number.ensures ∙ count in
-    let long : length (gs ++ c.args.scalar ∷ []) ≡ length gs + 1 = length-append gs (c.args.scalar ∷ []) in
-    rw (items, number, long) (own_given (length gs) c.args.initials.now c.args.cell c.requires.own)
-
+-- another one
 pub returns-in-Null-clause-begins : goal.returns-in-Null-clause-begins
 returns-in-Null-clause-begins c =
+    let is = c.args.initials.now in
     let gs = c.args.given.now.items in
-    let count : vec_len c.args.given.now ≡ length gs = search rules in
-    let items : c.push.new.self.items ≡ gs ++ c.args.scalar ∷ [] = c.push.ensures.items ∙ rw c.unwrap.ensures refl in
-    let number : c.len-number.result ≡ length gs = c.len-number.ensures ∙ count in
-    rw (items, number) (given_shown gs c.args.scalar c.args.initials.now c.args.cell c.requires.own.known)
+    let within : c.args.cell < length (map (initial_of gs) is) = omega (arith, length-map is (initial_of gs), c.requires.cell) in
+    c.give_first.ensures.begins ∙ sym (replaced_one (map (initial_of gs) is) c.args.cell c.args.scalar.now _ c.requires.one within)

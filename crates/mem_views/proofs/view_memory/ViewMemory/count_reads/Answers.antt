@@ -7,7 +7,7 @@ use Rattle.mem_views.proofs.view_memory.ViewMemory.count_reads.Goals as goal
 pub overflow_sub-result : goal.overflow_sub-result
 overflow_sub-result g c =
     let memory = c.args.self.now in
-    let low = floor-low memory.rule (initial_of memory.objects.values) memory.tape.events c.args.thread c.args.cell c.args.order memory.log_holds.sound.axioms in
+    let low = floor-low memory.rule (initial_of memory.objects.values) memory.tape.events c.args.read.thread c.args.read.cell c.args.read.order memory.log_holds.sound.axioms in
     let floor = c.floor-floor.ensures.floor in
     let newest = c.newest-newest.ensures.newest in
     omega (arith, low, floor, newest)
@@ -15,7 +15,7 @@ overflow_sub-result g c =
 pub count_differing-requires-clause-floor : goal.count_differing-requires-clause-floor
 count_differing-requires-clause-floor g c =
     let memory = c.args.self.now in
-    let low = floor-low memory.rule (initial_of memory.objects.values) memory.tape.events c.args.thread c.args.cell c.args.order memory.log_holds.sound.axioms in
+    let low = floor-low memory.rule (initial_of memory.objects.values) memory.tape.events c.args.read.thread c.args.read.cell c.args.read.order memory.log_holds.sound.axioms in
     let floor = c.floor-floor.ensures.floor in
     let newest = c.newest-newest.ensures.newest in
     omega (arith, low, floor, newest)
@@ -24,8 +24,8 @@ pub returns-in-None-clause-count : goal.returns-in-None-clause-count
 returns-in-None-clause-count g c =
     let memory = c.args.self.now in
     let initial = initial_of memory.objects.values in
-    let low = floor-low memory.rule initial memory.tape.events c.args.thread c.args.cell c.args.order memory.log_holds.sound.axioms in
-    let count = reads-count memory.rule initial memory.tape.events c.args.thread c.args.cell c.args.order memory.log_holds.sound.axioms in
+    let low = floor-low memory.rule initial memory.tape.events c.args.read.thread c.args.read.cell c.args.read.order memory.log_holds.sound.axioms in
+    let count = reads-count memory.rule initial memory.tape.events c.args.read.thread c.args.read.cell c.args.read.order memory.log_holds.sound.axioms in
     let floor = c.floor-floor.ensures.floor in
     let newest = c.newest-newest.ensures.newest in
     rw c.in-None.is (omega (arith, low, count, floor, newest))
@@ -35,7 +35,7 @@ returns-in-Some-clause-count g c =
     let memory = c.args.self.now in
     let initial = initial_of memory.objects.values in
     rw c.in-Some.is ((rw (c.floor-floor.ensures.floor, c.newest-newest.ensures.newest) at c.count_differing.ensures.count)
-    ∙ sym (ap (λ (positions : List ℕ). length positions) (reads-differing memory.rule initial memory.tape.events c.args.thread c.args.cell c.args.order memory.log_holds.sound.axioms c.in-Some.scalar)))
+    ∙ sym (ap (λ (positions : List ℕ). length positions) (reads-differing memory.rule initial memory.tape.events c.args.read.thread c.args.read.cell c.args.read.order memory.log_holds.sound.axioms c.in-Some.scalar)))
 
 pub returns-in-Some-clause-cost : goal.returns-in-Some-clause-cost
 returns-in-Some-clause-cost g c d l =

@@ -9,10 +9,10 @@ pub loop-low-init : goal.loop-low-init
 loop-low-init g c =
     let memory = c.args.self.now in
     let initial = initial_of memory.objects.values in
-    let none = ap (λ (positions : List ℕ). length positions) (below-floor initial memory.tape.events c.args.cell c.args.floor c.args.scalar) in
+    let none = ap (λ (positions : List ℕ). length positions) (below-floor initial memory.tape.events c.args.others.cell c.args.others.floor c.args.others.scalar) in
     let all = c.count_differing-all.ensures.count in
     let r = c.requires in
-    let few = newest-few memory.tape.events c.args.cell in
+    let few = newest-few memory.tape.events c.args.others.cell in
     record {
       from = omega arith;
       order = omega (arith, r.floor);
@@ -63,7 +63,7 @@ loop-low-preserved g c =
 pub returns-clause-nth : goal.returns-clause-nth
 returns-clause-nth g c =
     let memory = c.args.self.now in
-    let test = differs_from (initial_of memory.objects.values) memory.tape.events c.args.cell c.args.floor c.args.scalar in
+    let test = differs_from (initial_of memory.objects.values) memory.tape.events c.args.others.cell c.args.others.floor c.args.others.scalar in
     let i = c.loop-low.invariant in
     let t = c.loop-low-test.false in
     let next : c.loop-low.high ≡ suc c.loop-low.low = omega (arith, t, i.order) in

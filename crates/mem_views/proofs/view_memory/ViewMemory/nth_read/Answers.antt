@@ -6,7 +6,7 @@ use Rattle.mem_views.proofs.view_memory.ViewMemory.nth_read.Goals as goal
 pub overflow_sub-result : goal.overflow_sub-result
 overflow_sub-result g c =
     let memory = c.args.self.now in
-    let count = reads-count memory.rule (initial_of memory.objects.values) memory.tape.events c.args.thread c.args.cell c.args.order memory.log_holds.sound.axioms in
+    let count = reads-count memory.rule (initial_of memory.objects.values) memory.tape.events c.args.read.thread c.args.read.cell c.args.read.order memory.log_holds.sound.axioms in
     let n = rw c.in-None.is at c.requires.n in
     let newest = c.newest-newest.ensures.newest in
     omega (arith, count, n, newest)
@@ -14,7 +14,7 @@ overflow_sub-result g c =
 pub nth_differing-requires-clause-floor : goal.nth_differing-requires-clause-floor
 nth_differing-requires-clause-floor g c =
     let memory = c.args.self.now in
-    let low = floor-low memory.rule (initial_of memory.objects.values) memory.tape.events c.args.thread c.args.cell c.args.order memory.log_holds.sound.axioms in
+    let low = floor-low memory.rule (initial_of memory.objects.values) memory.tape.events c.args.read.thread c.args.read.cell c.args.read.order memory.log_holds.sound.axioms in
     let floor = c.floor-floor.ensures.floor in
     let newest = c.newest-newest.ensures.newest in
     omega (arith, low, floor, newest)
@@ -22,7 +22,7 @@ nth_differing-requires-clause-floor g c =
 pub nth_differing-requires-clause-n : goal.nth_differing-requires-clause-n
 nth_differing-requires-clause-n g c =
     let memory = c.args.self.now in
-    let all = reads-differing memory.rule (initial_of memory.objects.values) memory.tape.events c.args.thread c.args.cell c.args.order memory.log_holds.sound.axioms c.in-Some.scalar in
+    let all = reads-differing memory.rule (initial_of memory.objects.values) memory.tape.events c.args.read.thread c.args.read.cell c.args.read.order memory.log_holds.sound.axioms c.in-Some.scalar in
     let n = rw c.in-Some.is at c.requires.n in
     let m = rw all at n in
     rw (c.floor-floor.ensures.floor, c.newest-newest.ensures.newest) m
@@ -30,13 +30,13 @@ nth_differing-requires-clause-n g c =
 pub returns-in-None-clause-nth : goal.returns-in-None-clause-nth
 returns-in-None-clause-nth g c =
     let memory = c.args.self.now in
-    let nth = reads-nth memory.rule (initial_of memory.objects.values) memory.tape.events c.args.thread c.args.cell c.args.order memory.log_holds.sound.axioms c.args.n (rw c.in-None.is at c.requires.n) in
+    let nth = reads-nth memory.rule (initial_of memory.objects.values) memory.tape.events c.args.read.thread c.args.read.cell c.args.read.order memory.log_holds.sound.axioms c.args.n (rw c.in-None.is at c.requires.n) in
     rw c.in-None.is (nth ∙ ap (λ (newest : ℕ). Some (newest - c.args.n)) (sym c.newest-newest.ensures.newest))
 
 pub returns-in-Some-clause-nth : goal.returns-in-Some-clause-nth
 returns-in-Some-clause-nth g c =
     let memory = c.args.self.now in
-    let all = reads-differing memory.rule (initial_of memory.objects.values) memory.tape.events c.args.thread c.args.cell c.args.order memory.log_holds.sound.axioms c.in-Some.scalar in
+    let all = reads-differing memory.rule (initial_of memory.objects.values) memory.tape.events c.args.read.thread c.args.read.cell c.args.read.order memory.log_holds.sound.axioms c.in-Some.scalar in
     rw c.in-Some.is (ap (λ (positions : List ℕ). slice_get positions c.args.n) all ∙ (rw (c.floor-floor.ensures.floor, c.newest-newest.ensures.newest) at c.nth_differing.ensures.nth))
 
 pub returns-in-Some-clause-cost : goal.returns-in-Some-clause-cost

@@ -59,7 +59,7 @@ read_chosen-requires-in-Compare-clause-n g c =
     let n = rw c.in-Compare.is at c.requires.n in
     let succeeds = sym c.may_succeed.ensures.may ∙ c.if-not-may_succeed.false in
     let count = count-success memory.rule (initial_of memory.objects.values) (memory.tape.events) c.args.thread c.args.cell c.in-Compare.success c.in-Compare.failure c.in-Compare.expected c.in-Compare.weak succeeds in
-    rw c.excluded-in-Compare.ensures (omega (arith, n, count))
+    rw c.excluded.ensures (omega (arith, n, count))
 
 pub returns-else-n-eq0-clause-chosen : goal.returns-else-n-eq0-clause-chosen
 returns-else-n-eq0-clause-chosen g c =
@@ -68,4 +68,4 @@ returns-else-n-eq0-clause-chosen g c =
     let initial = initial_of memory.objects.values in
     let succeeds = sym c.may_succeed.ensures.may ∙ c.if-not-may_succeed.false in
     rw c.in-Compare.is (nth-after memory.rule initial log c.args.thread c.args.cell c.in-Compare.success c.in-Compare.failure c.in-Compare.expected c.in-Compare.weak c.args.n succeeds (omega arith)
-    ∙ (ap (λ (excluded : Option Scalar). slice_get (map (chosen_at initial log c.args.cell false) (reads memory.rule initial log c.args.thread c.args.cell c.in-Compare.failure excluded)) (c.args.n - 1)) (sym c.excluded-in-Compare.ensures) ∙ c.read_chosen-in-Compare.ensures.chosen))
+    ∙ (ap (λ (excluded : Option Scalar). slice_get (map (chosen_at initial log c.args.cell false) (reads memory.rule initial log c.args.thread c.args.cell c.in-Compare.failure excluded)) (c.args.n - 1)) (sym c.excluded.ensures) ∙ c.read_chosen-in-Compare.ensures.chosen))
