@@ -26,6 +26,7 @@ form_use g _ = none
 abbrev pub literal_use : Names Sort → Literal → Demands NameKind
 literal_use g (literals.Number n) = none
 literal_use g (literals.Null place) = none
+-- { G* }
 literal_use g (literals.Members place ns) = each (constant_use g) ns
 
 abbrev pub item_use : Names Sort → Item → Demands NameKind

@@ -14,7 +14,7 @@ use Rattle.bundle_names.specs.Uses.{type_uses, operand_use, destination_use, exc
 abbrev pub trapping_use : Names Sort → FunctionNames → Trapping → Demands NameKind
 -- TRAP < T* > exc? keep?
 trapping_use g f (trappings.Trap ts e k) = type_uses g ts ⨾ exception_use g f e ⨾ keepalive_use f k
--- WATCHPOINT n < T* > dest dest wpexc? keep?
+-- WATCHPOINT n < T* > dest dest wpexc? keep?, with wpexc = WPEXC ( dest )
 trapping_use g f (trappings.Watchpoint n ts d e x k) =
     type_uses g ts ⨾ destination_use g f d ⨾ destination_use g f e ⨾ option_map_or (destination_use g f) x none ⨾ keepalive_use f k
 -- WPBRANCH n dest dest
@@ -25,6 +25,6 @@ abbrev pub switch_use : Names Sort → FunctionNames → StackSwitch → Demands
 switch_use g f (switches.SwapReturning s ts n e k) = operand_use g f s ⨾ type_uses g ts ⨾ entered_use g f n ⨾ exception_use g f e ⨾ keepalive_use f k
 -- SWAPSTACK s KILL_OLD new
 switch_use g f (switches.SwapKilling s n) = operand_use g f s ⨾ entered_use g f n
--- NEWTHREAD s tl? new exc?
+-- NEWTHREAD s tl? new exc?, with tl = THREADLOCAL ( value )
 switch_use g f (switches.Newthread s tl n e) =
     operand_use g f s ⨾ option_map_or (operand_use g f) tl none ⨾ entered_use g f n ⨾ exception_use g f e

@@ -11,6 +11,7 @@ use Rattle.bundle_names.specs.declared.globals.Sort.TheVariants as sorts
 use Rattle.bundle_names.specs.declared.globals.Globals.{Globals}
 use Rattle.bundle_names.specs.Globals.{with_item, with_items, no_globals, globals_of}
 use Rattle.bundle_names.specs.Naming.{name_demands}
+use Rattle.bundle_names.specs.Uses.{is_operand}
 use Rattle.check_tables.specs.Lookups.{global_class, funcref_of, signature_in}
 use Rattle.bundle_tables.specs.Graph.{table_of}
 use Rattle.bundle_tables.specs.Entries.{tables_of, constant_entries, global_entries, function_entries, defined_signatures, is_function}
@@ -22,7 +23,6 @@ use Rattle.mu_model.specs.Operands.{global_value}
 use Rattle.bundle_facts.proofs.Names.{IsLow, names_low, stands, added_own}
 use Rattle.bundle_facts.proofs.Functions.{are_linked}
 use Rattle.bundle_facts.proofs.Constants.{constant_fits}
-use Rattle.client_script.specs.Told.{is_value}
 use Rattle.client_script.specs.Laws.{ValuesAreTold}
 
 there : {T : Type 0} (xs : List T) (n : ℕ) → n < length xs → (x : T) × (slice_get xs n ≡ Some x)
@@ -116,7 +116,7 @@ told_of bundle o = with_some (global_class (bundle_tables bundle) o) (λ c. with
 abbrev told_sort : List Item → Option Sort → Bool
 told_sort bundle o = is_some (told_of bundle o)
 
-told_by : (bundle : List Item) → first_unmet (name_demands bundle) ≡ None → first_unmet (check_demands bundle) ≡ None → (name : List ℕ) (o : Option Sort) → found (globals_of bundle).names name ≡ o → told_sort bundle o ≡ is_value o
+told_by : (bundle : List Item) → first_unmet (name_demands bundle) ≡ None → first_unmet (check_demands bundle) ≡ None → (name : List ℕ) (o : Option Sort) → found (globals_of bundle).names name ≡ o → told_sort bundle o ≡ is_operand o
 unfolding tables_of Says
 told_by bundle named checked name None e = refl
 told_by bundle named checked name (Some (sorts.Written n)) e = refl

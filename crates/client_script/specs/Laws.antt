@@ -7,9 +7,9 @@ use Rattle.text_forms.specs.Texts.{IsGrammar}
 use Rattle.ir_tree.specs.declared.items.Item.{Item}
 use Rattle.bundle_names.specs.Globals.{globals_of}
 use Rattle.bundle_names.specs.Naming.{name_demands}
+use Rattle.bundle_names.specs.Uses.{is_operand}
 use Rattle.bundle_check.specs.Checking.{check_demands}
 use Rattle.mu_model.specs.Answers.{global_told}
-use Rattle.client_script.specs.Told.{is_value}
 use Rattle.client_script.specs.Grammar.{script}
 
 -- the next token always decides how a script goes on
@@ -18,4 +18,4 @@ ScriptIsGrammar = (bundle : List Item) → IsGrammar (script bundle)
 
 -- in a bundle that is accepted the names that may stand in a script are those that have a class and a value
 abbrev pub ValuesAreTold : Type 0
-ValuesAreTold = (bundle : List Item) → first_unmet (name_demands bundle) ≡ None → first_unmet (check_demands bundle) ≡ None → (n : Name) → is_some (global_told bundle n) ≡ is_value (found (globals_of bundle).names n.text)
+ValuesAreTold = (bundle : List Item) → first_unmet (name_demands bundle) ≡ None → first_unmet (check_demands bundle) ≡ None → (n : Name) → is_some (global_told bundle n) ≡ is_operand (found (globals_of bundle).names n.text)

@@ -1,20 +1,11 @@
 -- To believe: what the global names of a script stand for.
-use Rattle.std.specs.Prelude.{Bool, true, false, List, [], Option, Some, None}
+use Rattle.std.specs.Prelude.{List, [], Option, Some, None}
 use Rattle.ir_lex.specs.declared.name.Name.{Name}
 use Rattle.ir_tree.specs.declared.items.Item.{Item}
-use Rattle.bundle_names.specs.declared.globals.Sort.{Sort}
-use Rattle.bundle_names.specs.declared.globals.Sort.TheVariants as sorts
 use Rattle.mu_model.specs.Clients.{Classed}
 use Rattle.mu_model.specs.Answers.{global_told}
 use Rattle.client_script.specs.declared.tree.Argument.{Argument}
 use Rattle.client_script.specs.declared.tree.Argument.TheVariants as arguments
-
--- a constant, a global or a function
-abbrev pub is_value : Option Sort → Bool
-is_value (Some (sorts.Constant n)) = true
-is_value (Some (sorts.GlobalCell n)) = true
-is_value (Some (sorts.Function n)) = true
-is_value _ = false
 
 -- a value with its class. A name that stands for none is refused, and no scalars stand for it
 abbrev pub told_as : Option Classed → Argument

@@ -6,8 +6,8 @@ ghost use Rattle.demands.specs.Names.{found};
 ghost use Rattle.demands.specs.Demands.{demand, Meets};
 ghost use Rattle.ir_lex.specs.Walk.{tokens_from};
 ghost use Rattle.ir_lex.specs.Scanner.{number_of};
+ghost use Rattle.bundle_names.specs.Uses.{is_operand};
 ghost use Rattle.client_script.specs.Numbers.{is_count};
-ghost use Rattle.client_script.specs.Told.{is_value};
 ghost use Rattle.client_script.specs.declared.fault.ScriptKind.TheVariants.{Text, Unknown};
 ghost use Rattle.text_forms.specs.declared.fault.FaultKind.TheVariants as kinds;
 ghost use Rattle.client_script.specs.Demands.{token_demand, token_demands};
@@ -30,8 +30,8 @@ const LAST: [Symbol; 5] = [
 ];
 
 /// Whether a name is that of a constant, a global or a function.
-fn is_value(sort: Option<Sort>) -> bool
-    ensures { result ≡ is_value sort }
+fn is_operand(sort: Option<Sort>) -> bool
+    ensures { result ≡ is_operand sort }
 {
     matches!(
         sort,
@@ -68,10 +68,10 @@ fn judge_number(cursor: &Cursor) -> Result<(), ScriptFault>
 
 /// A global name.
 fn judge_global(names: &Scope<Sort>, cursor: &Cursor) -> Result<(), ScriptFault>
-    ensures { Meets (demand (first cursor.now).place Unknown (is_value (found names.now (first cursor.now).spelling))) result }
+    ensures { Meets (demand (first cursor.now).place Unknown (is_operand (found names.now (first cursor.now).spelling))) result }
 {
     let sort = names.find(cursor.spelling()).copied();
-    meet(ScriptKind::Unknown, cursor.place(), is_value(sort))
+    meet(ScriptKind::Unknown, cursor.place(), is_operand(sort))
 }
 
 /// A token.

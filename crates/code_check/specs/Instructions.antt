@@ -105,7 +105,7 @@ keepalive_of _ = None
 
 -- ---- endings
 
--- these end their block, and so does every instruction with EXC
+-- these end their block, SWAPSTACK with KILL_OLD and @uvm.thread_exit among them, and so does every instruction with EXC
 abbrev pub is_ending : Op → Bool
 is_ending (ops.ControlFlow (flows.Branch d)) = true
 is_ending (ops.ControlFlow (flows.Branch2 c d e)) = true

@@ -1,4 +1,4 @@
--- To believe: operands and lists of arguments: their demands, and where their values come from.
+-- To believe: operands, lists of arguments, types, and variables that are kept: their demands, and where values come from.
 use Rattle.std.specs.Prelude.{ℕ, Bool, true, false, List, [], ◌∷◌, Option, Some, None, is_some, option_map, unwrap_or, map, nat_eq, length}
 use Rattle.demands.specs.Demands.{Demands, none, demand, ◌⨾◌}
 use Rattle.demands.specs.Names.{found}
@@ -90,6 +90,7 @@ noted_list p ns = map (noted_class p) ns
 
 -- ---- variables that are kept
 
+-- KEEPALIVE ( L* ): variables of any type
 abbrev pub variable_demands : Locals → List Name → Demands CheckKind
 variable_demands ls [] = none
 variable_demands ls (n ∷ ns) = demand n.place NotLocal (is_some (found ls.names n.text)) ⨾ variable_demands ls ns

@@ -83,7 +83,7 @@ fn updates_type(tables: &Tables, op: UpdateOp, name: &Name) -> bool
 
 /// The place that an instruction accesses.
 #[derive(Clone, Copy)]
-struct Place<'a> {
+struct Accessed<'a> {
     /// The type of what is there.
     of_type: &'a Name,
     /// The reference to the place.
@@ -102,6 +102,7 @@ struct Comparison {
 }
 
 impl Comparison {
+    /// A comparison with these orders.
     fn new(weak: bool, success: WrittenOrder, failure: WrittenOrder) -> Comparison
         ensures { result ≡ record { weak = weak; success = success; failure = failure } }
     {
@@ -117,7 +118,7 @@ fn load(
     tables: &Tables,
     locals: &Locals,
     given: WrittenOrder,
-    place: Place,
+    place: Accessed,
 ) -> Result<AccessForm, CheckFault>
     ensures { Judges (access_demands tables.now locals.now (accesses.Load given place.entry.of_type.now place.entry.location.now None)) (access_code tables.now locals.now (accesses.Load given place.entry.of_type.now place.entry.location.now None)) result }
 {
@@ -135,7 +136,7 @@ fn store(
     tables: &Tables,
     locals: &Locals,
     given: WrittenOrder,
-    place: Place,
+    place: Accessed,
     value: &Operand,
 ) -> Result<AccessForm, CheckFault>
     ensures { Judges (access_demands tables.now locals.now (accesses.Store given place.entry.of_type.now place.entry.location.now value.now None)) (access_code tables.now locals.now (accesses.Store given place.entry.of_type.now place.entry.location.now value.now None)) result }
@@ -156,7 +157,7 @@ fn cmpxchg(
     tables: &Tables,
     locals: &Locals,
     comparison: Comparison,
-    place: Place,
+    place: Accessed,
     expected: &Operand,
     desired: &Operand,
 ) -> Result<AccessForm, CheckFault>
@@ -184,7 +185,7 @@ fn atomicrmw(
     locals: &Locals,
     given: WrittenOrder,
     op: UpdateOp,
-    place: Place,
+    place: Accessed,
     operand: &Operand,
 ) -> Result<AccessForm, CheckFault>
     ensures { Judges (access_demands tables.now locals.now (accesses.Atomicrmw given op place.entry.of_type.now place.entry.location.now operand.now None)) (access_code tables.now locals.now (accesses.Atomicrmw given op place.entry.of_type.now place.entry.location.now operand.now None)) result }
@@ -220,14 +221,20 @@ pub fn access(tables: &Tables, locals: &Locals, access: &Access) -> Result<Acces
             of_type,
             location,
             ..
-        } => load(tables, locals, *order, Place { of_type, location }),
+        } => load(tables, locals, *order, Accessed { of_type, location }),
         Access::Store {
             order,
             of_type,
             location,
             value,
             ..
-        } => store(tables, locals, *order, Place { of_type, location }, value),
+        } => store(
+            tables,
+            locals,
+            *order,
+            Accessed { of_type, location },
+            value,
+        ),
         Access::Cmpxchg {
             weak,
             success,
@@ -239,7 +246,7 @@ pub fn access(tables: &Tables, locals: &Locals, access: &Access) -> Result<Acces
             ..
         } => {
             let comparison = Comparison::new(*weak, *success, *failure);
-            let place = Place { of_type, location };
+            let place = Accessed { of_type, location };
             cmpxchg(tables, locals, comparison, place, expected, desired)
         }
         Access::Atomicrmw {
@@ -250,7 +257,7 @@ pub fn access(tables: &Tables, locals: &Locals, access: &Access) -> Result<Acces
             operand,
             ..
         } => {
-            let place = Place { of_type, location };
+            let place = Accessed { of_type, location };
             atomicrmw(tables, locals, *order, *op, place, operand)
         }
         Access::Fence { order } => fence(*order),

@@ -10,33 +10,24 @@ use Rattle.ir_lex.specs.Scanner.{number_of}
 use Rattle.ir_tree.specs.Lists.{globals}
 use Rattle.bundle_names.specs.declared.globals.Sort.{Sort}
 use Rattle.bundle_names.specs.declared.globals.Sort.TheVariants as sorts
+use Rattle.bundle_names.specs.Uses.{is_type, is_operand}
 use Rattle.text_forms.specs.declared.fault.FaultKind.TheVariants as kinds
 use Rattle.hail_load.specs.declared.fault.HailKind.{HailKind}
 use Rattle.hail_load.specs.declared.fault.HailKind.TheVariants.{Text, Unknown, Duplicate}
 
 -- ---- what a global name has to stand for
 
-abbrev pub is_type : Option Sort → Bool
-is_type (Some (sorts.Written n)) = true
-is_type _ = false
-
 abbrev pub is_global : Option Sort → Bool
 is_global (Some (sorts.GlobalCell n)) = true
 is_global _ = false
 
--- a constant, a global or a function
-abbrev pub is_source : Option Sort → Bool
-is_source (Some (sorts.Constant n)) = true
-is_source (Some (sorts.GlobalCell n)) = true
-is_source (Some (sorts.Function n)) = true
-is_source _ = false
-
--- behind `<` stands a type, behind `.init` and `&` a global that a target begins with, and elsewhere a source
+-- behind `<` stands a type, behind `.init` and `&` a global that a target begins with, and elsewhere what an operand may be: a constant, a
+-- global or a function
 abbrev pub global_fits : Symbol → Option Sort → Bool
 global_fits symbols.Less s = is_type s
 global_fits symbols.DotInit s = is_global s
 global_fits symbols.Ampersand s = is_global s
-global_fits _ s = is_source s
+global_fits _ s = is_operand s
 
 -- ---- objects: the names that were given so far
 

@@ -1,5 +1,5 @@
 -- The entries of a client's script that is accepted tell values that fit.
-use Rattle.std.proofs.Common.{◌≡◌, ℕ, Bool, true, false, List, [], ◌∷◌, ◌++◌, None, Result, Ok, Err, if◌then◌else◌, refl, sym, ◌∙◌, subst, inl, inr}
+use Rattle.std.proofs.Common.{◌≡◌, ℕ, Bool, true, false, List, [], ◌∷◌, ◌++◌, None, Result, Ok, Err, if◌then◌else◌, refl, sym, subst, inl, inr}
 use Rattle.std.specs.List.{All}
 use Rattle.std.proofs.lemmas.List.Elements.{All-nil, All-cons, All-map}
 use Rattle.text_forms.specs.declared.symbol.Symbol.{Symbol}
@@ -22,6 +22,7 @@ use Rattle.ir_tree.specs.Lists.{globals, global}
 use Rattle.bundle_names.specs.declared.globals.Sort.{Sort}
 use Rattle.bundle_names.specs.Globals.{globals_of}
 use Rattle.bundle_names.specs.Naming.{name_demands}
+use Rattle.bundle_names.specs.Uses.{is_operand}
 use Rattle.bundle_check.specs.Checking.{bundle_tables, check_demands}
 use Rattle.typed_heap.specs.Fits.{World}
 use Rattle.mu_model.specs.Types.{type_graph}
@@ -36,7 +37,7 @@ use Rattle.client_script.specs.declared.tree.With.TheVariants as ways
 use Rattle.client_script.specs.declared.tree.Reply.{Reply}
 use Rattle.client_script.specs.declared.tree.Reply.TheVariants as replies
 use Rattle.client_script.specs.declared.tree.Entry.{Entry}
-use Rattle.client_script.specs.Told.{is_value, told}
+use Rattle.client_script.specs.Told.{told}
 use Rattle.client_script.specs.Demands.{token_demands}
 use Rattle.client_script.specs.Grammar.{kept_value, argument, action, pass, way, rebind, reply, inside, entry, script}
 use Rattle.client_script.specs.Meaning.{argument_meant, way_meant, reply_meant, entry_meant, entries_meant}
@@ -74,11 +75,11 @@ abbrev Gives : {A : Type 0} → Names Sort → (A → Type 0) → Form A → Typ
 Gives {A = A} known P f = (ts : List Tok) (x : A) → Good known ts → Derives f ts x → P x
 
 module _ (known : Names Sort) where
-  named_gives : Gives known (λ (n : Name). is_value (found known n.text) ≡ true) global
+  named_gives : Gives known (λ (n : Name). is_operand (found known n.text) ≡ true) global
   unfolding global name
   named_gives ts n good d =
       let here : Good known (d.0 ∷ []) = subst (Good known) d.1.0 good in
-      subst (λ (n : Name). is_value (found known n.text) ≡ true) (sym d.2) (met_name _ _ d.0.place _ _ (no_number d.0.symbol d.1.1) d.1.1 here.0)
+      subst (λ (n : Name). is_operand (found known n.text) ≡ true) (sym d.2) (met_name _ _ d.0.place _ _ (no_number d.0.symbol d.1.1) d.1.1 here.0)
 
   of_made : {A B : Type 0} (P : A → Type 0) (Q : B → Type 0) (h : A → B) (f : Form A) → ((a : A) → P a → Q (h a)) → Gives known P f → Gives known Q (made h f)
   of_made P Q h f more give ts x good d = subst Q (sym d.2) (more d.0 (give ts d.0 good d.1))
@@ -142,7 +143,7 @@ module _ (bundle : List Item) (names : first_unmet (name_demands bundle) ≡ Non
   unfolding argument
   argument_gives =
       of_either known IsGood (symbols.Kept ∷ []) kept_value (made (told bundle) global) kept_gives
-      (of_made known (λ (n : Name). is_value (found known n.text) ≡ true) IsGood (told bundle) global (λ n is. told_fits bundle names checked w told_globals n is) (named_gives known))
+      (of_made known (λ (n : Name). is_operand (found known n.text) ≡ true) IsGood (told bundle) global (λ n is. told_fits bundle names checked w told_globals n is) (named_gives known))
 
   pass_gives : Gives known IsGoodWay (pass bundle)
   unfolding pass

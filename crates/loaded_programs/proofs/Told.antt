@@ -8,6 +8,7 @@ use Rattle.bundle_names.specs.declared.globals.Sort.{Sort}
 use Rattle.bundle_names.specs.declared.globals.Sort.TheVariants as sorts
 use Rattle.bundle_names.specs.Globals.{globals_of}
 use Rattle.bundle_names.specs.Naming.{name_demands}
+use Rattle.bundle_names.specs.Uses.{is_operand}
 use Rattle.check_tables.specs.Lookups.{global_class, class_of_global}
 use Rattle.bundle_tables.specs.Entries.{tables_of}
 use Rattle.bundle_check.specs.Checking.{bundle_tables, check_demands}
@@ -24,7 +25,7 @@ use Rattle.mu_model.specs.Answers.{global_told}
 use Rattle.model_laws.specs.Values.{HasGlobals}
 use Rattle.model_laws.specs.ClientsFit.{ArgumentFits}
 use Rattle.model_numbers.specs.Sources.{value_at}
-use Rattle.client_script.specs.Told.{is_value, told_as, told}
+use Rattle.client_script.specs.Told.{told_as, told}
 use Rattle.client_script.specs.Meaning.{argument_meant}
 use Rattle.client_script.proofs.Partial.{there}
 use Rattle.client_script.proofs.ToldValues.{values_are_told}
@@ -54,7 +55,7 @@ module _ (bundle : List Item) (names : first_unmet (name_demands bundle) ≡ Non
       let same : (class.0, value.0) ≡ v = (let e = value.2 in cc) in
       subst (λ (x : Classed). ValueFits (type_graph (bundle_tables bundle)) w x.0 x.1) same (sort_fits (found (globals_of bundle).names n.text) class.0 value.0 class.1 value.1)
 
-  pub told_fits : (n : Name) → is_value (found (globals_of bundle).names n.text) ≡ true → ArgumentFits (type_graph (bundle_tables bundle)) w (argument_meant (told bundle n))
+  pub told_fits : (n : Name) → is_operand (found (globals_of bundle).names n.text) ≡ true → ArgumentFits (type_graph (bundle_tables bundle)) w (argument_meant (told bundle n))
   told_fits n is = by (global_told bundle n) refl (values_are_told bundle names checked n ∙ is)
     where
       by : (o : Option Classed) → global_told bundle n ≡ o → is_some o ≡ true → ArgumentFits (type_graph (bundle_tables bundle)) w (argument_meant (told_as o))

@@ -8,7 +8,7 @@
 -- called modifications here, as C does.
 use Rattle.std.specs.Prelude.{ℕ, ◌-◌, Bool, true, false, ◌&&◌, if◌then◌else◌}
 use Rattle.mu_base.specs.declared.order.Order.{Order}
-use Rattle.mu_base.specs.declared.order.Order.TheVariants.{NotAtomic, Relaxed, Consume, Acquire, Release, AcqRel, SeqCst}
+use Rattle.mu_base.specs.declared.order.Order.TheVariants.{NotAtomic, SeqCst}
 use Rattle.mu_values.specs.declared.scalars.Scalar.{Scalar}
 use Rattle.mu_values.specs.declared.scalars.Scalar.TheVariants.{Null}
 use Rattle.heap_cells.specs.declared.cells.CellId.{CellId}

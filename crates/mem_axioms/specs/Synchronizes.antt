@@ -1,7 +1,7 @@
 -- Acquire, release, release sequences, synchronizes-with (ISO/IEC 9899:2011, 5.1.2.4 and 7.17; ISO/IEC 14882:2020, 6.9.2 and 31.11).
 use Rattle.std.specs.Prelude.{ℕ, ◌-◌, Bool, true, false, ◌&&◌, ◌||◌, ◌==◌, nat_lt, List, [], ◌∷◌, length}
 use Rattle.mu_base.specs.declared.order.Order.{Order}
-use Rattle.mu_base.specs.declared.order.Order.TheVariants.{NotAtomic, Relaxed, Consume, Acquire, Release, AcqRel, SeqCst}
+use Rattle.mu_base.specs.declared.order.Order.TheVariants.{Consume, Acquire, Release, AcqRel, SeqCst}
 use Rattle.heap_cells.specs.declared.cells.CellId.{CellId}
 use Rattle.mem_axioms.specs.Events.{is_atomic, loads, modifies, is_update, order_of, position_of, position_taken, is_fence, is_wake}
 use Rattle.mem_axioms.specs.Logs.{any_event}

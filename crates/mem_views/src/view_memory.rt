@@ -91,10 +91,10 @@ struct Read {
 
 /// The positions of a cell from a floor on that have another value.
 #[derive(Clone, Copy)]
-struct OtherValues {
+struct OtherPositions {
     /// The cell.
     cell: CellId,
-    /// The floor.
+    /// The least position that counts.
     floor: u32,
     /// The value that they do not have.
     scalar: Scalar,
@@ -341,7 +341,12 @@ impl ViewMemory {
     }
 
     /// Whether the position is from the floor on and has another value.
-    fn differs<L: Ledger>(&self, others: OtherValues, position: u32, steps: &mut Steps<L>) -> bool
+    fn differs<L: Ledger>(
+        &self,
+        others: OtherPositions,
+        position: u32,
+        steps: &mut Steps<L>,
+    ) -> bool
         requires cell { HasCell self.now.objects.values others.cell }
         requires position { position ≤ newest self.now.tape.events others.cell }
         ensures differs { result ≡ differs_from (initial_of self.now.objects.values) self.now.tape.events others.cell others.floor others.scalar position }
@@ -351,7 +356,7 @@ impl ViewMemory {
     }
 
     /// Position 0, if it is from the floor on and has another value: 1 or 0 positions.
-    fn count_initial<L: Ledger>(&self, others: OtherValues, steps: &mut Steps<L>) -> u32
+    fn count_initial<L: Ledger>(&self, others: OtherPositions, steps: &mut Steps<L>) -> u32
         requires { HasCell self.now.objects.values others.cell }
         ensures count { result ≡ length (below (differs_from (initial_of self.now.objects.values) self.now.tape.events others.cell others.floor others.scalar) 1) }
         ensures at_most { result ≤ 1 }
@@ -383,7 +388,12 @@ impl ViewMemory {
     }
 
     /// How many positions below one, from the floor on, have another value.
-    fn count_differing<L: Ledger>(&self, others: OtherValues, end: u32, steps: &mut Steps<L>) -> u32
+    fn count_differing<L: Ledger>(
+        &self,
+        others: OtherPositions,
+        end: u32,
+        steps: &mut Steps<L>,
+    ) -> u32
         requires cell { HasCell self.now.objects.values others.cell }
         requires floor { others.floor ≤ end }
         requires some { 0 < end }
@@ -401,7 +411,7 @@ impl ViewMemory {
     /// below the next one more, so it is searched by halves.
     fn nth_differing<L: Ledger>(
         &self,
-        others: OtherValues,
+        others: OtherPositions,
         last: u32,
         n: u32,
         steps: &mut Steps<L>,
@@ -445,7 +455,7 @@ impl ViewMemory {
         match read.excluded {
             None => newest - floor + 1,
             Some(scalar) => {
-                let others = OtherValues {
+                let others = OtherPositions {
                     cell,
                     floor,
                     scalar,
@@ -470,7 +480,7 @@ impl ViewMemory {
             None => newest - n,
             Some(scalar) => {
                 let floor = self.floor(read.thread, cell, read.order, steps);
-                let others = OtherValues {
+                let others = OtherPositions {
                     cell,
                     floor,
                     scalar,

@@ -16,8 +16,10 @@ use type_laws::TypeDef;
 /// The definitions, and for each type the arguments that lead to it.
 #[derive(Clone, Copy)]
 pub struct Links<'a> {
+    /// The definition of each type.
     pub definitions: &'a [TypeDef],
-    pub preds: &'a [Vec<Edge>],
+    /// The arguments that lead to each type.
+    pub predecessors: &'a [Vec<Edge>],
 }
 
 #[tactic(auto, using(crate::proofs::RowLemmas::pushed_kept, crate::proofs::RowLemmas::pushed_there, crate::proofs::RowLemmas::pushed_only))]
@@ -73,10 +75,10 @@ pub fn gather(
     buckets: &mut [Vec<usize>],
     places: &mut Vec<usize>,
 ) -> Result<(), AllocError>
-    requires { IsForward links.definitions.now (lists links.preds.now) }
+    requires { IsForward links.definitions.now (lists links.predecessors.now) }
     ensures len { length buckets.new ≡ length buckets.old }
     ensures kept { OnOk result ((k x : ℕ) → Holds (lists buckets.old) k x → Holds (lists buckets.new) k x) }
-    ensures complete { OnOk result ((k x y : ℕ) → k < length buckets.old → Contains row.now y → slice_index block.now y ≡ s → Holds (lists links.entry.preds.now) y (edge_of k x) → Holds (lists buckets.new) k x) }
+    ensures complete { OnOk result ((k x y : ℕ) → k < length buckets.old → Contains row.now y → slice_index block.now y ≡ s → Holds (lists links.entry.predecessors.now) y (edge_of k x) → Holds (lists buckets.new) k x) }
     ensures sound { OnOk result ((k x : ℕ) → Holds (lists buckets.new) k x → Holds (lists buckets.old) k x ⊎ LeadsTo links.entry.definitions.now block.now s x k) }
 {
     for i in 0..row.len() {
@@ -94,14 +96,20 @@ fn gather_member(
     buckets: &mut [Vec<usize>],
     places: &mut Vec<usize>,
 ) -> Result<(), AllocError>
-    requires { IsForward links.definitions.now (lists links.preds.now) }
+    requires { IsForward links.definitions.now (lists links.predecessors.now) }
     ensures len { length buckets.new ≡ length buckets.old }
     ensures kept { OnOk result ((k x : ℕ) → Holds (lists buckets.old) k x → Holds (lists buckets.new) k x) }
-    ensures complete { OnOk result ((k x : ℕ) → k < length buckets.old → slice_index block.now y ≡ s → Holds (lists links.entry.preds.now) y (edge_of k x) → Holds (lists buckets.new) k x) }
+    ensures complete { OnOk result ((k x : ℕ) → k < length buckets.old → slice_index block.now y ≡ s → Holds (lists links.entry.predecessors.now) y (edge_of k x) → Holds (lists buckets.new) k x) }
     ensures sound { OnOk result ((k x : ℕ) → Holds (lists buckets.new) k x → Holds (lists buckets.old) k x ⊎ LeadsTo links.entry.definitions.now block.now s x k) }
 {
-    if y < links.preds.len() && at(block, y) == s {
-        gather_one(links.definitions, &links.preds[y], y, buckets, places)?;
+    if y < links.predecessors.len() && at(block, y) == s {
+        gather_one(
+            links.definitions,
+            &links.predecessors[y],
+            y,
+            buckets,
+            places,
+        )?;
     }
     Ok(())
 }

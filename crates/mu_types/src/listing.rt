@@ -159,6 +159,7 @@ fn put_row(rows: &mut [Vec<u32>], t: usize, row: Vec<u32>)
 /// Types with their classes, and with ranks that order them, so that parts come before their wholes.
 #[derive(Clone, Copy)]
 struct Ranked<'a> {
+    /// The definition of each type.
     definitions: &'a [TypeDef],
     /// The class of each type.
     class: &'a [usize],

@@ -31,7 +31,7 @@ pub struct Partition {
     pub block: Vec<usize>,
     /// The types of each block, and maybe some that left it.
     pub members: Vec<Vec<usize>>,
-    /// The block that the touched types of each block move to; between two places each block's own number.
+    /// The block that those types of each block move to that lead into the splitter; between two places each block's own number.
     pub target: Vec<usize>,
 }
 
@@ -50,7 +50,7 @@ pub struct Plan {
     pub work: Vec<usize>,
     /// The blocks that the present place of the splitter parts; empty between two places.
     pub parents: Vec<usize>,
-    /// Room for the blocks that touched types move to.
+    /// Room for the blocks that types move to.
     pub goals: Vec<usize>,
 }
 
@@ -200,7 +200,7 @@ fn turn(
     s: usize,
     plan: &mut Plan,
 ) -> Result<(), AllocError>
-    requires linked { AreLinked links.definitions.now links.preds.now }
+    requires linked { AreLinked links.definitions.now links.predecessors.now }
     requires wide { (x k y : ℕ) → arg links.definitions.now x k ≡ Some y → k < length buckets.old }
     requires fit { IsFit links.definitions.now partition.old }
     requires filled { AreFilled links.definitions.now buckets.old }
@@ -229,7 +229,7 @@ fn work_off(
     plan: &mut Plan,
     fuel: usize,
 ) -> Result<(), AllocError>
-    requires linked { AreLinked links.definitions.now links.preds.now }
+    requires linked { AreLinked links.definitions.now links.predecessors.now }
     requires wide { (x k y : ℕ) → arg links.definitions.now x k ≡ Some y → k < length buckets.old }
     requires fit { IsFit links.definitions.now partition.old }
     requires filled { AreFilled links.definitions.now buckets.old }
@@ -332,7 +332,7 @@ fn part_blocks(
     let preds = predecessors(alloc, definitions)?;
     let links = Links {
         definitions,
-        preds: &preds,
+        predecessors: &preds,
     };
     let fuel = edges_of(definitions).saturating_mul(64);
     work_off(alloc, links, &mut partition, &mut buckets, &mut plan, fuel)?;

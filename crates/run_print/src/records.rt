@@ -49,8 +49,11 @@ fn valued(
 /// A thread, and the instruction that it has come to.
 #[derive(Clone, Copy)]
 struct ThreadPlace {
+    /// The number of the thread.
     thread: u32,
+    /// The number of the block.
     block: u32,
+    /// The number of the instruction in its block.
     at: u32,
 }
 

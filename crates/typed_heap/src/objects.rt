@@ -247,20 +247,20 @@ fn give_cells(initials: &mut [Initial], given: &mut Vec<Scalar>, from: usize, sc
 
 /// Gives a cell its initial scalar, which is the only one of a list, into room that is there. A list is copied as a whole, where a scalar
 /// that is passed by value is taken apart.
-fn give_cell(initials: &mut [Initial], given: &mut Vec<Scalar>, cell: usize, scalar: &[Scalar])
-    requires one { length scalar.now ≡ 1 }
+fn give_cell(initials: &mut [Initial], given: &mut Vec<Scalar>, cell: usize, scalars: &[Scalar])
+    requires one { length scalars.now ≡ 1 }
     requires cell { cell < length initials.old }
     requires own { AreOwn initials.old (length given.old.items) }
     requires room { 0 < vec_capacity given.old - vec_len given.old }
     ensures cells { length initials.new ≡ length initials.old }
     ensures own { AreOwn initials.new (length given.new.items) }
-    ensures begins { map (initial_of given.new.items) initials.new ≡ replaced (map (initial_of given.old.items) initials.old) cell scalar.now }
+    ensures begins { map (initial_of given.new.items) initials.new ≡ replaced (map (initial_of given.old.items) initials.old) cell scalars.now }
     ensures room { vec_capacity given.old - vec_len given.old ≤ vec_capacity given.new - vec_len given.new + 1 }
 {
     match initials[cell] {
         // No other cell has this number.
-        Initial::Given(number) => given[number..number + 1].copy_from_slice(scalar),
-        Initial::Null | Initial::Zero(_) => give_first(initials, given, cell, scalar[0]),
+        Initial::Given(number) => given[number..number + 1].copy_from_slice(scalars),
+        Initial::Null | Initial::Zero(_) => give_first(initials, given, cell, scalars[0]),
     }
 }
 

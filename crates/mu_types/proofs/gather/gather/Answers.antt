@@ -17,7 +17,7 @@ loop-i-preserved c =
       kept = λ k x h. m.kept k x (v.kept k x h);
       complete = λ k x y l h b p. elim (contains_more c.args.row.now i 0 y c.loop-i-test.true h) [
         | inl q ↦ m.kept k x (v.complete k x y l q b p)
-        | inr e ↦ subst (λ z. k < length c.loop-i.buckets → slice_index c.args.block.now z ≡ c.args.s → Holds (lists c.args.links.preds.now) z (edge_of k x) → Holds (lists c.gather_member.new.buckets) k x) e (m.complete k x) (subst (λ n. k < n) (sym v.len) l) b p
+        | inr e ↦ subst (λ z. k < length c.loop-i.buckets → slice_index c.args.block.now z ≡ c.args.s → Holds (lists c.args.links.predecessors.now) z (edge_of k x) → Holds (lists c.gather_member.new.buckets) k x) e (m.complete k x) (subst (λ n. k < n) (sym v.len) l) b p
       ];
       sound = λ k x h. elim (m.sound k x h) [ inl p ↦ v.sound k x p | inr a ↦ inr a ];
     }

@@ -10,6 +10,6 @@ abbrev pub invariant-loop-i : goal.invariant-loop-i
 invariant-loop-i l = record {
   len : length l.buckets ≡ length l.fn.buckets;
   kept : (k x : ℕ) → Holds (lists l.fn.buckets) k x → Holds (lists l.buckets) k x;
-  complete : (k x y : ℕ) → k < length l.fn.buckets → Contains (take l.i l.row) y → slice_index l.block y ≡ l.s → Holds (lists l.links.preds.now) y (edge_of k x) → Holds (lists l.buckets) k x;
+  complete : (k x y : ℕ) → k < length l.fn.buckets → Contains (take l.i l.row) y → slice_index l.block y ≡ l.s → Holds (lists l.links.predecessors.now) y (edge_of k x) → Holds (lists l.buckets) k x;
   sound : (k x : ℕ) → Holds (lists l.buckets) k x → Holds (lists l.fn.buckets) k x ⊎ LeadsTo l.links.definitions.now l.block l.s x k;
 }

@@ -6,7 +6,7 @@ use Rattle.mu_types.proofs.gather.gather_member.Goals as goal
 
 pub gather_one-requires : goal.gather_one-requires
 gather_one-requires c = λ e h.
-    let r = row_at c.args.links.preds.now c.args.y c.index-links-y.result c.if-y-links.true in
+    let r = row_at c.args.links.predecessors.now c.args.y c.index-links-y.result c.if-y-links.true in
     c.requires c.args.y e (subst (λ (xs : List Edge). Contains xs e) (sym (r ∙ sym c.deref.ensures.value)) h)
 
 pub returns-in_ok-gather_one-clause-sound : goal.returns-in_ok-gather_one-clause-sound

@@ -18,19 +18,19 @@ returns-in-Given-clause-begins c =
     let gs = c.args.given.now.items in
     let old = map (initial_of gs) is in
     let n = c.in-Given.number in
-    let s = get_or c.args.scalar.now 0 Null in
+    let s = get_or c.args.scalars.now 0 Null in
     let here : slice_get is c.args.cell ≡ Some (initials.Given n) = slice_get-get_or is c.args.cell _ c.requires.cell ∙ ap Some c.in-Given.is in
     let low : n < length gs = known_at (length gs) is c.args.cell n c.requires.own.known here in
     let more : List Scalar = c.copy_from_slice.new.self in
     let lent : List Scalar = c.deref_mut.result.now in
     let put : List Scalar = take n lent ++ (more ++ drop (n + 1 - n) (drop n lent)) in
-    let written : put ≡ slice_set gs n s = rw (c.deref_mut.ensures.value, c.copy_from_slice.ensures.after) (put_one gs c.args.scalar.now n (n + 1 - n) Null (omega arith) c.requires.one low) in
+    let written : put ≡ slice_set gs n s = rw (c.deref_mut.ensures.value, c.copy_from_slice.ensures.after) (put_one gs c.args.scalars.now n (n + 1 - n) Null (omega arith) c.requires.one low) in
     let long : length put ≡ c.args.given.now.len = ap (λ (xs : List Scalar). length xs) written ∙ length-set gs n s ∙ ap (λ (xs : List Scalar). length xs) (sym c.deref_mut.ensures.value) ∙ c.deref_mut.ensures.len in
     let back : take c.args.given.now.len (put ++ drop (length put) gs) ≡ slice_set gs n s = lent_back put gs c.args.given.now.len long ∙ written in
     let within : c.args.cell < length old = omega (arith, length-map is (initial_of gs), c.requires.cell) in
     ap (λ (xs : List Scalar). map (initial_of xs) is) back
     ∙ overwritten_shown gs n s is c.args.cell low c.requires.own.apart here
-    ∙ sym (replaced_one old c.args.cell c.args.scalar.now Null c.requires.one within)
+    ∙ sym (replaced_one old c.args.cell c.args.scalars.now Null c.requires.one within)
 
 -- another one
 pub returns-in-Null-clause-begins : goal.returns-in-Null-clause-begins
@@ -38,4 +38,4 @@ returns-in-Null-clause-begins c =
     let is = c.args.initials.now in
     let gs = c.args.given.now.items in
     let within : c.args.cell < length (map (initial_of gs) is) = omega (arith, length-map is (initial_of gs), c.requires.cell) in
-    c.give_first.ensures.begins ∙ sym (replaced_one (map (initial_of gs) is) c.args.cell c.args.scalar.now _ c.requires.one within)
+    c.give_first.ensures.begins ∙ sym (replaced_one (map (initial_of gs) is) c.args.cell c.args.scalars.now _ c.requires.one within)
