@@ -324,10 +324,24 @@ pub(crate) fn directive(word: &[u8]) -> Symbol
     look_up(&DIRECTIVES, word, Symbol::Other)
 }
 
+/// Rows that hold each common name with that byte behind its sigil. Most global names have another one.
+#[tactic(auto, unfolding(crate::specs::WordTable::common_names))]
+fn names_from(second: u8) -> &'static [Row]
+    ensures { (rest : List ℕ) → look_up Global (map (λ r. (r.0.now, r.1)) result.now) (64 ∷ second ∷ rest) ≡ look_up Global common_names (64 ∷ second ∷ rest) }
+{
+    match second {
+        b'u' => &COMMON_NAMES,
+        _ => &[],
+    }
+}
+
 /// The symbol of a global name.
 #[tactic(auto, unfolding(crate::specs::WordTable::common_names))]
 pub(crate) fn global(word: &[u8]) -> Symbol
     ensures { result ≡ look_up Global common_names word.now }
 {
-    look_up(&COMMON_NAMES, word, Symbol::Global)
+    match word {
+        [b'@', second, ..] => look_up(names_from(*second), word, Symbol::Global),
+        _ => look_up(&COMMON_NAMES, word, Symbol::Global),
+    }
 }

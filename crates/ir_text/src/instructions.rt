@@ -138,9 +138,28 @@ fn common(cursor: &mut Cursor, alloc: Global) -> Result<(usize, CommonInst), Rea
     Ok((place, inst))
 }
 
-/// What an instruction does, with the place of its word. At a word that the profile leaves out the fault is `NotInProfile`.
+/// What an instruction does, with the place of its word. At a word that the profile leaves out the fault is `NotInProfile`. The words that
+/// most instructions have are looked at first.
 #[tactic(auto, unfolding(ir_tree::specs::Instructions::op))]
 pub fn op(cursor: &mut Cursor, alloc: Global) -> Result<(usize, Op), ReadError>
+    ensures { Gives result cursor.new (read op cursor.old) }
+{
+    match cursor.symbol() {
+        Symbol::Load | Symbol::Store => {
+            let (place, op) = access(cursor, alloc)?;
+            Ok((place, Op::Access(op)))
+        }
+        Symbol::Branch | Symbol::Branch2 => {
+            let (place, op) = control(cursor, alloc)?;
+            Ok((place, Op::ControlFlow(op)))
+        }
+        _ => any_op(cursor, alloc),
+    }
+}
+
+/// What an instruction with any word does.
+#[tactic(auto, unfolding(ir_tree::specs::Instructions::op))]
+fn any_op(cursor: &mut Cursor, alloc: Global) -> Result<(usize, Op), ReadError>
     ensures { Gives result cursor.new (read op cursor.old) }
 {
     if cursor.at_any(&COMPUTATIONS) {

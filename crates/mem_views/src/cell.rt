@@ -247,8 +247,8 @@ impl CellViews {
         ensures fresh { IfOk result IsFresh }
     {
         let mut history = History::new(alloc);
-        // A cell is named for an access, which may make position 1.
-        history.reserve_many(2)?;
+        // A cell is named for an access, which may make position 1. One more is asked for with each access.
+        history.reserve_many(3)?;
         history.push(Scalar::Null);
         let mut released = Vec::new(alloc);
         released.push(0)?;

@@ -24,7 +24,7 @@ pub fn reserve(
 }
 
 /// Makes the indexes up to that of a thread. Their list takes exactly what they need, since it grows at most once for each
-/// of 64 threads.
+/// of 64 threads; but the first time it has room for those of two, as few cells are left to one.
 fn make_indexes(
     indexes: &mut Vec<AccessIndex>,
     alloc: Global,
@@ -36,7 +36,7 @@ fn make_indexes(
     ensures len { length indexes.old.items ≤ length indexes.new.items }
     ensures there { OnOk result (thread < length indexes.new.items) }
 {
-    indexes.reserve_exact((thread + 1).saturating_sub(indexes.len()))?;
+    indexes.reserve_exact((thread + 1).max(2).saturating_sub(indexes.len()))?;
     while indexes.len() <= thread {
         indexes.push_reserved(AccessIndex::new(alloc));
     }

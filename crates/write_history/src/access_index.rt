@@ -3,14 +3,14 @@ ghost use Rattle.std.specs.Prelude.{◌≡◌, ℕ, ◌+◌, ◌-◌, ◌<◌, �
 ghost use Rattle.std.specs.Option.{option_map};
 ghost use Rattle.write_history.specs.Indexes.{last_position, first_after, no_entry, Rising};
 
-use crate::room::make_room;
 use mu_base::Steps;
+use smallvec::SmallVec;
 use std::alloc::{AllocError, Global};
 use std::marker::Model;
 use std::sync::ledger::Ledger;
 
 /// An access as an index keeps it: the number of its event, and its position.
-#[derive(Clone, Copy, Debug, PartialEq, Eq)]
+#[derive(Clone, Copy, Debug, Default, PartialEq, Eq)]
 pub struct Entry {
     /// The number of the event.
     pub event: u32,
@@ -22,31 +22,31 @@ pub struct Entry {
 /// newest first, and `spare`, the number of further accesses that `push` takes.
 ///
 /// What the numbers are is the caller's choice: they only have to rise. A search looks at one entry at a time and counts
-/// each look as one step.
+/// each look as one step. The first access takes no memory, since most indexes have no more.
 #[derive(Drop)]
 pub struct AccessIndex {
-    entries: Vec<Entry>,
+    entries: SmallVec<Entry, 1>,
 }
 
 impl Model for AccessIndex {
-    ghost use Rattle.std.specs.Prelude.{◌-◌, reverse, vec_len, vec_capacity};
+    ghost use Rattle.std.specs.Prelude.{◌-◌, length, reverse};
     ghost use Rattle.write_history.specs.Rooms.{Accesses};
     ghost use Rattle.write_history.specs.Indexes.{Rising};
 
     ghost Value = { Accesses };
 
-    ghost view = { λ a. record { accesses = reverse a.entries.items; spare = vec_capacity a.entries - vec_len a.entries } };
+    ghost view = { λ a. record { accesses = reverse a.entries.items; spare = a.entries.capacity - length a.entries.items } };
 
     ghost invariant = { λ a. Rising (reverse a.entries.items) };
 }
 
 impl AccessIndex {
-    /// An index with no accesses. It takes no memory yet.
+    /// An index with no accesses. It takes no memory.
     pub fn new(alloc: Global) -> Self
         ensures { result.accesses ≡ [] }
     {
         AccessIndex {
-            entries: Vec::new(alloc),
+            entries: SmallVec::new(alloc),
         }
     }
 
@@ -65,7 +65,11 @@ impl AccessIndex {
         ensures room { OnOk result (count ≤ self.new.spare) }
         ensures spare { self.old.spare ≤ self.new.spare }
     {
-        make_room(&mut self.entries, count)
+        if self.entries.is_empty() {
+            self.entries.reserve_exact(count)
+        } else {
+            self.entries.reserve(count)
+        }
     }
 
     /// Adds an access whose number is above all others, into room that is there.
@@ -75,7 +79,7 @@ impl AccessIndex {
         ensures accesses { self.new.accesses ≡ record { event = event; position = position } ∷ self.old.accesses }
         ensures spare { self.old.spare ≤ self.new.spare + 1 }
     {
-        self.entries.push(Entry { event, position }).unwrap();
+        self.entries.push_reserved(Entry { event, position });
     }
 
     /// The position of the last access whose number is at most `upto`; None exactly where there is none.
@@ -89,7 +93,7 @@ impl AccessIndex {
         ensures some_cost { 0 < length self.now.accesses → steps.old < steps.new }
         ensures cost { (d : ℕ) → length self.now.accesses < 2 ^ d → steps.new ≤ steps.old + (d + 1) }
     {
-        neighbours_of(&self.entries, upto, steps)
+        neighbours_of(self.entries.as_slice(), upto, steps)
             .before
             .map(|entry| entry.position)
     }
@@ -102,7 +106,7 @@ impl AccessIndex {
         ensures some_cost { 0 < length self.now.accesses → steps.old < steps.new }
         ensures cost { (d : ℕ) → length self.now.accesses < 2 ^ d → steps.new ≤ steps.old + (d + 1) }
     {
-        neighbours_of(&self.entries, upto, steps)
+        neighbours_of(self.entries.as_slice(), upto, steps)
             .after
             .map(|entry| entry.event)
     }
