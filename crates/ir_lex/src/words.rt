@@ -324,7 +324,7 @@ pub(crate) fn directive(word: &[u8]) -> Symbol
     look_up(&DIRECTIVES, word, Symbol::Other)
 }
 
-/// Rows that hold each common name with that byte behind its sigil. Most global names have another one.
+/// Rows that hold each common name with that byte behind its sigil `@`, which is 64. Most global names have another one.
 #[tactic(auto, unfolding(crate::specs::WordTable::common_names))]
 fn names_from(second: u8) -> &'static [Row]
     ensures { (rest : List ℕ) → look_up Global (map (λ r. (r.0.now, r.1)) result.now) (64 ∷ second ∷ rest) ≡ look_up Global common_names (64 ∷ second ∷ rest) }

@@ -13,7 +13,7 @@ abbrev pub IsNotAmong : List Symbol → Symbol → Type 0
 IsNotAmong [] s = Unit {0}
 IsNotAmong (x ∷ xs) s = (s ≡ x → ⊥) × IsNotAmong xs s
 
-has_none : (xs : List Symbol) (s : Symbol) → IsNotAmong xs s → has xs s ≡ false
+pub has_none : (xs : List Symbol) (s : Symbol) → IsNotAmong xs s → has xs s ≡ false
 has_none [] s others = refl
 has_none (x ∷ xs) s others = rw (false_same the_type tt x s (λ e. others.0 (sym e)), has_none xs s others.1) refl
 

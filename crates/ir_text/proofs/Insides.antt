@@ -1,6 +1,5 @@
 -- The parts of lines that a limit may bar: their lists have all their own limits, and the next token decides how they go on.
-use Rattle.std.proofs.Common.{◌≡◌, Bool, true, false, List, [], ◌∷◌, refl}
-use Rattle.text_forms.specs.declared.symbol.Symbol.{Symbol}
+use Rattle.std.proofs.Common.{◌≡◌, Bool, true, false, [], ◌∷◌, refl}
 use Rattle.text_forms.specs.declared.symbol.Symbol.TheVariants as symbols
 use Rattle.text_forms.specs.Begins.{begins, steady}
 use Rattle.text_forms.proofs.Lists.{IsElement}
@@ -19,6 +18,7 @@ use Rattle.ir_tree.specs.Instructions.{op, label, labelled}
 use Rattle.ir_tree.specs.Blocks.{pair, params, handler, head_rest, head, result}
 use Rattle.ir_tree.specs.Bodies.{results, more_results, body_rest, body, line}
 use Rattle.ir_tree.specs.Items.{typedef, funcsig, constant, global_cell, funcdecl, funcdef, item}
+use Rattle.ir_text.proofs.OpKinds.{op_words}
 
 pub labelled_own : steady labelled ≡ true
 unfolding mark name numeral order global local bracketed bracketed_pair local_list type_list value values dest exc keep pass_values throw_exc new_stack_clause binary compare convert refcast select bracketed_field extractvalue insertvalue computation branch branch2 switch_case switch call tailcall ret throw control new_object newhybrid alloca allocation getiref getfieldiref getelemiref shiftiref getvarpartiref addressing_form optional_order load store weak cmpxchg atomicrmw fence access trap wpexc watchpoint wpbranch trapping_form returning killing swapstack threadlocal newthread stack_switch one_value two_values three_values new_stack kill_stack thread_exit current_stack set_threadlocal get_threadlocal futex_wait futex_wake futex_wait_timeout common_inst op label labelled
@@ -42,12 +42,7 @@ head_rest_own = refl
 
 -- ---- what they begin with
 
-abbrev pub inst_symbols : List Symbol
-inst_symbols =
-    symbols.SquareOpen ∷ symbols.Add ∷ symbols.Sub ∷ symbols.Mul ∷ symbols.Sdiv ∷ symbols.Srem ∷ symbols.Udiv ∷ symbols.Urem ∷ symbols.Shl ∷ symbols.Lshr ∷ symbols.Ashr ∷ symbols.And ∷ symbols.Or ∷ symbols.Xor ∷ symbols.Eq ∷ symbols.Ne ∷ symbols.Slt ∷ symbols.Sle ∷ symbols.Sgt ∷ symbols.Sge ∷ symbols.Ult ∷ symbols.Ule ∷ symbols.Ugt ∷ symbols.Uge ∷ symbols.Trunc ∷ symbols.Zext ∷ symbols.Sext ∷ symbols.Refcast ∷ symbols.Select ∷ symbols.Extractvalue
-    ∷ symbols.Insertvalue ∷ symbols.Branch ∷ symbols.Branch2 ∷ symbols.Switch ∷ symbols.Call ∷ symbols.Tailcall ∷ symbols.Ret ∷ symbols.Throw ∷ symbols.New ∷ symbols.Newhybrid ∷ symbols.Alloca ∷ symbols.Getiref ∷ symbols.Getfieldiref ∷ symbols.Getelemiref ∷ symbols.Shiftiref ∷ symbols.Getvarpartiref ∷ symbols.Load ∷ symbols.Store ∷ symbols.Cmpxchg ∷ symbols.Atomicrmw ∷ symbols.Fence ∷ symbols.Trap ∷ symbols.Watchpoint ∷ symbols.Wpbranch ∷ symbols.Swapstack ∷ symbols.Newthread ∷ symbols.Comminst ∷ []
-
-pub labelled_begins : begins labelled ≡ inst_symbols
+pub labelled_begins : begins labelled ≡ symbols.SquareOpen ∷ op_words
 unfolding mark name numeral order global local bracketed bracketed_pair local_list type_list value values dest exc keep pass_values throw_exc new_stack_clause binary compare convert refcast select bracketed_field extractvalue insertvalue computation branch branch2 switch_case switch call tailcall ret throw control new_object newhybrid alloca allocation getiref getfieldiref getelemiref shiftiref getvarpartiref addressing_form optional_order load store weak cmpxchg atomicrmw fence access trap wpexc watchpoint wpbranch trapping_form returning killing swapstack threadlocal newthread stack_switch one_value two_values three_values new_stack kill_stack thread_exit current_stack set_threadlocal get_threadlocal futex_wait futex_wake futex_wait_timeout common_inst op label labelled
 labelled_begins = refl
 

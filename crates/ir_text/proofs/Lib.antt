@@ -1,4 +1,5 @@
 pub mod Choices
+pub mod OpKinds
 pub mod Elements
 pub mod Fronts
 pub mod Hybrids

@@ -1,4 +1,5 @@
 pub mod NameLists
+pub mod OpKinds
 pub mod BodiesSoFar
 pub mod TextAnswers
 pub mod WrittenBodies

@@ -6,11 +6,13 @@ ghost use Rattle.text_forms.specs.Answers.{Gives};
 ghost use Rattle.ir_lex.specs.TokenForms.{mark};
 ghost use Rattle.ir_tree.specs.Instructions.{op, label, labelled};
 ghost use Rattle.ir_tree.specs.CommonForms.{common_inst};
+ghost use Rattle.ir_text.specs.OpKinds.{of_kind};
 
 use crate::accesses::access;
 use crate::common::common_inst;
 use crate::computing::computation;
 use crate::flow::control;
+use crate::kinds::{OpKind, op_kind};
 use crate::lists::local;
 use crate::objects::{addressing_form, allocation};
 use crate::stacks::{stack_switch, trapping_form};
@@ -18,78 +20,6 @@ use ir_lex::{Cursor, Name};
 use ir_tree::{CommonInst, Inst, Op};
 use std::alloc::Global;
 use text_forms::{Listing, ReadError, Symbol};
-
-/// The words of instructions that compute a value from values.
-const COMPUTATIONS: [Symbol; 30] = [
-    Symbol::Add,
-    Symbol::Sub,
-    Symbol::Mul,
-    Symbol::Sdiv,
-    Symbol::Srem,
-    Symbol::Udiv,
-    Symbol::Urem,
-    Symbol::Shl,
-    Symbol::Lshr,
-    Symbol::Ashr,
-    Symbol::And,
-    Symbol::Or,
-    Symbol::Xor,
-    Symbol::Eq,
-    Symbol::Ne,
-    Symbol::Slt,
-    Symbol::Sle,
-    Symbol::Sgt,
-    Symbol::Sge,
-    Symbol::Ult,
-    Symbol::Ule,
-    Symbol::Ugt,
-    Symbol::Uge,
-    Symbol::Trunc,
-    Symbol::Zext,
-    Symbol::Sext,
-    Symbol::Refcast,
-    Symbol::Select,
-    Symbol::Extractvalue,
-    Symbol::Insertvalue,
-];
-
-/// The words of instructions that say where the function goes on.
-const CONTROL: [Symbol; 7] = [
-    Symbol::Branch,
-    Symbol::Branch2,
-    Symbol::Switch,
-    Symbol::Call,
-    Symbol::Tailcall,
-    Symbol::Ret,
-    Symbol::Throw,
-];
-
-/// The words of instructions that make an object.
-const ALLOCATIONS: [Symbol; 3] = [Symbol::New, Symbol::Newhybrid, Symbol::Alloca];
-
-/// The words of instructions that find a place in an object.
-const ADDRESSINGS: [Symbol; 5] = [
-    Symbol::Getiref,
-    Symbol::Getfieldiref,
-    Symbol::Getelemiref,
-    Symbol::Shiftiref,
-    Symbol::Getvarpartiref,
-];
-
-/// The words of instructions that read or write memory, or order such accesses.
-const ACCESSES: [Symbol; 5] = [
-    Symbol::Load,
-    Symbol::Store,
-    Symbol::Cmpxchg,
-    Symbol::Atomicrmw,
-    Symbol::Fence,
-];
-
-/// The words of instructions that ask the client.
-const TRAPS: [Symbol; 3] = [Symbol::Trap, Symbol::Watchpoint, Symbol::Wpbranch];
-
-/// The words of instructions that go from one stack to another.
-const STACK_SWITCHES: [Symbol; 2] = [Symbol::Swapstack, Symbol::Newthread];
 
 /// The words of instructions that the profile leaves out.
 const LEFT_OUT: [Symbol; 34] = [
@@ -138,56 +68,53 @@ fn common(cursor: &mut Cursor, alloc: Global) -> Result<(usize, CommonInst), Rea
     Ok((place, inst))
 }
 
-/// What an instruction does, with the place of its word. At a word that the profile leaves out the fault is `NotInProfile`. The words that
-/// most instructions have are looked at first.
-#[tactic(auto, unfolding(ir_tree::specs::Instructions::op))]
-pub fn op(cursor: &mut Cursor, alloc: Global) -> Result<(usize, Op), ReadError>
-    ensures { Gives result cursor.new (read op cursor.old) }
+/// What an instruction of this kind does, with the place of its word.
+fn op_of_kind(cursor: &mut Cursor, alloc: Global, kind: OpKind) -> Result<(usize, Op), ReadError>
+    ensures { Gives result cursor.new (read (of_kind kind) cursor.old) }
 {
-    match cursor.symbol() {
-        Symbol::Load | Symbol::Store => {
-            let (place, op) = access(cursor, alloc)?;
-            Ok((place, Op::Access(op)))
+    match kind {
+        OpKind::Computation => {
+            let (place, op) = computation(cursor, alloc)?;
+            Ok((place, Op::Computation(op)))
         }
-        Symbol::Branch | Symbol::Branch2 => {
+        OpKind::ControlFlow => {
             let (place, op) = control(cursor, alloc)?;
             Ok((place, Op::ControlFlow(op)))
         }
-        _ => any_op(cursor, alloc),
+        OpKind::Allocation => {
+            let (place, op) = allocation(cursor, alloc)?;
+            Ok((place, Op::Allocation(op)))
+        }
+        OpKind::Addressing => {
+            let (place, op) = addressing_form(cursor, alloc)?;
+            Ok((place, Op::Addressing(op)))
+        }
+        OpKind::Access => {
+            let (place, op) = access(cursor, alloc)?;
+            Ok((place, Op::Access(op)))
+        }
+        OpKind::Trapping => {
+            let (place, op) = trapping_form(cursor, alloc)?;
+            Ok((place, Op::Trapping(op)))
+        }
+        OpKind::StackSwitch => {
+            let (place, op) = stack_switch(cursor, alloc)?;
+            Ok((place, Op::StackSwitch(op)))
+        }
+        OpKind::Common => {
+            let (place, op) = common(cursor, alloc)?;
+            Ok((place, Op::Common(op)))
+        }
     }
 }
 
-/// What an instruction with any word does.
-#[tactic(auto, unfolding(ir_tree::specs::Instructions::op))]
-fn any_op(cursor: &mut Cursor, alloc: Global) -> Result<(usize, Op), ReadError>
+/// What an instruction does, with the place of its word. At a word that the profile leaves out the fault is `NotInProfile`.
+pub fn op(cursor: &mut Cursor, alloc: Global) -> Result<(usize, Op), ReadError>
     ensures { Gives result cursor.new (read op cursor.old) }
 {
-    if cursor.at_any(&COMPUTATIONS) {
-        let (place, op) = computation(cursor, alloc)?;
-        Ok((place, Op::Computation(op)))
-    } else if cursor.at_any(&CONTROL) {
-        let (place, op) = control(cursor, alloc)?;
-        Ok((place, Op::ControlFlow(op)))
-    } else if cursor.at_any(&ALLOCATIONS) {
-        let (place, op) = allocation(cursor, alloc)?;
-        Ok((place, Op::Allocation(op)))
-    } else if cursor.at_any(&ADDRESSINGS) {
-        let (place, op) = addressing_form(cursor, alloc)?;
-        Ok((place, Op::Addressing(op)))
-    } else if cursor.at_any(&ACCESSES) {
-        let (place, op) = access(cursor, alloc)?;
-        Ok((place, Op::Access(op)))
-    } else if cursor.at_any(&TRAPS) {
-        let (place, op) = trapping_form(cursor, alloc)?;
-        Ok((place, Op::Trapping(op)))
-    } else if cursor.at_any(&STACK_SWITCHES) {
-        let (place, op) = stack_switch(cursor, alloc)?;
-        Ok((place, Op::StackSwitch(op)))
-    } else if cursor.at(Symbol::Comminst) {
-        let (place, op) = common(cursor, alloc)?;
-        Ok((place, Op::Common(op)))
-    } else {
-        Err(ReadError::Fault(cursor.refusal(&LEFT_OUT)))
+    match op_kind(cursor.symbol()) {
+        Some(kind) => op_of_kind(cursor, alloc, kind),
+        None => Err(ReadError::Fault(cursor.refusal(&LEFT_OUT))),
     }
 }
 

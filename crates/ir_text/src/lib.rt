@@ -11,6 +11,7 @@ mod fault;
 mod flow;
 mod instructions;
 mod items;
+mod kinds;
 mod laws;
 mod lines;
 mod lists;

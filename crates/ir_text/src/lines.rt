@@ -14,72 +14,12 @@ ghost use Rattle.ir_tree.specs.Bodies.{named, results, more_results, opened, lin
 
 use crate::blocks::head_rest;
 use crate::instructions::labelled;
+use crate::kinds::begins_instruction;
 use crate::lists::{alone, at_least_one, local, names_to, too_many};
 use ir_lex::{Cursor, Name};
 use ir_tree::{BlockHead, Inst, Line, Parameter};
 use std::alloc::Global;
 use text_forms::{Fault, FaultKind, Listing, ReadError, Symbol};
-
-/// The symbols that an instruction without results begins with.
-const INST_SYMBOLS: [Symbol; 57] = [
-    Symbol::SquareOpen,
-    Symbol::Add,
-    Symbol::Sub,
-    Symbol::Mul,
-    Symbol::Sdiv,
-    Symbol::Srem,
-    Symbol::Udiv,
-    Symbol::Urem,
-    Symbol::Shl,
-    Symbol::Lshr,
-    Symbol::Ashr,
-    Symbol::And,
-    Symbol::Or,
-    Symbol::Xor,
-    Symbol::Eq,
-    Symbol::Ne,
-    Symbol::Slt,
-    Symbol::Sle,
-    Symbol::Sgt,
-    Symbol::Sge,
-    Symbol::Ult,
-    Symbol::Ule,
-    Symbol::Ugt,
-    Symbol::Uge,
-    Symbol::Trunc,
-    Symbol::Zext,
-    Symbol::Sext,
-    Symbol::Refcast,
-    Symbol::Select,
-    Symbol::Extractvalue,
-    Symbol::Insertvalue,
-    Symbol::Branch,
-    Symbol::Branch2,
-    Symbol::Switch,
-    Symbol::Call,
-    Symbol::Tailcall,
-    Symbol::Ret,
-    Symbol::Throw,
-    Symbol::New,
-    Symbol::Newhybrid,
-    Symbol::Alloca,
-    Symbol::Getiref,
-    Symbol::Getfieldiref,
-    Symbol::Getelemiref,
-    Symbol::Shiftiref,
-    Symbol::Getvarpartiref,
-    Symbol::Load,
-    Symbol::Store,
-    Symbol::Cmpxchg,
-    Symbol::Atomicrmw,
-    Symbol::Fence,
-    Symbol::Trap,
-    Symbol::Watchpoint,
-    Symbol::Wpbranch,
-    Symbol::Swapstack,
-    Symbol::Newthread,
-    Symbol::Comminst,
-];
 
 /// The symbols that may stand behind the name of a block.
 const HEAD_SYMBOLS: [Symbol; 3] = [Symbol::Open, Symbol::SquareOpen, Symbol::Colon];
@@ -149,7 +89,7 @@ fn more_results(cursor: &mut Cursor, alloc: Global) -> Result<(Listing<Name>, In
 fn labelled_within(cursor: &mut Cursor, alloc: Global, full: bool) -> Result<Inst, ReadError>
     ensures { Gives result cursor.new (read_from (within labelled full) (first cursor.old).place cursor.old) }
 {
-    if is_barred(full, cursor.at_any(&INST_SYMBOLS)) {
+    if is_barred(full, begins_instruction(cursor.symbol())) {
         return Err(ReadError::Fault(too_many(cursor)));
     }
     labelled(cursor, alloc)
