@@ -1,4 +1,4 @@
--- A scalar as a key: what a hasher is given of it, a number for its kind and then what it holds.
+-- A scalar as a key: what a hasher is given of it, which is what it holds.
 use Rattle.std.specs.Prelude.{◌≡◌, true, ◌++◌}
 use Rattle.std.proofs.Common.{refl, sym, ap, ◌∙◌}
 use Rattle.std.specs.Hash.{u8, u32, u128, HashWrites}
@@ -9,13 +9,13 @@ use Rattle.mu_values.specs.ScalarLaws.{same_scalar-true}
 use Rattle.mu_values.specs.contracts.scalars.ScalarPartialEq.TheImpl as scalars
 
 abbrev pub writes : Scalar → HashWrites
-writes (Int width bits) = u8 0 ++ (u32 width ++ u128 bits)
-writes Null = u8 1
-writes (Object object) = u8 2 ++ u32 object
-writes (Place object position) = u8 3 ++ (u32 object ++ u32 position)
-writes (Func function) = u8 4 ++ u32 function
-writes (Stack stack) = u8 5 ++ u32 stack
-writes (Thread thread) = u8 6 ++ u32 thread
+writes (Int width bits) = u128 bits
+writes Null = u8 0
+writes (Object object) = u32 object
+writes (Place object position) = u32 object ++ u32 position
+writes (Func function) = u32 function
+writes (Stack stack) = u32 stack
+writes (Thread thread) = u32 thread
 
 -- the test of scalars that a key uses is the equality of scalars
 pub derived : (a b : Scalar) → scalars.ghosts.eq a b ≡ same_scalar a b

@@ -4,7 +4,7 @@ ghost use Rattle.write_history.specs.Keys.{writes, writes-respect};
 use mu_values::Scalar;
 use std::hash::{Hash, Hasher};
 
-/// A scalar that is hashed: by a number for its kind, and what it holds.
+/// A scalar that is hashed by what it holds. The scalars of a cell have one type, so their kinds and widths tell none from another.
 #[derive(Clone, Copy, PartialEq, Eq)]
 pub(crate) struct Key {
     pub(crate) scalar: Scalar,
@@ -17,33 +17,16 @@ impl Hash for Key {
 
     fn hash<H: Hasher>(&self, state: &mut H) {
         match self.scalar {
-            Scalar::Int { width, bits } => {
-                state.write_u8(0);
-                state.write_u32(width);
-                state.write_u128(bits);
-            }
-            Scalar::Null => state.write_u8(1),
-            Scalar::Object(object) => {
-                state.write_u8(2);
-                state.write_u32(object);
-            }
+            Scalar::Int { bits, .. } => state.write_u128(bits),
+            Scalar::Null => state.write_u8(0),
             Scalar::Place { object, at } => {
-                state.write_u8(3);
                 state.write_u32(object);
                 state.write_u32(at);
             }
-            Scalar::Func(function) => {
-                state.write_u8(4);
-                state.write_u32(function);
-            }
-            Scalar::Stack(stack) => {
-                state.write_u8(5);
-                state.write_u32(stack);
-            }
-            Scalar::Thread(thread) => {
-                state.write_u8(6);
-                state.write_u32(thread);
-            }
+            Scalar::Object(number)
+            | Scalar::Func(number)
+            | Scalar::Stack(number)
+            | Scalar::Thread(number) => state.write_u32(number),
         }
     }
 }
