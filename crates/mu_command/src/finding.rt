@@ -17,10 +17,11 @@ use client_script::RunClient;
 use mu_base::{Inputs, Status, Words};
 use mu_texts::{
     Ready, Start, Stop, Telling, What, enter, judge_client, judge_for_check, judge_for_print,
-    judge_for_run, judge_heap_script, judge_schedule, let_code_go,
+    judge_for_run, judge_heap_script, judge_schedule,
 };
 use mu_threads::Schedule;
 use std::alloc::Global;
+use std::mem;
 use typed_heap::Heap;
 
 // Fetches a bundle and judges it, for `mu check`.
@@ -170,7 +171,8 @@ fn find_start<I: Inputs>(
     })
 }
 
-// The run that is asked for. Each `?` at a value of many parts would make the proof longer.
+// The run that is asked for. Each `?` at a value of many parts would make the proof longer, and a refused bundle is not given back
+// part by part, since the process ends.
 #[tactic(auto, using(crate::proofs::Together::together_rules))]
 fn find_run<I: Inputs>(
     alloc: Global,
@@ -193,7 +195,7 @@ fn find_run<I: Inputs>(
                 telling: Telling::Lines,
             }),
             Err(stop) => {
-                let_code_go(code);
+                mem::forget(code);
                 Err(stop)
             }
         },

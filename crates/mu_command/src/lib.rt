@@ -4,7 +4,6 @@
 mod counting;
 mod finding;
 mod job;
-mod letting_go;
 mod loading;
 mod made;
 mod options;

@@ -8,9 +8,10 @@ use bundle_check::Checked;
 use mem_axioms::Rule;
 use mu_texts::{
     Ready, Start, Stop, Telling, enter, judge_client, judge_for_run, judge_heap_script,
-    judge_schedule, let_code_go,
+    judge_schedule,
 };
 use std::alloc::Global;
+use std::mem;
 use trial_text::trial_text;
 
 // How the run of a made bundle begins. Each file that a run may have is empty.
@@ -48,7 +49,7 @@ pub fn find_trial(alloc: Global, n: u32) -> Result<Ready, Stop>
                 telling: Telling::Counts { n },
             }),
             Err(stop) => {
-                let_code_go(code);
+                mem::forget(code);
                 Err(stop)
             }
         },

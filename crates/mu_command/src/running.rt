@@ -14,7 +14,6 @@ ghost use Rattle.mu_command.specs.Written.{Wrote, Writes, IsWhole};
 ghost use Rattle.mu_command.specs.Steps.{step_pieces, last_piece, behind_pieces, answered_step, Goes, IsOver};
 
 use crate::counting::write_counts;
-use crate::letting_go::let_machine_go;
 use crate::writing::{put_line, put_whole_text};
 use bundle_check::Checked;
 use client_hooks::Determined;
@@ -26,9 +25,10 @@ use mem_views::ViewMemory;
 use mu_base::{PutFault, Sink, Status};
 use mu_model::{Ending, Line, StepEnd};
 use mu_step::Machine;
-use mu_texts::{Ready, Start, Telling, let_bundle_go, let_code_go};
+use mu_texts::{Ready, Start, Telling};
 use run_print::{ending_status, ending_text, lines_text};
 use std::alloc::{AllocError, Global};
+use std::mem;
 use thread_acts::RunInputs;
 
 // Puts a text in one piece; a put that fails gives the status that goes with it.
@@ -239,7 +239,8 @@ fn write_told<S: Sink, M: Memory + Drop, C: Determined + Drop>(
     }
 }
 
-// Makes a run, and writes what is to be told of it.
+// Makes a run, and writes what is to be told of it. The process ends behind it, so the machine is left to the system, which takes all
+// memory back at once; to give it back part by part takes a tenth of a short run. The same goes for what `write` is given.
 #[tactic(auto, using(crate::proofs::InSteps::running))]
 fn write_run<S: Sink>(
     alloc: Global,
@@ -257,7 +258,7 @@ fn write_run<S: Sink>(
     match begin(alloc, code, start) {
         Ok(mut machine) => {
             let status = write_told(alloc, out, code, &mut machine, steps, telling);
-            let_machine_go(machine);
+            mem::forget(machine);
             status
         }
         Err(_) => Status::Memory,
@@ -291,7 +292,7 @@ pub fn write<S: Sink>(alloc: Global, ready: Ready, out: &mut S) -> Status
         },
         Ready::Canonical(bundle) => {
             let status = write_canonical(alloc, &bundle, out);
-            let_bundle_go(bundle);
+            mem::forget(bundle);
             status
         }
         Ready::Entered {
@@ -300,7 +301,7 @@ pub fn write<S: Sink>(alloc: Global, ready: Ready, out: &mut S) -> Status
             telling,
         } => {
             let status = write_run(alloc, out, &code, start, telling);
-            let_code_go(code);
+            mem::forget(code);
             status
         }
     }

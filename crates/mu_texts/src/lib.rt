@@ -4,7 +4,6 @@
 
 mod filling;
 mod judging;
-mod letting_go;
 mod ready;
 mod refusals;
 mod start;
@@ -15,7 +14,6 @@ pub use filling::judge_heap_script;
 pub use judging::{
     enter, judge_client, judge_for_check, judge_for_print, judge_for_run, judge_schedule,
 };
-pub use letting_go::{let_bundle_go, let_code_go};
 pub use ready::{Ready, Telling};
 pub use start::Start;
 pub use stop::Stop;
