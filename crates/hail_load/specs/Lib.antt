@@ -12,6 +12,8 @@ pub mod Judging
 pub mod Loading
 pub mod Known
 pub mod Answering
+pub mod Gathered
+pub mod Fills
 pub mod PartsSoFar
 pub mod LoadAnswers
 pub mod Laws

@@ -1,5 +1,5 @@
 // Which sources that are no lists fit a type, and the scalars that they are.
-ghost use Rattle.std.specs.Prelude.{◌≡◌, ℕ, ◌<◌, ◌≤◌, ◌∷◌, [], ◌++◌, Some, Ok, length, slice_get, slice_index_or, IfSome, IsTrue, OnOk};
+ghost use Rattle.std.specs.Prelude.{◌≡◌, ℕ, ◌<◌, ◌≤◌, ◌∷◌, [], Some, length, slice_get, slice_index_or, IfSome, IsTrue};
 ghost use Rattle.demands.specs.Names.{found};
 ghost use Rattle.type_laws.specs.Same.{IsGraph};
 ghost use Rattle.type_laws.specs.Class.{class_of};
@@ -14,6 +14,7 @@ ghost use Rattle.hail_load.specs.Fitting.{is_class, is_iref, refers, object_fits
 ghost use Rattle.hail_load.specs.Answering.{Makes, AreThere, behind, called, store_of};
 
 use crate::fault::{LoadFault, LoadKind};
+use crate::gathered::Gathered;
 use crate::parts::Made;
 use crate::targets::reference_spot;
 use crate::tree::{Piece, Root};
@@ -26,16 +27,16 @@ use mu_types::{Classes, TypeDef};
 use mu_values::{
     ConstKind, Literal, LiteralKind, Made as Constants, Scalar, judge_const, make_const,
 };
-use std::alloc::{AllocError, Global};
+use std::alloc::Global;
 use text_forms::Listing;
 use typed_heap::Heap;
 
 /// What a source is judged by: the code of the bundle, the objects that there are, and those of the script by name.
 #[derive(Clone, Copy)]
-pub(crate) struct Scene<'a> {
-    pub(crate) code: &'a Checked,
-    pub(crate) heap: &'a Heap,
-    pub(crate) made: &'a Scope<Made>,
+pub(crate) struct Scene<'code, 'now> {
+    pub(crate) code: &'code Checked,
+    pub(crate) heap: &'now Heap,
+    pub(crate) made: &'now Scope<Made>,
 }
 
 /// Whether an object fits what the type with this definition refers to.
@@ -139,12 +140,12 @@ fn number(
     classes: &Classes,
     t: u32,
     numeral: &Numeral,
-    scalars: &mut Vec<Scalar>,
+    scalars: &mut Gathered,
 ) -> Result<(), LoadFault>
     requires graph { IsGraph classes.now.definitions }
     requires t { t < length classes.now.definitions }
     requires width { IfSome (width_of (slice_get classes.now.definitions t)) (λ w. (1 ≤ w) × (w ≤ 128)) }
-    ensures { Makes (behind scalars.old.items (number_scalars (width_of (slice_get classes.now.definitions t)) numeral.now)) scalars.new.items result }
+    ensures { Makes (behind scalars.old (number_scalars (width_of (slice_get classes.now.definitions t)) numeral.now)) scalars.new result }
 {
     let literal = literal(numeral);
     match judge_const(classes, t, &literal, &Listing::new(alloc)) {
@@ -154,7 +155,7 @@ fn number(
         }),
         Ok(()) => {
             let value = make_const(alloc, classes, t, &literal, &Constants::new(alloc))?;
-            scalars.extend_from_slice(value.as_slice())?;
+            scalars.push_each(value.as_slice())?;
             Ok(())
         }
     }
@@ -191,33 +192,17 @@ fn constant_fits(code: &Checked, t: u32, constant: u32) -> bool
         && code.constant_type(constant) == code.classes().class(t)
 }
 
-/// The number of the constant that a name stands for, where that is of a type.
-pub(crate) fn constant_named(scene: Scene, t: u32, name: &Name) -> Option<u32>
-    requires { t < length (code_of scene.code.now).graph }
-    ensures there { IfSome result (λ n. n < length (code_of scene.entry.code.now).constants) }
-    ensures value { IfSome result (λ n. named_scalars (code_of scene.entry.code.now) scene.entry.heap.now.objects t name.now.place (found (code_of scene.entry.code.now).names name.now.text) ≡ Ok (slice_index_or (code_of scene.entry.code.now).values n [])) }
-{
-    match scene.code.tables().globals.names.find(name.text.as_slice()) {
-        Some(Sort::Constant(n)) => if constant_fits(scene.code, t, *n) {
-            Some(*n)
-        } else {
-            None
-        },
-        _ => None,
-    }
-}
-
-/// Adds the value of a constant.
+/// Adds the value of a constant, in constant time.
 #[tactic(auto, using(std::proofs::lemmas::Option::get_or_from_slice_get))]
-fn constant(
-    code: &Checked,
+fn constant<'code>(
+    code: &'code Checked,
     t: u32,
     place: usize,
     constant: u32,
-    scalars: &mut Vec<Scalar>,
+    scalars: &mut Gathered<'code>,
 ) -> Result<(), LoadFault>
     requires { t < length (code_of code.now).graph }
-    ensures { Makes (behind scalars.old.items (where_fits place (is_class (class_of (code_of code.now).graph t) (slice_get (code_of code.now).constants constant)) (slice_index_or (code_of code.now).values constant []))) scalars.new.items result }
+    ensures { Makes (behind scalars.old (where_fits place (is_class (class_of (code_of code.now).graph t) (slice_get (code_of code.now).constants constant)) (slice_index_or (code_of code.now).values constant []))) scalars.new result }
 {
     if !constant_fits(code, t, constant) {
         return Err(LoadFault::At {
@@ -225,21 +210,13 @@ fn constant(
             place,
         });
     }
-    scalars.extend_from_slice(code.constant(constant).as_slice())?;
-    Ok(())
-}
-
-/// Adds a scalar at the end.
-fn push(scalars: &mut Vec<Scalar>, scalar: Scalar) -> Result<(), AllocError>
-    ensures { OnOk result (scalars.new.items ≡ scalars.old.items ++ scalar ∷ []) }
-{
-    scalars.push(scalar)?;
+    scalars.push_constant(code.constant(constant).as_slice())?;
     Ok(())
 }
 
 /// Adds a scalar, where it fits.
-fn add(scalars: &mut Vec<Scalar>, place: usize, fits: bool, scalar: Scalar) -> Result<(), LoadFault>
-    ensures { Makes (behind scalars.old.items (where_fits place fits (scalar ∷ []))) scalars.new.items result }
+fn add(scalars: &mut Gathered, place: usize, fits: bool, scalar: Scalar) -> Result<(), LoadFault>
+    ensures { Makes (behind scalars.old (where_fits place fits (scalar ∷ []))) scalars.new result }
 {
     if !fits {
         return Err(LoadFault::At {
@@ -247,14 +224,19 @@ fn add(scalars: &mut Vec<Scalar>, place: usize, fits: bool, scalar: Scalar) -> R
             place,
         });
     }
-    push(scalars, scalar)?;
+    scalars.push(scalar)?;
     Ok(())
 }
 
 /// Adds what a global name stands for.
-fn named(scene: Scene, t: u32, name: &Name, scalars: &mut Vec<Scalar>) -> Result<(), LoadFault>
+fn named<'code>(
+    scene: Scene<'code, '_>,
+    t: u32,
+    name: &Name,
+    scalars: &mut Gathered<'code>,
+) -> Result<(), LoadFault>
     requires { t < length (code_of scene.code.now).graph }
-    ensures { Makes (behind scalars.old.items (named_scalars (code_of scene.entry.code.now) scene.entry.heap.now.objects t name.now.place (found (code_of scene.entry.code.now).names name.now.text))) scalars.new.items result }
+    ensures { Makes (behind scalars.old (named_scalars (code_of scene.entry.code.now) scene.entry.heap.now.objects t name.now.place (found (code_of scene.entry.code.now).names name.now.text))) scalars.new result }
 {
     let place = name.place;
     match scene.code.tables().globals.names.find(name.text.as_slice()) {
@@ -278,9 +260,9 @@ fn named(scene: Scene, t: u32, name: &Name, scalars: &mut Vec<Scalar>) -> Result
 }
 
 /// Adds the reference to an object of the script.
-fn object(scene: Scene, t: u32, name: &Name, scalars: &mut Vec<Scalar>) -> Result<(), LoadFault>
+fn object(scene: Scene, t: u32, name: &Name, scalars: &mut Gathered) -> Result<(), LoadFault>
     requires { t < length (code_of scene.code.now).graph }
-    ensures { Makes (behind scalars.old.items (object_scalars (code_of scene.entry.code.now) scene.entry.heap.now.objects t name.now.place (found scene.entry.made.now name.now.text))) scalars.new.items result }
+    ensures { Makes (behind scalars.old (object_scalars (code_of scene.entry.code.now) scene.entry.heap.now.objects t name.now.place (found scene.entry.made.now name.now.text))) scalars.new result }
 {
     match scene.made.find(name.text.as_slice()) {
         None => Err(LoadFault::At {
@@ -301,12 +283,12 @@ fn place(
     place: usize,
     root: &Root,
     more: &[Piece],
-    scalars: &mut Vec<Scalar>,
+    scalars: &mut Gathered,
 ) -> Result<(), LoadFault>
     requires known { IsKnown (code_of scene.code.now) }
     requires made { AreThere (code_of scene.code.now).graph scene.made.now }
     requires t { t < length (code_of scene.code.now).graph }
-    ensures { Makes (behind scalars.old.items (place_scalars (code_of scene.entry.code.now) scene.entry.heap.now.objects t place (target_spot (code_of scene.entry.code.now) scene.entry.made.now root.now (next_indexes more.now)))) scalars.new.items result }
+    ensures { Makes (behind scalars.old (place_scalars (code_of scene.entry.code.now) scene.entry.heap.now.objects t place (target_spot (code_of scene.entry.code.now) scene.entry.made.now root.now (next_indexes more.now)))) scalars.new result }
 {
     if !is_iref(scene.code.classes().definition(t)) {
         return Err(LoadFault::At {
@@ -323,18 +305,18 @@ fn place(
 }
 
 /// Adds the scalars of a source that is no list, by the type that it is for, with the pieces behind it.
-pub(crate) fn scalars_of(
+pub(crate) fn scalars_of<'code>(
     alloc: Global,
-    scene: Scene,
+    scene: Scene<'code, '_>,
     t: u32,
     piece: &Piece,
     more: &[Piece],
-    scalars: &mut Vec<Scalar>,
+    scalars: &mut Gathered<'code>,
 ) -> Result<(), LoadFault>
     requires known { IsKnown (code_of scene.code.now) }
     requires made { AreThere (code_of scene.code.now).graph scene.made.now }
     requires t { t < length (code_of scene.code.now).graph }
-    ensures { Makes (behind scalars.old.items (scalars_of (code_of scene.entry.code.now) (store_of scene.entry.heap.now scene.entry.made.now) t piece.now more.now)) scalars.new.items result }
+    ensures { Makes (behind scalars.old (scalars_of (code_of scene.entry.code.now) (store_of scene.entry.heap.now scene.entry.made.now) t piece.now more.now)) scalars.new result }
 {
     match piece {
         Piece::Number(numeral) => number(alloc, scene.code.classes(), t, numeral, scalars),

@@ -1,5 +1,5 @@
 // Which sources fit a part, lists among them, and the scalars that they are.
-ghost use Rattle.std.specs.Prelude.{◌≡◌, ◌<◌, ◌∷◌, [], Some, Ok, Err, length, slice_index_or, IfSome, OnOk};
+ghost use Rattle.std.specs.Prelude.{◌≡◌, ◌∷◌, [], Some, Err, OnOk};
 ghost use Rattle.std.specs.List.{All};
 ghost use Rattle.demands.specs.declared.fault.Fault.TheVariants.{At};
 ghost use Rattle.type_laws.specs.Leaves.{times};
@@ -11,12 +11,12 @@ ghost use Rattle.hail_load.specs.Judging.{piece_place, wanted_by, part_scalars, 
 ghost use Rattle.hail_load.specs.Answering.{Makes, GoesOn, behind, before, IsThere, AreThere, store_of};
 
 use crate::fault::{LoadFault, LoadKind};
-use crate::fitting::{Scene, constant_named, scalars_of};
+use crate::fitting::{Scene, scalars_of};
+use crate::gathered::Gathered;
 use crate::parts::Part;
 use crate::pending::Pending;
 use crate::tree::Piece;
 use mu_types::{Classes, TypeDef};
-use mu_values::Scalar;
 use std::alloc::Global;
 
 /// Where a source begins.
@@ -132,18 +132,18 @@ fn push_parts(
 }
 
 /// Adds the scalars of a source that is no list, for a part.
-fn part_scalars(
+fn part_scalars<'code>(
     alloc: Global,
-    scene: Scene,
+    scene: Scene<'code, '_>,
     part: Part,
     piece: &Piece,
     more: &[Piece],
-    scalars: &mut Vec<Scalar>,
+    scalars: &mut Gathered<'code>,
 ) -> Result<(), LoadFault>
     requires known { IsKnown (code_of scene.code.now) }
     requires made { AreThere (code_of scene.code.now).graph scene.made.now }
     requires part { IsThere (code_of scene.code.now).graph part }
-    ensures { Makes (behind scalars.old.items (part_scalars (code_of scene.entry.code.now) (store_of scene.entry.heap.now scene.entry.made.now) part piece.now more.now)) scalars.new.items result }
+    ensures { Makes (behind scalars.old (part_scalars (code_of scene.entry.code.now) (store_of scene.entry.heap.now scene.entry.made.now) part piece.now more.now)) scalars.new result }
 {
     match part {
         Part::Value(t) => scalars_of(alloc, scene, t, piece, more, scalars),
@@ -152,18 +152,18 @@ fn part_scalars(
 }
 
 /// One piece, for the first of some parts.
-fn judge_piece(
+fn judge_piece<'code>(
     alloc: Global,
-    scene: Scene,
+    scene: Scene<'code, '_>,
     piece: &Piece,
     more: &[Piece],
     parts: &mut Pending,
-    scalars: &mut Vec<Scalar>,
+    scalars: &mut Gathered<'code>,
 ) -> Result<(), LoadFault>
     requires known { IsKnown (code_of scene.code.now) }
     requires made { AreThere (code_of scene.code.now).graph scene.made.now }
     requires parts { All (IsThere (code_of scene.code.now).graph) parts.old }
-    ensures told { GoesOn (behind scalars.old.items (judged (code_of scene.entry.code.now) (store_of scene.entry.heap.now scene.entry.made.now) parts.old (piece.now ∷ more.now))) (behind scalars.new.items (judged (code_of scene.entry.code.now) (store_of scene.entry.heap.now scene.entry.made.now) parts.new more.now)) result }
+    ensures told { GoesOn (behind scalars.old (judged (code_of scene.entry.code.now) (store_of scene.entry.heap.now scene.entry.made.now) parts.old (piece.now ∷ more.now))) (behind scalars.new (judged (code_of scene.entry.code.now) (store_of scene.entry.heap.now scene.entry.made.now) parts.new more.now)) result }
     ensures parts { OnOk result (All (IsThere (code_of scene.entry.code.now).graph) parts.new) }
 {
     if let Piece::Index(_) = piece {
@@ -179,45 +179,18 @@ fn judge_piece(
     }
 }
 
-/// The number of the constant that a source of one piece is, where that is of a type.
-fn constant_piece(scene: Scene, t: u32, piece: &Piece) -> Option<u32>
-    requires { t < length (code_of scene.code.now).graph }
-    ensures there { IfSome result (λ n. n < length (code_of scene.entry.code.now).constants) }
-    ensures value { IfSome result (λ n. judged (code_of scene.entry.code.now) (store_of scene.entry.heap.now scene.entry.made.now) (Value t ∷ []) (piece.now ∷ []) ≡ Ok (slice_index_or (code_of scene.entry.code.now).values n [])) }
-{
-    match piece {
-        Piece::Global(name) => constant_named(scene, t, name),
-        _ => None,
-    }
-}
-
-/// The number of the constant that a source is, where it fits the part: its scalars need not be copied. It takes the time of a hash.
-pub(crate) fn constant_alone(scene: Scene, part: Part, source: &[Piece]) -> Option<u32>
-    requires { IsThere (code_of scene.code.now).graph part }
-    ensures there { IfSome result (λ n. n < length (code_of scene.entry.code.now).constants) }
-    ensures value { IfSome result (λ n. judged (code_of scene.entry.code.now) (store_of scene.entry.heap.now scene.entry.made.now) (part ∷ []) source.now ≡ Ok (slice_index_or (code_of scene.entry.code.now).values n [])) }
-{
-    let Part::Value(t) = part else {
-        return None;
-    };
-    let [piece] = source else {
-        return None;
-    };
-    constant_piece(scene, t, piece)
-}
-
 /// Adds the scalars of a source for a part. It takes memory for the scalars and for the lists in one another.
-pub(crate) fn judge(
+pub(crate) fn judge<'code>(
     alloc: Global,
-    scene: Scene,
+    scene: Scene<'code, '_>,
     part: Part,
     source: &[Piece],
-    scalars: &mut Vec<Scalar>,
+    scalars: &mut Gathered<'code>,
 ) -> Result<(), LoadFault>
     requires known { IsKnown (code_of scene.code.now) }
     requires made { AreThere (code_of scene.code.now).graph scene.made.now }
     requires part { IsThere (code_of scene.code.now).graph part }
-    ensures { Makes (behind scalars.old.items (judged (code_of scene.entry.code.now) (store_of scene.entry.heap.now scene.entry.made.now) (part ∷ []) source.now)) scalars.new.items result }
+    ensures { Makes (behind scalars.old (judged (code_of scene.entry.code.now) (store_of scene.entry.heap.now scene.entry.made.now) (part ∷ []) source.now)) scalars.new result }
 {
     let mut parts = Pending::new(alloc);
     parts.push(part, 1)?;

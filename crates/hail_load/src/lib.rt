@@ -3,7 +3,9 @@
 
 mod commands;
 mod fault;
+mod fills;
 mod fitting;
+mod gathered;
 mod indexes;
 mod judgement;
 mod laws;

@@ -1,30 +1,31 @@
 // What the commands of a script make.
-ghost use Rattle.std.specs.Prelude.{◌≡◌, ◌+◌, ◌-◌, ◌<◌, ◌^◌, [], Some, Err, length, slice_get, slice_index_or, OnOk, OnErr};
+ghost use Rattle.std.specs.Prelude.{◌≡◌, ◌+◌, ◌-◌, ◌<◌, ◌≤◌, ◌^◌, Some, Err, length, IfOk, OnOk, OnErr};
 ghost use Rattle.demands.specs.declared.fault.Fault.TheVariants.{At};
 ghost use Rattle.demands.specs.Names.{found, added};
 ghost use Rattle.check_tables.specs.TypeTests.{is_hybrid, is_no_hybrid};
 ghost use Rattle.check_tables.specs.Lookups.{written_number};
-ghost use Rattle.typed_heap.specs.Objects.{with_filled};
 ghost use Rattle.hail_load.specs.declared.parts.Part.TheVariants.{Value, Hybrid};
 ghost use Rattle.hail_load.specs.Code.{code_of};
 ghost use Rattle.hail_load.specs.Known.{IsKnown};
 ghost use Rattle.hail_load.specs.Loading.{make, new_of, newhybrid_of, init_of, done};
 ghost use Rattle.hail_load.specs.LoadAnswers.{AreGlobals, Loads};
 ghost use Rattle.hail_load.specs.Answering.{Makes, AreThere, AreWhole, IsSame, not_made, store_of};
+ghost use Rattle.hail_load.specs.Fills.{shown, Lags};
 
 use crate::fault::{LoadFault, LoadKind};
+use crate::fills::Fills;
 use crate::fitting::Scene;
-use crate::judgement::{constant_alone, judge};
-use crate::parts::{Made, Part, Spot};
+use crate::gathered::Gathered;
+use crate::judgement::judge;
+use crate::parts::{Made, Part};
 use crate::targets::target_spot;
 use crate::tree::{Command, Hail, Piece, Target};
 use bundle_check::Checked;
 use demands::Scope;
 use ir_lex::Name;
 use mu_types::TypeDef;
-use mu_values::Scalar;
 use std::alloc::{AllocError, Global};
-use typed_heap::{CellId, Heap, HeapFault};
+use typed_heap::{Heap, HeapFault};
 
 /// No heap has more objects.
 const MOST_OBJECTS: u32 = 4294967293;
@@ -96,6 +97,8 @@ fn make_object(
     ensures made { Makes (make (code_of loader.entry.code.now) (store_of heap.old made.old) naming.entry.place naming.entry.name.now (Value t)) (store_of heap.new made.new) result }
     ensures err { OnErr result (heap.new ≡ heap.old) }
     ensures whole { AreWhole heap.old.objects → AreWhole heap.new.objects }
+    ensures more { length heap.old.objects ≤ length heap.new.objects }
+    ensures spare { heap.new.spare ≡ heap.old.spare }
     ensures there { OnOk result (AreThere (code_of loader.entry.code.now).graph made.old → AreThere (code_of loader.entry.code.now).graph made.new) }
 {
     name_next(loader.alloc, heap, made, naming.name, Part::Value(t))?;
@@ -119,6 +122,8 @@ fn make_hybrid(
     ensures made { Makes (make (code_of loader.entry.code.now) (store_of heap.old made.old) naming.entry.place naming.entry.name.now (Hybrid t many)) (store_of heap.new made.new) result }
     ensures err { OnErr result (heap.new ≡ heap.old) }
     ensures whole { AreWhole heap.old.objects → AreWhole heap.new.objects }
+    ensures more { length heap.old.objects ≤ length heap.new.objects }
+    ensures spare { heap.new.spare ≡ heap.old.spare }
     ensures there { OnOk result (AreThere (code_of loader.entry.code.now).graph made.old → AreThere (code_of loader.entry.code.now).graph made.new) }
 {
     name_next(
@@ -170,6 +175,8 @@ fn new_object(
     ensures made { Makes (new_of (code_of loader.entry.code.now) (store_of heap.old made.old) naming.entry.place naming.entry.name.now of_type.now (written_number (found (code_of loader.entry.code.now).names of_type.now.text))) (store_of heap.new made.new) result }
     ensures err { OnErr result (heap.new ≡ heap.old) }
     ensures whole { AreWhole heap.old.objects → AreWhole heap.new.objects }
+    ensures more { length heap.old.objects ≤ length heap.new.objects }
+    ensures spare { heap.new.spare ≡ heap.old.spare }
     ensures there { OnOk result (AreThere (code_of loader.entry.code.now).graph made.old → AreThere (code_of loader.entry.code.now).graph made.new) }
 {
     match loader.code.tables().type_named(of_type) {
@@ -195,6 +202,8 @@ fn new_hybrid(
     ensures made { Makes (newhybrid_of (code_of loader.entry.code.now) (store_of heap.old made.old) naming.entry.place naming.entry.name.now of_type.now many (written_number (found (code_of loader.entry.code.now).names of_type.now.text))) (store_of heap.new made.new) result }
     ensures err { OnErr result (heap.new ≡ heap.old) }
     ensures whole { AreWhole heap.old.objects → AreWhole heap.new.objects }
+    ensures more { length heap.old.objects ≤ length heap.new.objects }
+    ensures spare { heap.new.spare ≡ heap.old.spare }
     ensures there { OnOk result (AreThere (code_of loader.entry.code.now).graph made.old → AreThere (code_of loader.entry.code.now).graph made.new) }
 {
     match loader.code.tables().type_named(of_type) {
@@ -207,85 +216,48 @@ fn new_hybrid(
     }
 }
 
-/// Sets the cells of a part. No part has fewer cells than its source has scalars; where no memory is found nothing is set.
-#[tactic(auto, using(crate::proofs::Filling::filled_whole))]
-fn fill(heap: &mut Heap, spot: Spot, scalars: &[Scalar]) -> Result<(), AllocError>
-    requires { AreWhole heap.old.objects }
-    ensures objects { OnOk result (heap.new.objects ≡ with_filled heap.old.objects spot.object spot.at scalars.now (slice_get heap.old.objects spot.object)) }
-    ensures left { heap.new.left ≡ heap.old.left }
-    ensures err { OnErr result (heap.new.objects ≡ heap.old.objects) }
-    ensures whole { AreWhole heap.new.objects }
-{
-    if spot.object >= heap.objects() {
-        return Ok(());
-    }
-    if spot.at as usize + scalars.len() > heap.size(spot.object) as usize {
-        return Err(AllocError);
-    }
-    heap.reserve(scalars.len())?;
-    let Spot { object, at, .. } = spot;
-    heap.set_all(CellId { object, at }, scalars);
-    Ok(())
-}
-
-/// Sets the cells of a part by a constant, whose scalars are read where they stand.
-#[tactic(auto, using(std::proofs::lemmas::Option::get_or_from_slice_get))]
-fn fill_constant(heap: &mut Heap, code: &Checked, spot: Spot, n: u32) -> Result<(), AllocError>
-    requires there { n < length (code_of code.now).constants }
-    requires whole { AreWhole heap.old.objects }
-    ensures objects { OnOk result (heap.new.objects ≡ with_filled heap.old.objects spot.object spot.at (slice_index_or (code_of code.now).values n []) (slice_get heap.old.objects spot.object)) }
-    ensures left { heap.new.left ≡ heap.old.left }
-    ensures err { OnErr result (heap.new.objects ≡ heap.old.objects) }
-    ensures whole { AreWhole heap.new.objects }
-{
-    fill(heap, spot, code.constant(n).as_slice())
-}
-
-/// `.init`: the target is found first, then the source is judged whole, and then its cells are set. A constant alone is read where it
-/// stands. The scalars of any other source take the place of what is in `scalars`: one list is there for all commands, so that its memory
-/// is kept from one to the next.
-fn init(
-    loader: Loader,
+/// `.init`: the target is found first, then the source is judged whole, and then its cells are filled. Its scalars take the place of what
+/// is in `scalars`: one list is there for all commands, so that its memory is kept from one to the next.
+fn init<'a>(
+    loader: Loader<'a>,
     heap: &mut Heap,
+    fills: &mut Fills<'a>,
     made: &Scope<Made>,
     target: &Target,
     source: &[Piece],
-    scalars: &mut Vec<Scalar>,
+    scalars: &mut Gathered<'a>,
 ) -> Result<(), LoadFault>
     requires known { IsKnown (code_of loader.code.now) }
     requires made { AreThere (code_of loader.code.now).graph made.now }
-    requires whole { AreWhole heap.old.objects }
-    ensures made { Makes (init_of (code_of loader.entry.code.now) (store_of heap.old made.now) target.now source.now) (store_of heap.new made.now) result }
-    ensures err { OnErr result (IsSame heap.old heap.new) }
-    ensures whole { AreWhole heap.new.objects }
+    requires lags { Lags heap.old fills.old }
+    ensures made { Makes (init_of (code_of loader.entry.code.now) (store_of (shown heap.old fills.old) made.now) target.now source.now) (store_of (shown heap.new fills.new) made.now) result }
+    ensures err { OnErr result (IsSame (shown heap.old fills.old) (shown heap.new fills.new)) }
+    ensures lags { Lags heap.new fills.new }
 {
     let code = loader.code;
     let spot = target_spot(code, made, &target.root, target.indexes.as_slice())?;
     let scene = Scene { code, heap, made };
-    if let Some(n) = constant_alone(scene, spot.part, source) {
-        fill_constant(heap, code, spot, n)?;
-        return Ok(());
-    }
     scalars.clear();
     judge(loader.alloc, scene, spot.part, source, scalars)?;
-    fill(heap, spot, scalars)?;
+    fills.add(heap, spot, scalars.as_slice())?;
     Ok(())
 }
 
 /// One command. After a refusal the objects are as before.
-fn perform(
-    loader: Loader,
+fn perform<'a>(
+    loader: Loader<'a>,
     heap: &mut Heap,
+    fills: &mut Fills<'a>,
     made: &mut Scope<Made>,
     command: &Command,
-    scalars: &mut Vec<Scalar>,
+    scalars: &mut Gathered<'a>,
 ) -> Result<(), LoadFault>
     requires known { IsKnown (code_of loader.code.now) }
     requires there { AreThere (code_of loader.code.now).graph made.old }
-    requires whole { AreWhole heap.old.objects }
-    ensures made { Makes (done (code_of loader.entry.code.now) (store_of heap.old made.old) command.now) (store_of heap.new made.new) result }
-    ensures err { OnErr result (IsSame heap.old heap.new) }
-    ensures whole { AreWhole heap.new.objects }
+    requires lags { Lags heap.old fills.old }
+    ensures made { Makes (done (code_of loader.entry.code.now) (store_of (shown heap.old fills.old) made.old) command.now) (store_of (shown heap.new fills.new) made.new) result }
+    ensures err { OnErr result (IsSame (shown heap.old fills.old) (shown heap.new fills.new)) }
+    ensures lags { Lags heap.new fills.new }
     ensures there { OnOk result (AreThere (code_of loader.entry.code.now).graph made.new) }
 {
     match command {
@@ -304,9 +276,37 @@ fn perform(
             new_hybrid(loader, heap, made, naming, of_type, length.number.magnitude)
         }
         Command::Init { target, source } => {
-            init(loader, heap, made, target, source.as_slice(), scalars)
+            init(
+                loader,
+                heap,
+                fills,
+                made,
+                target,
+                source.as_slice(),
+                scalars,
+            )
         }
     }
+}
+
+/// The commands in order, up to the first that is refused.
+fn perform_all<'a>(
+    loader: Loader<'a>,
+    heap: &mut Heap,
+    fills: &mut Fills<'a>,
+    commands: &[Command],
+) -> Result<(), LoadFault>
+    requires known { IsKnown (code_of loader.code.now) }
+    requires lags { Lags heap.old fills.old }
+    ensures loads { Loads (code_of loader.entry.code.now) commands.now (shown heap.old fills.old) (shown heap.new fills.new) result }
+    ensures lags { Lags heap.new fills.new }
+{
+    let mut made = Scope::new(loader.alloc);
+    let mut scalars = Gathered::new(loader.alloc);
+    for command in commands {
+        perform(loader, heap, fills, &mut made, command, &mut scalars)?;
+    }
+    Ok(())
 }
 
 /// Tells what is known of the code of a bundle; it does nothing.
@@ -335,8 +335,11 @@ fn tell_known(code: &Checked)
 /// holds what the commands before made. The same holds after `Memory`, which says that no memory was found, and where there would be
 /// more than 4,294,967,293 objects.
 ///
-/// Each command takes the time of a hash or two, and time for its source, for the cells of what it makes, for the fields before a field
-/// that an index names, and for the leaves of what a reference refers to.
+/// Each command takes the time of a hash or two, and time for its source, for the cells of an object that it makes or is the first to fill,
+/// for the fields before a field that an index names, and for the leaves of what a reference refers to. The scalars of a constant are not
+/// copied: the heap is given all scalars at the end, or after a refusal, and each cell once, however often it was filled. Until then that
+/// takes some 50 bytes for each source that is no list and 4 for each cell of an object that is filled, and in the heap room for a scalar
+/// for each of these cells, which is 32.
 pub fn load_hail(
     alloc: Global,
     hail: &Hail,
@@ -348,10 +351,8 @@ pub fn load_hail(
 {
     tell_known(code);
     let loader = Loader { alloc, code };
-    let mut made = Scope::new(alloc);
-    let mut scalars = Vec::new(alloc);
-    for command in hail.as_slice() {
-        perform(loader, heap, &mut made, command, &mut scalars)?;
-    }
-    Ok(())
+    let mut fills = Fills::new(alloc);
+    let result = perform_all(loader, heap, &mut fills, hail.as_slice());
+    fills.settle(heap);
+    result
 }

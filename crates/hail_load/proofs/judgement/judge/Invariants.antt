@@ -7,7 +7,7 @@ use Rattle.hail_load.proofs.judgement.judge.Given as goal
 
 abbrev pub invariant-each : goal.invariant-each
 invariant-each l = record {
-  told : behind l.scalars.items (judged (code_of l.scene.code.now) (store_of l.scene.heap.now l.scene.made.now) l.parts l.left) ≡ behind l.fn.scalars.items (judged (code_of l.scene.code.now) (store_of l.scene.heap.now l.scene.made.now) (l.fn.part ∷ []) l.fn.source);
+  told : behind l.scalars (judged (code_of l.scene.code.now) (store_of l.scene.heap.now l.scene.made.now) l.parts l.left) ≡ behind l.fn.scalars (judged (code_of l.scene.code.now) (store_of l.scene.heap.now l.scene.made.now) (l.fn.part ∷ []) l.fn.source);
   parts : All (IsThere (code_of l.scene.code.now).graph) l.parts;
 }
 
