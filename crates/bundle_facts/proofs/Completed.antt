@@ -61,7 +61,7 @@ reference_from from (x ∷ ds) (suc n) d r e s =
     let z : from + suc n ≡ suc from + n = omega arith in
     behind (references from x) (references_from (suc from) ds) r (reference_from (suc from) ds n d r e (subst (λ (k : ℕ). StandsIn (references k d) r) z s))
 
-reference_in : (w : List TypeDef) (n : ℕ) (d r : TypeDef) → n < length w → slice_get (complete w) n ≡ Some d → StandsIn (references n d) r → StandsIn (complete w) r
+pub reference_in : (w : List TypeDef) (n : ℕ) (d r : TypeDef) → n < length w → slice_get (complete w) n ≡ Some d → StandsIn (references n d) r → StandsIn (complete w) r
 reference_in w n d r l e s =
     let four = Int 1 ∷ Int 32 ∷ StackRef ∷ ThreadRef ∷ [] in
     let refs = references_from 0 (w ++ Void ∷ []) in
@@ -75,7 +75,7 @@ void_behind : (w : List TypeDef) → slice_get (w ++ Void ∷ []) (length w) ≡
 void_behind [] = refl
 void_behind (d ∷ w) = void_behind w
 
-void_in : (w : List TypeDef) → StandsIn (complete w) (Ref (length w))
+pub void_in : (w : List TypeDef) → StandsIn (complete w) (Ref (length w))
 void_in w =
     let four = Int 1 ∷ Int 32 ∷ StackRef ∷ ThreadRef ∷ [] in
     let z : 0 + length w ≡ length w = omega arith in
@@ -96,7 +96,7 @@ written_there p t test none h = by (nat_lt t p.written) (slice_get p.definitions
     by true None e f k = let z : false ≡ true = sym none ∙ k in cc
     by true (Some d) e f k = (d, is_below t p.written e, f, k)
 
-ref_stands : (t : ℕ) (d : TypeDef) → is_type_there (Some d) ≡ true → StandsIn (references t d) (Ref t) × StandsIn (references t d) (Iref t)
+pub ref_stands : (t : ℕ) (d : TypeDef) → is_type_there (Some d) ≡ true → StandsIn (references t d) (Ref t) × StandsIn (references t d) (Iref t)
 ref_stands t (Sig takes gives) h = cc
 ref_stands t (Int w) h = (record { at = 0; there = refl }, record { at = 1; there = refl })
 ref_stands t (Struct fields) h = (record { at = 0; there = refl }, record { at = 1; there = refl })
@@ -109,7 +109,7 @@ ref_stands t (FuncRef x) h = (record { at = 0; there = refl }, record { at = 1; 
 ref_stands t StackRef h = (record { at = 0; there = refl }, record { at = 1; there = refl })
 ref_stands t ThreadRef h = (record { at = 0; there = refl }, record { at = 1; there = refl })
 
-funcref_stands : (t : ℕ) (d : TypeDef) → is_sig (Some d) ≡ true → StandsIn (references t d) (FuncRef t)
+pub funcref_stands : (t : ℕ) (d : TypeDef) → is_sig (Some d) ≡ true → StandsIn (references t d) (FuncRef t)
 funcref_stands t (Sig takes gives) h = record { at = 0; there = refl }
 funcref_stands t (Int w) h = cc
 funcref_stands t (Struct fields) h = cc

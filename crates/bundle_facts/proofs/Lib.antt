@@ -11,3 +11,4 @@ pub mod Constants
 pub mod FirstBlocks
 pub mod Derived
 pub mod Classes
+pub mod Spelled

@@ -125,7 +125,7 @@ counted_low f h names written signatures constants cells functions a = record {
   one = λ x y v e k. a.one x y v (subst (λ (es : Names Sort). found es x ≡ Some v) names e) (subst (λ (es : Names Sort). found es y ≡ Some v) names k);
 }
 
-item_low : (g : Globals) (i : Item) → AreLow g → AreLow (with_item g i)
+pub item_low : (g : Globals) (i : Item) → AreLow g → AreLow (with_item g i)
 item_low g (items.Typedef d) a = record {
   low = added_low g.names g.counts (with_item g (items.Typedef d)).counts d.name.text (sorts.Written g.counts.written) a.low
       (record { written = omega arith; signatures = omega arith; constants = omega arith; global_cells = omega arith; functions = omega arith }) (λ new. omega arith);

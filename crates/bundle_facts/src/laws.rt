@@ -1,5 +1,6 @@
 // Facts of checked bundles: each function is proved, and does nothing.
 ghost use Rattle.bundle_facts.specs.Facts.{WidthsAreAllowed, WidthsAreNarrow, GlobalsAreTypes, ClassesAreDefined, HaveOneShape, PartsHaveClasses, ClassesDecideFits, LeavesOfClasses, RefsAreDefined, IrefsAreDefined, FuncrefsAreDefined, TypesAreThere, ZerosFit, SignaturesAreDefined, ClassesDecideSignatures, FuncrefsDecideSignatures, FunctionsHaveSignatures, FunctionsAreThere, FunctionValuesFit, FunctionsOfClassFit, CalledFunctionsFit, ConstantValuesFit, ConstantsHaveClasses, IntConstantsAreScalars, FirstBlocksFit};
+ghost use Rattle.bundle_facts.specs.Spelled.{NamesOfTextsAreSpelled};
 ghost use Rattle.bundle_facts.specs.Texts.{DerivedHaveBlocks};
 
 /// Every int type has an allowed width.
@@ -130,4 +131,9 @@ pub fn widths_are_narrow()
 /// The class of each global is in the graph.
 pub fn globals_are_types()
     ensures { GlobalsAreTypes }
+{}
+
+/// In a bundle that is read from a text the names of functions, of their versions and of their blocks are spelled as names.
+pub fn names_are_spelled()
+    ensures { NamesOfTextsAreSpelled }
 {}

@@ -1,6 +1,6 @@
 //! The actions of an entry.
 ghost use Rattle.std.specs.Prelude.{◌≡◌, [], ◌∷◌, ◌++◌, map, OnOk, IfOk};
-ghost use Rattle.frames.specs.Chains.{frames_of};
+ghost use Rattle.frames.specs.Chains.{frames_in};
 ghost use Rattle.mu_model.specs.Clients.{TellKept};
 ghost use Rattle.mu_model.specs.Answers.{frame_notes, notes_of, watches_of};
 ghost use Rattle.client_script.specs.Meaning.{action_meant};
@@ -14,7 +14,7 @@ use std::alloc::{AllocError, Global};
 
 /// Records where each frame stands, from the top.
 fn note_frames(frames: &Frames, notes: &mut Notes) -> Result<(), AllocError>
-    ensures { OnOk result (notes.new ≡ notes.old ++ frame_notes 0 (frames_of frames.now)) }
+    ensures { OnOk result (notes.new ≡ notes.old ++ frame_notes 0 (frames_in frames.now)) }
 {
     for n in 0..frames.count() {
         let frame = frames.frame(n);
@@ -25,7 +25,7 @@ fn note_frames(frames: &Frames, notes: &mut Notes) -> Result<(), AllocError>
 
 /// Records what a frame keeps.
 fn note_kept(alloc: Global, frames: &Frames, n: u32, notes: &mut Notes) -> Result<(), Refusal>
-    ensures { Adds (notes_of (frames_of frames.now) (TellKept n)) notes.old notes.new result }
+    ensures { Adds (notes_of (frames_in frames.now) (TellKept n)) notes.old notes.new result }
 {
     match frames.kept(n) {
         Some(kept) => {
@@ -39,7 +39,7 @@ fn note_kept(alloc: Global, frames: &Frames, n: u32, notes: &mut Notes) -> Resul
 
 /// Records what an action asks for.
 fn note(alloc: Global, frames: &Frames, action: &Action, notes: &mut Notes) -> Result<(), Refusal>
-    ensures { Adds (notes_of (frames_of frames.now) (action_meant action.now)) notes.old notes.new result }
+    ensures { Adds (notes_of (frames_in frames.now) (action_meant action.now)) notes.old notes.new result }
 {
     match action {
         Action::TellFrames => {
@@ -53,7 +53,7 @@ fn note(alloc: Global, frames: &Frames, action: &Action, notes: &mut Notes) -> R
 
 /// The records of some actions.
 pub(crate) fn notes(alloc: Global, frames: &Frames, actions: &[Action]) -> Result<Notes, Refusal>
-    ensures { Makes (λ ns. ns) (noted (frames_of frames.now) (map action_meant actions.now)) result }
+    ensures { Makes (λ ns. ns) (noted (frames_in frames.now) (map action_meant actions.now)) result }
 {
     let mut notes = Notes::new(alloc);
     for action in actions {

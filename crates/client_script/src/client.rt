@@ -1,6 +1,6 @@
 //! A script as a client.
 ghost use Rattle.std.specs.Prelude.{◌≡◌, Some};
-ghost use Rattle.frames.specs.Chains.{frames_of};
+ghost use Rattle.frames.specs.Chains.{frames_in};
 ghost use Rattle.mu_model.specs.Answers.{entry_answer, answer_of, advanced, plain_answer};
 ghost use Rattle.mu_model.specs.Clients as clients;
 ghost use Rattle.client_hooks.specs.Replies.{answer_in, stack_of};
@@ -23,7 +23,7 @@ use std::alloc::Global;
 
 /// The answer of an entry.
 fn plan(alloc: Global, view: &TrapView, frames: &Frames, entry: &Entry) -> Result<Plan, Refusal>
-    ensures { Makes planned (entry_answer view.now.tables (frames_of frames.now) (entry_meant entry.now)) result }
+    ensures { Makes planned (entry_answer view.now.tables (frames_in frames.now) (entry_meant entry.now)) result }
 {
     let notes = notes(alloc, frames, entry.actions.as_slice())?;
     let end = end(alloc, view, frames, &entry.reply)?;

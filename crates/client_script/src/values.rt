@@ -1,6 +1,6 @@
 //! The values of an entry's reply.
 ghost use Rattle.std.specs.Prelude.{◌≡◌, map};
-ghost use Rattle.frames.specs.Chains.{frames_of};
+ghost use Rattle.frames.specs.Chains.{frames_in};
 ghost use Rattle.mu_model.specs.Clients.{KeptValue};
 ghost use Rattle.mu_model.specs.Answers.{typed_value_at, argument_value, with_of, reply_of};
 ghost use Rattle.client_hooks.specs.Replies.{classed, way_of};
@@ -39,7 +39,7 @@ fn kept_value(
     frame: u32,
     value: u32,
 ) -> Result<ClassedValue, Refusal>
-    ensures { Makes classed (argument_value (frames_of frames.now) (KeptValue frame value)) result }
+    ensures { Makes classed (argument_value (frames_in frames.now) (KeptValue frame value)) result }
 {
     match frames.kept(frame) {
         Some(kept) => value_at(alloc, kept, value as usize),
@@ -49,7 +49,7 @@ fn kept_value(
 
 /// The value of an argument.
 fn argument(alloc: Global, frames: &Frames, argument: &Argument) -> Result<ClassedValue, Refusal>
-    ensures { Makes classed (argument_value (frames_of frames.now) (argument_meant argument.now)) result }
+    ensures { Makes classed (argument_value (frames_in frames.now) (argument_meant argument.now)) result }
 {
     match argument {
         Argument::Told { class, value } => {
@@ -65,7 +65,7 @@ fn argument(alloc: Global, frames: &Frames, argument: &Argument) -> Result<Class
 
 /// The values of arguments, with their types.
 fn pass(alloc: Global, frames: &Frames, arguments: &[Argument]) -> Result<Passed, Refusal>
-    ensures { Makes (λ vs. vs) (passed (frames_of frames.now) (map argument_meant arguments.now)) result }
+    ensures { Makes (λ vs. vs) (passed (frames_in frames.now) (map argument_meant arguments.now)) result }
 {
     let mut types = Types::new(alloc);
     let mut values = Slots::new(alloc);
@@ -79,7 +79,7 @@ fn pass(alloc: Global, frames: &Frames, arguments: &[Argument]) -> Result<Passed
 
 /// What a stack is entered with.
 fn way(alloc: Global, frames: &Frames, with: &With) -> Result<Way, Refusal>
-    ensures { Makes way_of (with_of (frames_of frames.now) (way_meant with.now)) result }
+    ensures { Makes way_of (with_of (frames_in frames.now) (way_meant with.now)) result }
 {
     match with {
         With::Pass(arguments) => {
@@ -101,7 +101,7 @@ fn rebind(
     stack: &Argument,
     with: &With,
 ) -> Result<End, Refusal>
-    ensures { Makes end_planned (reply_of view.now.tables (frames_of frames.now) (reply_meant (tree.Rebind stack.now with.now))) result }
+    ensures { Makes end_planned (reply_of view.now.tables (frames_in frames.now) (reply_meant (tree.Rebind stack.now with.now))) result }
 {
     let target = argument(alloc, frames, stack)?;
     if target.class != view.stackref() {
@@ -118,7 +118,7 @@ pub(crate) fn end(
     frames: &Frames,
     reply: &Reply,
 ) -> Result<End, Refusal>
-    ensures { Makes end_planned (reply_of view.now.tables (frames_of frames.now) (reply_meant reply.now)) result }
+    ensures { Makes end_planned (reply_of view.now.tables (frames_in frames.now) (reply_meant reply.now)) result }
 {
     match reply {
         Reply::Resume(with) => {

@@ -5,7 +5,7 @@
 -- What a log's clocks know is what happens before (`laws` proves it).
 use Rattle.std.specs.Prelude.{ℕ, suc, ◌-◌, max, ◌&&◌, ◌==◌, if◌then◌else◌, List, [], ◌∷◌, length}
 use Rattle.heap_cells.specs.declared.cells.CellId.{CellId}
-use Rattle.mem_axioms.specs.Events.{is_atomic, loads, modifies, is_update, order_of, position_of, position_taken, is_fence, is_seq_cst_fence}
+use Rattle.mem_axioms.specs.Events.{is_atomic, loads, modifies, is_update, order_of, position_of, position_taken, is_fence, is_seq_cst_fence, is_wake}
 use Rattle.mem_axioms.specs.Synchronizes.{acquires, releases, continues, gives_up, makes_thread}
 use Rattle.mem_axioms.specs.declared.types.Rule.{Rule}
 use Rattle.mem_axioms.specs.declared.types.Kind.TheVariants.{Access, Fence, Enter, Woken}
@@ -31,6 +31,8 @@ pub record Views : Type 0 where
   pub thread : ℕ → Clock
   -- who sees an event: the event itself and what happens before it
   pub at : ℕ → Clock
+  -- who is woken by an event: what a wake knew, and nothing of an event that is no wake
+  pub woke : ℕ → Clock
   -- who enters a stack that was left or made: what its last leaving or making knew
   pub left : ℕ → Clock
   -- who acquires a position of a cell
@@ -50,6 +52,7 @@ abbrev pub start : Views
 start = record {
   thread = λ t. nothing;
   at = λ i. nothing;
+  woke = λ i. nothing;
   left = λ s. nothing;
   released = λ c p. nothing;
   sequence = λ c t. nothing;
@@ -65,7 +68,7 @@ gains v e u = elim e.kind [
   | Access mode cell order position value ↦ if acquires order && (loads mode && is_atomic order) then v.released cell (position_taken e) u else 0
   | Fence order ↦ if acquires order then v.pending e.thread u else 0
   | Enter stack ↦ v.left stack u
-  | Woken wake ↦ v.at wake u
+  | Woken wake ↦ v.woke wake u
   | _ ↦ 0
 ]
 
@@ -90,6 +93,7 @@ abbrev pub after : Rule → Views → ℕ → Event → Views
 after rule v n e = record {
   thread = λ t u. if t == e.thread then knows v n e u else if makes_thread t e then max (v.thread t u) (knows v n e u) else v.thread t u;
   at = λ i u. if i == n then knows v n e u else v.at i u;
+  woke = λ i u. if is_wake e && (i == n) then knows v n e u else v.woke i u;
   left = λ s u. if gives_up s e then knows v n e u else v.left s u;
   released = λ c p u. if modifies c e && (position_of e == p)
       then max (gives v n e u) (if is_update e then v.released c (p - 1) u else if continues rule e e.thread then v.sequence c e.thread u else 0)

@@ -1,6 +1,5 @@
 -- The laws that join clocks to the memory model. Each is the contract of a function of `laws` that does nothing. They hold
--- under both rules of release sequences, of every log that has the form of a log and in which every Woken names an earlier
--- wake; `right` stands for either form.
+-- under both rules of release sequences, of every log that has the form of a log; `right` stands for either form.
 use Rattle.std.specs.Prelude.{◌≡◌, ℕ, Bool, true, ◌&&◌, nat_lt, List, ◌∷◌, length, Some}
 use Rattle.mu_base.specs.declared.order.Order.{Order}
 use Rattle.mu_values.specs.declared.scalars.Scalar.{Scalar}
@@ -13,30 +12,29 @@ use Rattle.mem_axioms.specs.Floor.{is_known, floor}
 use Rattle.mem_axioms.specs.declared.types.Rule.{Rule}
 use Rattle.mem_axioms.specs.declared.types.Event.{Event}
 use Rattle.clock_laws.specs.Clocks.{knew, views}
-use Rattle.clock_laws.specs.NamedWakes.{names_wake, wakes_are_named}
 use Rattle.clock_laws.specs.ViewFloor.{view_floor}
 
 -- ---- Happens-before is the clock test: at each event ..
 abbrev pub HappensBeforeIsClockTest : Type 0
-HappensBeforeIsClockTest = (right : List Event → CellId → ℕ → Scalar → Bool) (rule : Rule) (log : List Event) → has_form_by right log ≡ true → wakes_are_named log ≡ true →
+HappensBeforeIsClockTest = (right : List Event → CellId → ℕ → Scalar → Bool) (rule : Rule) (log : List Event) → has_form_by right log ≡ true →
     (i k : ℕ) (ei ek : Event) → event_at log i ≡ Some ei → event_at log k ≡ Some ek →
     happens_before rule log i k ≡ (nat_lt i k && nat_lt i ((views rule log).at k ei.thread))
 
 -- .. at the event that comes next, with what it synchronizes with itself ..
 abbrev pub NextIsClockTest : Type 0
-NextIsClockTest = (right : List Event → CellId → ℕ → Scalar → Bool) (rule : Rule) (log : List Event) → has_form_by right log ≡ true → wakes_are_named log ≡ true →
-    (e : Event) → fits_form_by right log e ≡ true → names_wake log e ≡ true → (i : ℕ) (ei : Event) → event_at log i ≡ Some ei →
+NextIsClockTest = (right : List Event → CellId → ℕ → Scalar → Bool) (rule : Rule) (log : List Event) → has_form_by right log ≡ true →
+    (e : Event) → fits_form_by right log e ≡ true → (i : ℕ) (ei : Event) → event_at log i ≡ Some ei →
     happens_before rule (e ∷ log) i (length log) ≡ nat_lt i (knew (views rule log) e ei.thread)
 
 -- .. and of what a thread knows.
 abbrev pub KnownIsClockTest : Type 0
-KnownIsClockTest = (right : List Event → CellId → ℕ → Scalar → Bool) (rule : Rule) (log : List Event) → has_form_by right log ≡ true → wakes_are_named log ≡ true →
+KnownIsClockTest = (right : List Event → CellId → ℕ → Scalar → Bool) (rule : Rule) (log : List Event) → has_form_by right log ≡ true →
     (thread i : ℕ) (ei : Event) → event_at log i ≡ Some ei →
     is_known rule log thread i ≡ nat_lt i ((views rule log).thread thread ei.thread)
 
 -- ---- The floor of a load by clocks is the floor.
 abbrev pub ViewFloorIsFloor : Type 0
-ViewFloorIsFloor = (right : List Event → CellId → ℕ → Scalar → Bool) (rule : Rule) (log : List Event) → has_form_by right log ≡ true → wakes_are_named log ≡ true →
+ViewFloorIsFloor = (right : List Event → CellId → ℕ → Scalar → Bool) (rule : Rule) (log : List Event) → has_form_by right log ≡ true →
     (thread : ℕ) (cell : CellId) (order : Order) → view_floor rule log thread cell order ≡ floor rule log thread cell order
 
 -- ---- A stack that was left or made carries the clock of its last leaving or making; this holds of every log.

@@ -12,6 +12,20 @@ pub record Chain : Type 0 where
 abbrev pub frames_of : Chain → List Activation
 frames_of c = c.top ∷ c.below
 
+-- the frames of a stack as they are stored: the same two, and how many frames more may be put on top without a refusal
+pub record StoredChain : Type 0 where
+  pub top : Activation
+  pub below : List Activation
+  pub spare : ℕ
+
+-- its frames without that number
+abbrev pub chain_of : StoredChain → Chain
+chain_of c = record { top = c.top; below = c.below }
+
+-- all of its frames, from the top down
+abbrev pub frames_in : StoredChain → List Activation
+frames_in c = c.top ∷ c.below
+
 abbrev pub nothing_kept : TypedValues
 nothing_kept = record { types = []; values = [] }
 

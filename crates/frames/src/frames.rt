@@ -1,7 +1,7 @@
 // The frames of a stack.
-ghost use Rattle.std.specs.Prelude.{◌≡◌, ◌<◌, [], ◌∷◌, ◌++◌, None, Some, is_some, length, drop, reverse, position, slice_get, option_map, option_copied, IfSome, IfNone, OnSome, OnOk, OnErr, IfOk, IfErr};
+ghost use Rattle.std.specs.Prelude.{◌≡◌, ◌<◌, ◌≤◌, ◌+◌, IsOk, [], ◌∷◌, ◌++◌, None, Some, is_some, length, drop, reverse, position, slice_get, option_map, option_copied, IfSome, IfNone, OnSome, OnOk, OnErr, IfOk, IfErr};
 ghost use Rattle.std.specs.Borrow.{sem};
-ghost use Rattle.frames.specs.Chains.{frames_of, nothing_kept, stands};
+ghost use Rattle.frames.specs.Chains.{frames_in, nothing_kept, stands};
 ghost use Rattle.frames.specs.FrameOf.{frame_of};
 ghost use Rattle.frames.specs.Handlers.{first_handler, caught_below};
 ghost use Rattle.frames.specs.Lending.{LendsTop};
@@ -17,8 +17,8 @@ use std::mem;
 /// A stack has at most one frame more than this.
 const MOST_BELOW: usize = 4294967294;
 
-/// The frames of a stack. There is always one. Contracts see the top frame, and those below it from the top down. A frame is
-/// counted from the top, which is 0.
+/// The frames of a stack. There is always one. Contracts see the top frame, those below it from the top down, and `spare`, the
+/// number of frames more that `enter` puts on top without a refusal. A frame is counted from the top, which is 0.
 #[derive(Drop)]
 pub struct Frames {
     top: Frame,
@@ -27,14 +27,14 @@ pub struct Frames {
 }
 
 impl Model for Frames {
-    ghost use Rattle.std.specs.Prelude.{◌≤◌, map, reverse, vec_len};
-    ghost use Rattle.frames.specs.Chains.{Chain};
+    ghost use Rattle.std.specs.Prelude.{◌≤◌, ◌-◌, min, map, reverse, vec_len, vec_capacity};
+    ghost use Rattle.frames.specs.Chains.{StoredChain};
 
-    ghost Value = { Chain };
+    ghost Value = { StoredChain };
 
     ghost use Rattle.frames.specs.FrameOf.{frame_of};
 
-    ghost view = { λ s. record { top = frame_of s.top; below = map frame_of (reverse s.below.items) } };
+    ghost view = { λ s. record { top = frame_of s.top; below = map frame_of (reverse s.below.items); spare = min (vec_capacity s.below) 4294967294 - vec_len s.below } };
 
     ghost invariant = { λ s. vec_len s.below ≤ 4294967294 };
 }
@@ -44,6 +44,7 @@ impl Frames {
     pub fn new(alloc: Global, bottom: Frame) -> Result<Frames, (Frame, AllocError)>
         ensures top { IfOk result (λ s. s.top ≡ frame_of bottom) }
         ensures below { IfOk result (λ s. s.below ≡ []) }
+        ensures room { IfOk result (λ s. 0 < s.spare) }
         ensures handed_back { IfErr result (λ e. e.0 ≡ bottom) }
     {
         match Vec::with_capacity(alloc, 1) {
@@ -67,12 +68,29 @@ impl Frames {
         &mut self.top
     }
 
+    /// Makes room for one more frame: the next `enter` is not refused then, and `leave` keeps the room. It is refused where there
+    /// is no memory for a frame more, and where there would be 2^32 frames. The frames stay as they are in each case.
+    pub fn reserve(&mut self) -> Result<(), AllocError>
+        ensures top { self.new.top ≡ self.old.top }
+        ensures below { self.new.below ≡ self.old.below }
+        ensures room { OnOk result (0 < self.new.spare) }
+        ensures spare { self.old.spare ≤ self.new.spare }
+    {
+        if self.below.len() == MOST_BELOW {
+            return Err(AllocError);
+        }
+        self.below.reserve(1)
+    }
+
     /// Puts a frame on top. It is refused for want of memory alone, also where there would be 2^32 frames; then it changes
-    /// nothing and hands the frame back.
+    /// nothing and hands the frame back. Where there is room it is not refused, and takes one place of
+    /// the room.
     #[tactic(auto, using(crate::proofs::Places::pushed))]
     pub fn enter(&mut self, frame: Frame) -> Result<(), (Frame, AllocError)>
         ensures top { OnOk result (self.new.top ≡ frame_of frame) }
-        ensures below { OnOk result (self.new.below ≡ frames_of self.old) }
+        ensures below { OnOk result (self.new.below ≡ frames_in self.old) }
+        ensures spare { OnOk result (self.old.spare ≤ self.new.spare + 1) }
+        ensures granted { 0 < self.old.spare → IsOk result }
         ensures same { OnErr result (self.new ≡ self.old) }
         ensures handed_back { IfErr result (λ e. e.0 ≡ frame) }
     {
@@ -145,7 +163,8 @@ impl Frames {
     #[tactic(auto, using(crate::proofs::Places::pushed))]
     pub fn leave(&mut self) -> Option<Frame>
         ensures left { IfSome result (λ frame. frame_of frame ≡ self.old.top) }
-        ensures rest { OnSome result (frames_of self.new ≡ self.old.below) }
+        ensures rest { OnSome result (frames_in self.new ≡ self.old.below) }
+        ensures spare { self.old.spare ≤ self.new.spare }
         ensures only { IfNone result (self.old.below ≡ []) }
         ensures same { IfNone result (self.new ≡ self.old) }
     {
@@ -175,7 +194,7 @@ impl Frames {
     /// to that one.
     #[tactic(auto, using(crate::proofs::Unwinding::top_catches, crate::proofs::Unwinding::below_catches))]
     pub fn unwind(&self) -> Unwound
-        ensures { caught_below result ≡ first_handler (frames_of self.now) }
+        ensures { caught_below result ≡ first_handler (frames_in self.now) }
     {
         if self.top.handler.is_some() {
             return Unwound::Caught(0);
@@ -188,7 +207,7 @@ impl Frames {
 
     /// What a client sees of a frame that waits. None comes exactly where there is no such frame.
     pub fn kept(&self, frame: u32) -> Option<&Passed>
-        ensures { option_copied result ≡ option_map (λ f. f.kept) (slice_get (frames_of self.now) frame) }
+        ensures { option_copied result ≡ option_map (λ f. f.kept) (slice_get (frames_in self.now) frame) }
     {
         if frame < self.count() {
             Some(&self.frame(frame).kept)
@@ -199,7 +218,7 @@ impl Frames {
 
     /// How many frames there are.
     pub fn count(&self) -> u32
-        ensures { result ≡ length (frames_of self.now) }
+        ensures { result ≡ length (frames_in self.now) }
     {
         self.below.len() as u32 + 1
     }
@@ -207,8 +226,8 @@ impl Frames {
     /// The frame with that number.
     #[tactic(auto, using(crate::proofs::Places::below_at))]
     pub fn frame(&self, n: u32) -> &Frame
-        requires { n < length (frames_of self.now) }
-        ensures { slice_get (frames_of self.now) n ≡ Some (frame_of result.now) }
+        requires { n < length (frames_in self.now) }
+        ensures { slice_get (frames_in self.now) n ≡ Some (frame_of result.now) }
     {
         if n == 0 {
             &self.top

@@ -44,7 +44,7 @@ known true c h = refl
 known false c h = cc
 
 -- what is written has a class
-classed : (p : Table) (t : ℕ) → is_sized (definition_at p t) ≡ true → or_zero (class_at p t) ≡ class_of p.definitions t
+pub classed : (p : Table) (t : ℕ) → is_sized (definition_at p t) ≡ true → or_zero (class_at p t) ≡ class_of p.definitions t
 classed p t h = by (nat_lt t p.written) h
   where
     by : (b : Bool) → is_sized (if b then slice_get p.definitions t else None) ≡ true → or_zero (if b then Some (class_of p.definitions t) else None) ≡ class_of p.definitions t
@@ -52,7 +52,7 @@ classed p t h = by (nat_lt t p.written) h
     by false k = cc
 
 -- the leaves of a global are those of its type
-leaves_same : (p : Tables) → IsComplete p.types → (o : Option ℕ) → is_sized (definition_in p.types o) ≡ true →
+pub leaves_same : (p : Tables) → IsComplete p.types → (o : Option ℕ) → is_sized (definition_in p.types o) ≡ true →
     target_leaves p (class_definition p (or_zero (iref_in p.types o))) ≡ leaf_classes p.types.definitions (or_zero (class_in p.types o))
 leaves_same p full None h = cc
 leaves_same p full (Some t) h =

@@ -8,3 +8,4 @@ pub mod Told
 pub mod Scripts
 pub mod Fitted
 pub mod Counting
+pub mod Sizes

@@ -4,4 +4,6 @@
 
 mod laws;
 
-pub use laws::{cells_are_counted, loaded_settings_fit, scripts_begin_with_globals};
+pub use laws::{
+    cells_are_counted, loaded_settings_are_modest, loaded_settings_fit, scripts_begin_with_globals,
+};

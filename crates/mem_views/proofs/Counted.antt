@@ -1,5 +1,5 @@
 -- The positions of a cell that have another value than a scalar, by how many there are below each.
-use Rattle.std.proofs.Common.{◌≡◌, ℕ, zero, suc, ◌+◌, ◌-◌, ◌*◌, ◌^◌, ◌<◌, ◌≤◌, Bool, true, false, cond, not, ◌&&◌, max, List, [], ◌∷◌, length, take, slice_get, get_or, Some, refl, sym, ap, ◌∙◌, inl, inr, ◌⊎◌, arith}
+use Rattle.std.proofs.Common.{◌≡◌, ℕ, zero, suc, ◌+◌, ◌-◌, ◌<◌, ◌≤◌, Bool, true, false, cond, not, ◌&&◌, max, List, [], ◌∷◌, length, take, slice_get, get_or, Some, refl, sym, ap, ◌∙◌, inl, inr, ◌⊎◌, arith}
 use Rattle.std.proofs.lemmas.Bool.{false≢true, le-leb, cases_lt}
 use Rattle.std.proofs.lemmas.List.Sums.{sum_by_more}
 use Rattle.mu_values.specs.declared.scalars.Scalar.{Scalar}
@@ -17,10 +17,10 @@ use Rattle.mem_views.specs.Holding.{values_of}
 use Rattle.mem_views.proofs.Reading.{below-under}
 use Rattle.mem_views.proofs.ValuesKept.{values-at, values-length}
 
-abbrev one_if : Bool → ℕ
+abbrev pub one_if : Bool → ℕ
 one_if b = cond b 1 0
 
-one-more : (test : ℕ → Bool) (n : ℕ) → length (below test (suc n)) ≡ length (below test n) + one_if (test n)
+pub one-more : (test : ℕ → Bool) (n : ℕ) → length (below test (suc n)) ≡ length (below test n) + one_if (test n)
 one-more test n = by (test n) refl
   where
     by : (b : Bool) → test n ≡ b → length (below test (suc n)) ≡ length (below test n) + one_if (test n)
@@ -34,13 +34,22 @@ below-rises test p (suc m) l = elim (cases_lt m p) [
   | inr k ↦ (let r = below-rises test p m k in let o = one-more test m in omega (arith, r, o))
 ]
 
--- a position below which no more pass than that, and more below the next, passes
-pub passes : (test : ℕ → Bool) (p older : ℕ) → length (below test p) ≤ older → older < length (below test (suc p)) → (test p ≡ true) × (length (below test p) ≡ older)
-passes test p older l m = by (test p) refl
+-- there are no more than positions
+pub below-few : (test : ℕ → Bool) (n : ℕ) → length (below test n) ≤ n
+below-few test zero = omega arith
+below-few test (suc n) = by (test n) refl (below-few test n)
   where
-    by : (b : Bool) → test p ≡ b → (test p ≡ true) × (length (below test p) ≡ older)
-    by true q = let o = one-more test p in let c : one_if (test p) ≡ 1 = ap (λ (b : Bool). one_if b) q in (q, omega (arith, o, c, l, m))
-    by false q = let o = one-more test p in let c : one_if (test p) ≡ 0 = ap (λ (b : Bool). one_if b) q in absurd (omega (arith, o, c, l, m))
+    by : (b : Bool) → test n ≡ b → length (below test n) ≤ n → length (below test (suc n)) ≤ suc n
+    by true q f = let o = one-more test n in let c : one_if (test n) ≡ 1 = ap (λ (b : Bool). one_if b) q in omega (arith, o, c, f)
+    by false q f = let o = one-more test n in let c : one_if (test n) ≡ 0 = ap (λ (b : Bool). one_if b) q in omega (arith, o, c, f)
+
+-- one more position, where all are looked at in turn
+pub one-further : (test : ℕ → Bool) (p : ℕ) (b : Bool) → b ≡ test p → length (below test (p + 1)) ≡ length (below test p) + one_if b
+one-further test p b e = let s : p + 1 ≡ suc p = omega arith in rw s (one-more test p ∙ ap (λ (c : Bool). length (below test p) + one_if c) (sym e))
+
+-- the same from the newest down
+pub one-older : (test : ℕ → Bool) (last index : ℕ) (b : Bool) → index < last + 1 → b ≡ test (last - index) → length (below test (last + 1 - index)) ≡ length (below test (last - index)) + one_if b
+one-older test last index b l e = let s : last + 1 - index ≡ (last - index) + 1 = omega (arith, l) in rw s (one-further test (last - index) b e)
 
 -- where so many are older, and n newer, it is the n-th from the newest down
 pub nth-passing : (test : ℕ → Bool) (m n p : ℕ) → p < m → test p ≡ true → length (below test p) + (n + 1) ≡ length (below test m) → slice_get (below test m) n ≡ Some p
@@ -77,7 +86,7 @@ nth-passing test (suc m) n p l t e = by (test m) refl n e (cases_lt p m) (λ k l
         absurd (false≢true (sym q ∙ (ap test (sym s) ∙ t)))
 
 -- the value at a position, by a list that has it there
-got : (xs : List Scalar) (p : ℕ) (x d : Scalar) → slice_get xs p ≡ Some x → get_or xs p d ≡ x
+pub got : (xs : List Scalar) (p : ℕ) (x d : Scalar) → slice_get xs p ≡ Some x → get_or xs p d ≡ x
 got [] p x d h = absurd (cc)
 got (y ∷ xs) zero x d h = cc
 got (y ∷ xs) (suc p) x d h = got xs p x d h
@@ -135,28 +144,3 @@ module _ (initial : CellId → Scalar) (log : List Event) (cell : CellId) (floor
       let c' = rw k at c in
       let b = below-first from e in
       omega (arith, c', b, h)
-
--- as many halves are left as 2^k is wide, each with one count of c looks
-abbrev pub Counting : ℕ → ℕ → ℕ → ℕ → ℕ → Type 0
-Counting size width begun now d = size ≤ 2 ^ d → (k : ℕ) × (width ≤ 2 ^ k) × (now + k * (2 * d + 133) ≤ begun + d * (2 * d + 133))
-
-times-suc : (k c : ℕ) → suc k * c ≡ c + k * c
-times-suc k c = grind arith
-
-pub counting-more : (size width width' begun now now' d : ℕ) → Counting size width begun now d → size ≤ 2 ^ d → 1 < width → width' + width' ≤ width + 1 → now' ≤ now + (2 * d + 133) → Counting size width' begun now' d
-counting-more size width width' begun now now' d h z w l e s = go (h z).0 (h z).1 (h z).2
-  where
-    go : (k : ℕ) → width ≤ 2 ^ k → now + k * (2 * d + 133) ≤ begun + d * (2 * d + 133) → (k : ℕ) × (width' ≤ 2 ^ k) × (now' + k * (2 * d + 133) ≤ begun + d * (2 * d + 133))
-    go zero a b = absurd (omega arith)
-    go (suc k) a b = (k, omega arith, (let t = times-suc k (2 * d + 133) in omega (arith, t, b, e)))
-
--- the first count, and those of the halves
-pub counts-within : (size width first begun now d : ℕ) → Counting size width begun now d → size ≤ 2 ^ d → begun ≤ first + (2 * d + 133) → now ≤ first + (d + 1) * (2 * d + 133)
-counts-within size width first begun now d h z b = go (h z).0 (h z).2
-  where
-    go : (k : ℕ) → now + k * (2 * d + 133) ≤ begun + d * (2 * d + 133) → now ≤ first + (d + 1) * (2 * d + 133)
-    go k l = let s : d + 1 ≡ suc d = omega arith in let t = times-suc d (2 * d + 133) in rw s (omega (arith, t, l, b))
-
--- one count is no more than d + 1
-pub count-within : (d : ℕ) → 2 * d + 133 ≤ (d + 1) * (2 * d + 133)
-count-within d = let s : d + 1 ≡ suc d = omega arith in let t = times-suc d (2 * d + 133) in rw s (omega (arith, t))

@@ -16,7 +16,6 @@ use Rattle.mem_axioms.specs.Lemmas.Numbers.{event-kept, event-cases, event-newes
 use Rattle.mem_axioms.specs.Lemmas.Relations.{Coherence, coherence-is}
 use Rattle.mem_axioms.specs.Lemmas.Floors.{greatest-at, greatest-below}
 use Rattle.clock_laws.specs.Clocks.{views}
-use Rattle.clock_laws.specs.NamedWakes.{wakes_are_named}
 use Rattle.clock_laws.specs.ViewFloor.{known_access, view_limit, fences_knew, raises_view_floor, view_floor}
 use Rattle.clock_laws.specs.Lemmas.FloorTests.{view_floor-is}
 use Rattle.clocks.specs.Tables.{table_at}
@@ -149,7 +148,7 @@ before-known rule log thread order rows limit h e u = go (is_seq_cst order) refl
 
 -- the floor
 module _ (rule : Rule) (initial : CellId → Scalar) (log : List Event) (thread : ℕ) (cell : CellId) (order : Order) (kept : CellViews) (known below before : List ℕ) (found limit : ℕ)
-    (m : meets_axioms rule initial log ≡ true) (named : wakes_are_named log ≡ true) (h : CellHolds log cell kept)
+    (m : meets_axioms rule initial log ≡ true) (h : CellHolds log cell kept)
     (small : (y : ℕ) (ey : Event) → event_at log y ≡ Some ey → ey.thread < 64)
     (k : IsKnown rule log thread known)
     (lim : limit ≡ view_limit (views rule log) log thread order)
@@ -213,7 +212,7 @@ module _ (rule : Rule) (initial : CellId → Scalar) (log : List Event) (thread 
       omega (arith, is, a, c, d, u)
 
   pub floor-found : found ≡ floor rule log thread cell order
-  floor-found = found-view ∙ view_floor-is rule (is_value_at initial) log (form-of rule initial log m) named thread cell order
+  floor-found = found-view ∙ view_floor-is rule (is_value_at initial) log (form-of rule initial log m) thread cell order
 
 -- an untouched cell has floor 0
 pub untouched-floor : (rule : Rule) (log : List Event) (thread : ℕ) (cell : CellId) (order : Order) → IsUntouched log cell → 0 ≡ floor rule log thread cell order

@@ -1,18 +1,15 @@
 -- What an event takes, gains and gives, by what is kept.
-use Rattle.std.proofs.Common.{◌≡◌, ℕ, Bool, true, false, cond, ◌&&◌, eqb, List, length, refl, sym, ap, ◌∙◌, slice_index}
-use Rattle.std.proofs.lemmas.Bool.{false≢true, and_parts, eqb-true}
+use Rattle.std.proofs.Common.{◌≡◌, ℕ, Bool, true, false, cond, ◌&&◌, List, length, refl, sym, ◌∙◌, slice_index}
+use Rattle.std.proofs.lemmas.Bool.{false≢true}
 use Rattle.heap_cells.specs.declared.cells.CellId.{CellId}
 use Rattle.heap_cells.specs.CellLaws.{same_cell-true, same_cell-refl}
-use Rattle.mem_axioms.specs.Events.{accesses, position_taken, loads, is_atomic, is_wake}
-use Rattle.mem_axioms.specs.Logs.{event_at}
+use Rattle.mem_axioms.specs.Events.{accesses, position_taken, loads, is_atomic}
 use Rattle.mem_axioms.specs.Synchronizes.{acquires}
 use Rattle.mem_axioms.specs.declared.types.Event.{Event}
 use Rattle.mem_axioms.specs.declared.types.Rule.{Rule}
 use Rattle.mem_axioms.specs.declared.types.Kind.{Kind}
 use Rattle.mem_axioms.specs.declared.types.Kind.TheVariants.{Access, Fence, NewStack, NewThread, Leave, Enter, Wake, Woken}
-use Rattle.mem_axioms.specs.Lemmas.Numbers.{any-some}
 use Rattle.clock_laws.specs.Clocks.{Views, views, gains, knows, pends, gives}
-use Rattle.clock_laws.specs.NamedWakes.{names_wake}
 use Rattle.std.specs.Prelude.{Option}
 use Rattle.clocks.specs.Knowing.{known_by}
 use Rattle.clocks.specs.Tables.{row_at}
@@ -75,26 +72,22 @@ none-taken v e = none-kind v e.thread e.kind
 
 -- what an event gains
 module _ (rule : Rule) (log : List Event) (rows : Rows) (taken : Option (List ℕ)) (h : RowsHold rule log rows) where
-  gains-kind : (t : ℕ) (k : Kind) → ((u : ℕ) → known_by taken u ≡ pends (views rule log) (record { thread = t; kind = k }) u) → names_wake log (record { thread = t; kind = k }) ≡ true → (u : ℕ)
+  gains-kind : (t : ℕ) (k : Kind) → ((u : ℕ) → known_by taken u ≡ pends (views rule log) (record { thread = t; kind = k }) u) → (u : ℕ)
       → row_gains rows taken (record { thread = t; kind = k }) u ≡ gains (views rule log) (record { thread = t; kind = k }) u
-  gains-kind t (Access mode cell o p x) s n u = rw (s u) (go (acquires o) (loads mode && is_atomic o))
+  gains-kind t (Access mode cell o p x) s u = rw (s u) (go (acquires o) (loads mode && is_atomic o))
     where
       go : (a b : Bool) → cond a (cond b ((views rule log).released cell (position_taken (record { thread = t; kind = Access mode cell o p x })) u) 0) 0 ≡ cond (a && b) ((views rule log).released cell (position_taken (record { thread = t; kind = Access mode cell o p x })) u) 0
       go true b = refl
       go false b = refl
-  gains-kind t (Fence o) s n u = rw (h.pending t u) refl
-  gains-kind t (NewStack o) s n u = refl
-  gains-kind t (NewThread o) s n u = refl
-  gains-kind t (Leave o) s n u = refl
-  gains-kind t (Enter stack) s n u = h.left stack u
-  gains-kind t (Wake o n) s w u = refl
-  gains-kind t (Woken wake) s n u =
-      let w = any-some (λ i ei. eqb i wake && is_wake ei) log n in
-      let p = and_parts (eqb w.0 wake) (is_wake w.1) w.3 in
-      let e = eqb-true w.0 wake p.0 in
-      h.wakes wake w.1 (ap (λ (i : ℕ). event_at log i) (sym e) ∙ w.2) p.1 u
+  gains-kind t (Fence o) s u = rw (h.pending t u) refl
+  gains-kind t (NewStack o) s u = refl
+  gains-kind t (NewThread o) s u = refl
+  gains-kind t (Leave o) s u = refl
+  gains-kind t (Enter stack) s u = h.left stack u
+  gains-kind t (Wake o n) s u = refl
+  gains-kind t (Woken wake) s u = h.wakes wake u
 
-  pub gains-are : (e : Event) → ((u : ℕ) → known_by taken u ≡ pends (views rule log) e u) → names_wake log e ≡ true → (u : ℕ) → row_gains rows taken e u ≡ gains (views rule log) e u
+  pub gains-are : (e : Event) → ((u : ℕ) → known_by taken u ≡ pends (views rule log) e u) → (u : ℕ) → row_gains rows taken e u ≡ gains (views rule log) e u
   gains-are e = gains-kind e.thread e.kind
 
 -- what it gives

@@ -1,4 +1,5 @@
 pub mod Counted
+pub mod OthersFound
 pub mod GoingOn
 pub mod Releasing
 pub mod Searching

@@ -26,7 +26,6 @@ use Rattle.mem_axioms.specs.Events.{position_of}
 use Rattle.mem_views.proofs.Entries.{entries-after}
 use Rattle.mem_views.proofs.CellsKept.{one-access}
 use Rattle.mem_views.proofs.FloorFound.{form-of}
-use Rattle.mem_views.proofs.ThreadsMade.{fits-named}
 use Rattle.mem_views.specs.Holding.{LogHolds}
 use Rattle.mem_axioms.specs.Objects.{initial_of}
 use Rattle.mem_axioms.specs.EventFits.{EventFits}
@@ -80,7 +79,7 @@ module _ (rule : Rule) (initial : CellId → Scalar) (log : List Event) (cell : 
       go false false = f.holds.not_atomic_modifications u
 
   before-is : (i : ℕ) (ei : Event) → event_at log i ≡ Some ei → happens_before rule (e ∷ log) i (length log) ≡ ltb i (slice_index clock ei.thread)
-  before-is i ei at = next-test rule (is_value_at initial) log f.form f.named e f.fits f.wake i ei at ∙ ap (λ (k : ℕ). ltb i k) (sym (f.knows ei.thread))
+  before-is i ei at = next-test rule (is_value_at initial) log f.form e f.fits i ei at ∙ ap (λ (k : ℕ). ltb i k) (sym (f.knows ei.thread))
 
   -- it races exactly where it is of the family, by another thread, and not known
   races-are : (i : ℕ) (ei : Event) → event_at log i ≡ Some ei → races rule log e i ei ≡ true → (ei.thread ≢ e.thread) × (test ei.thread ei ≡ true) × (slice_index clock ei.thread ≤ i)
@@ -195,9 +194,7 @@ pub race-facts : (rule : Rule) (objects : List (List Scalar)) (log : List Event)
     → RaceFacts rule (initial_of objects) log cell e kept clock
 race-facts rule objects log cell e kept clock h c f a k = record {
   form = form-of rule (initial_of objects) log h.sound.axioms;
-  named = h.named;
   fits = (form-parts (is_value_at (initial_of objects)) e log (form-of rule (initial_of objects) (e ∷ log) (keeps-fit rule objects log h.sound.axioms e f))).0;
-  wake = fits-named rule objects log e f;
   access = a;
   knows = k;
   holds = c;

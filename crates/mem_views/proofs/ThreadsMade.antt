@@ -1,7 +1,7 @@
 -- The threads of a run, and what holds of its log.
 use Rattle.std.proofs.Common.{◌≡◌, ℕ, ◌<◌, ◌≤◌, Bool, true, false, ◌&&◌, ◌||◌, eqb, List, [], ◌∷◌, ◌++◌, length, length-append, Some, None, refl, sym, ap, ◌∙◌, inl, inr, ◌⊎◌, arith}
 use Rattle.std.specs.Prelude.{All, Contains}
-use Rattle.std.proofs.lemmas.Bool.{false≢true, or_cases, eqb-true, eq-eqb, and_from, cases_lt}
+use Rattle.std.proofs.lemmas.Bool.{false≢true, or_cases, eqb-true, eq-eqb, cases_lt}
 use Rattle.std.proofs.lemmas.List.{get_or_push, get_or_append_left}
 use Rattle.std.proofs.lemmas.List.Elements.{Contains-append_left, Contains-append_right}
 use Rattle.mu_values.specs.declared.scalars.Scalar.{Scalar}
@@ -18,7 +18,6 @@ use Rattle.mem_axioms.specs.declared.types.Kind.TheVariants.{Access, Fence, NewS
 use Rattle.mem_axioms.specs.Lemmas.Numbers.{event-cases}
 use Rattle.mem_axioms.specs.Lemmas.Growing.{cells-more, sound-more, sound-none, cells-none}
 use Rattle.mem_axioms.specs.Lemmas.Widening.{cells-wider, sound-wider}
-use Rattle.clock_laws.specs.NamedWakes.{names_wake, wakes_are_named}
 use Rattle.mem_views.specs.Threads.{threads_of}
 use Rattle.mem_views.specs.Holding.{LogHolds, MadeHolds, CellHolds}
 use Rattle.mem_views.specs.Families.{is_any, is_not_atomic, is_not_atomic_modification, has_seq_cst_order}
@@ -102,19 +101,6 @@ listed-threads [] i d l = let z : i ≡ 0 = omega arith in rw z refl
 listed-threads (e ∷ past) i d l = listed-kind e.thread e.kind past (listed-threads past) i d l
 
 -- the log with one more event
-named-kind : (rule : Rule) (objects : List (List Scalar)) (log : List Event) (t : ℕ) (k : Kind) → EventFits rule objects log (record { thread = t; kind = k }) → names_wake log (record { thread = t; kind = k }) ≡ true
-named-kind rule objects log t (Woken wake) f = f.wake
-named-kind rule objects log t (NewThread child) f = refl
-named-kind rule objects log t (Access mode cell o p x) f = refl
-named-kind rule objects log t (Fence o) f = refl
-named-kind rule objects log t (NewStack o) f = refl
-named-kind rule objects log t (Leave o) f = refl
-named-kind rule objects log t (Enter o) f = refl
-named-kind rule objects log t (Wake o n) f = refl
-
-pub fits-named : (rule : Rule) (objects : List (List Scalar)) (log : List Event) (e : Event) → EventFits rule objects log e → names_wake log e ≡ true
-fits-named rule objects log e f = named-kind rule objects log e.thread e.kind f
-
 small-kind : (rule : Rule) (objects : List (List Scalar)) (log : List Event) (t : ℕ) (k : Kind) (u : ℕ) → EventFits rule objects log (record { thread = t; kind = k }) → makes_thread u (record { thread = t; kind = k }) ≡ true → u < 64
 small-kind rule objects log t (NewThread child) u f h = let c = f.child.1 in let e = eqb-true child u h in omega (arith, c, e)
 small-kind rule objects log t (Access mode cell o p x) u f h = absurd (false≢true h)
@@ -133,7 +119,6 @@ pub log-more : (rule : Rule) (objects : List (List Scalar)) (log : List Event) (
 log-more rule objects log e f r h = record {
   sound = sound-more rule objects log e f r h.sound;
   cells = cells-more rule objects log e f h.cells;
-  named = and_from (names_wake log e) (wakes_are_named log) (fits-named rule objects log e f) h.named;
   threads = λ i ei at. elim (event-cases e log i ei at) [
     | inl p ↦ ap (λ (x : Event). is_thread (e ∷ log) x.thread) p.1 ∙ thread-kept e log e.thread f.thread
     | inr p ↦ thread-kept e log ei.thread (h.threads i ei p.1)
@@ -145,7 +130,6 @@ pub log-none : (rule : Rule) (objects : List (List Scalar)) → LogHolds rule ob
 log-none rule objects = record {
   sound = sound-none rule objects;
   cells = cells-none objects;
-  named = refl;
   threads = λ i e at. absurd (cc);
   small = λ t w. elim (or_cases (eqb t 0) _ w) [ inl p ↦ (let z = eqb-true t 0 p in omega (arith, z)) | inr p ↦ absurd (false≢true p) ];
 }
@@ -154,7 +138,6 @@ pub log-wider : (rule : Rule) (objects : List (List Scalar)) (more : List Scalar
 log-wider rule objects more log h = record {
   sound = sound-wider objects (more ∷ []) rule log h.cells h.sound;
   cells = cells-wider objects (more ∷ []) log h.cells;
-  named = h.named;
   threads = h.threads;
   small = h.small;
 }

@@ -1,24 +1,14 @@
 -- What the answers of look-ups rest on. No clause of a public call speaks of it.
-use Rattle.std.specs.Prelude.{◌≡◌, ℕ, suc, true, List, length, slice_index, Option, Some, None}
+use Rattle.std.specs.Prelude.{◌≡◌, ℕ, suc, true, List, slice_index, Option, Some, None}
 use Rattle.mu_values.specs.declared.scalars.Scalar.{Scalar}
 use Rattle.heap_cells.specs.declared.cells.CellId.{CellId}
-use Rattle.mem_axioms.specs.Axioms.{meets_axioms}
 use Rattle.mem_axioms.specs.Events.{accesses}
 use Rattle.mem_axioms.specs.Form.{fits_form, has_form}
 use Rattle.mem_axioms.specs.declared.types.Rule.{Rule}
 use Rattle.mem_axioms.specs.declared.types.Event.{Event}
 use Rattle.clock_laws.specs.Clocks.{views, knew}
-use Rattle.clock_laws.specs.NamedWakes.{names_wake, wakes_are_named}
-use Rattle.mem_views.specs.Holding.{RowsHold, CellHolds}
+use Rattle.mem_views.specs.Holding.{CellHolds}
 use Rattle.mem_views.specs.declared.cell.CellViews.{CellViews}
-use Rattle.mem_views.specs.declared.rows.Rows.{Rows}
-
--- the log meets the axioms, and the rows say what it says
-pub record RowFacts (rule : Rule) (initial : CellId → Scalar) (log : List Event) (rows : Rows) (next : ℕ) : Type 0 where
-  pub axioms : meets_axioms rule initial log ≡ true
-  pub named : wakes_are_named log ≡ true
-  pub counted : next ≡ length log
-  pub rows_hold : RowsHold rule log rows
 
 -- a clock is what a thread knows
 abbrev pub IsKnown : Rule → List Event → ℕ → List ℕ → Type 0
@@ -32,9 +22,7 @@ one_higher (Some i) = Some (suc i)
 -- an access of the cell fits the log, and the clock is what is known at it
 pub record RaceFacts (rule : Rule) (initial : CellId → Scalar) (log : List Event) (cell : CellId) (e : Event) (kept : CellViews) (clock : List ℕ) : Type 0 where
   pub form : has_form initial log ≡ true
-  pub named : wakes_are_named log ≡ true
   pub fits : fits_form initial log e ≡ true
-  pub wake : names_wake log e ≡ true
   pub access : accesses cell e ≡ true
   pub knows : (u : ℕ) → slice_index clock u ≡ knew (views rule log) e u
   pub holds : CellHolds log cell kept

@@ -1,5 +1,9 @@
 -- How many entries of histories and indexes a call may look at.
-use Rattle.std.specs.Prelude.{ℕ, ◌+◌, ◌*◌, List}
+use Rattle.std.specs.Prelude.{ℕ, ◌+◌, ◌*◌, List, length}
+use Rattle.mu_values.specs.declared.scalars.Scalar.{Scalar}
+use Rattle.heap_cells.specs.declared.cells.CellId.{CellId}
+use Rattle.mem_axioms.specs.Choices.{options}
+use Rattle.mem_axioms.specs.declared.types.Rule.{Rule}
 use Rattle.mem_axioms.specs.declared.types.Event.{Event}
 use Rattle.mem_axioms.specs.declared.types.Wanted.{Wanted}
 use Rattle.mem_axioms.specs.declared.types.Wanted.TheVariants.{Load, Swap, Compare}
@@ -10,9 +14,8 @@ use Rattle.mem_views.specs.Threads.{thread_count}
 abbrev pub search_bound : List Event → ℕ → ℕ
 search_bound log d = (8 * thread_count log + 8) * (d + 1)
 
--- A comparison looks besides for the positions that have another value: it counts them at most d + 1 times, by 2 d + 133 looks
--- each. Of a cell with at most 64 values each value is looked at in turn, so 64 of the looks are there in each of two searches.
-abbrev pub values_bound : ℕ → Wanted → ℕ
-values_bound d (Load order) = 0
-values_bound d Swap = 0
-values_bound d (Compare success failure expected weak) = (d + 1) * (2 * d + 133)
+-- A comparison may look besides at each position that a load of its failure order may read.
+abbrev pub failure_options : Rule → (CellId → Scalar) → List Event → ℕ → CellId → Wanted → ℕ
+failure_options rule initial log thread cell (Load order) = 0
+failure_options rule initial log thread cell Swap = 0
+failure_options rule initial log thread cell (Compare success failure expected weak) = length (options rule initial log thread cell failure)

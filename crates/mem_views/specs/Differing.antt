@@ -1,5 +1,5 @@
 -- The positions that a strong comparison may read, and how many values are looked at.
-use Rattle.std.specs.Prelude.{ℕ, ◌+◌, ◌*◌, Bool, not, ◌&&◌, nat_le, List, Option, Some, None}
+use Rattle.std.specs.Prelude.{ℕ, ◌+◌, ◌*◌, min, Bool, not, ◌&&◌, nat_le, List, Option, Some, None}
 use Rattle.mu_values.specs.declared.scalars.Scalar.{Scalar}
 use Rattle.heap_cells.specs.declared.cells.CellId.{CellId}
 use Rattle.mem_axioms.specs.Choices.{holds}
@@ -15,12 +15,11 @@ abbrev pub floor_bound : List Event → ℕ → ℕ
 floor_bound log d = 4 * (thread_count log * (d + 1))
 
 -- For every d with fewer than 2^d events in the log: to count the positions below one that have another value takes two
--- searches among the positions of that value, of d + 66 looks each, and a look at the initial scalar. A search is by halves, or,
--- of at most 64 values, a look at each of them.
+-- searches among the positions of that value, of d + 65 looks each, and a look at the initial scalar.
 abbrev pub count_bound : ℕ → ℕ
-count_bound d = 2 * d + 133
+count_bound d = 2 * d + 131
 
--- Where a value is excluded, a position is found by at most d + 1 such counts.
-abbrev pub looks_bound : ℕ → Option Scalar → ℕ
-looks_bound d None = 0
-looks_bound d (Some scalar) = (d + 1) * count_bound d
+-- Where a value is excluded, each of the positions that may be read is looked at, or, of more than 128 of them, they are counted.
+abbrev pub looks_bound : ℕ → ℕ → Option Scalar → ℕ
+looks_bound d positions None = 0
+looks_bound d positions (Some scalar) = min positions 128 + (2 * d + 3)

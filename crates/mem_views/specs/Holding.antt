@@ -3,7 +3,7 @@ use Rattle.std.specs.Prelude.{◌≡◌, ℕ, suc, ◌<◌, Bool, true, false, �
 use Rattle.mu_values.specs.declared.scalars.Scalar.{Scalar}
 use Rattle.mu_values.specs.declared.scalars.Scalar.TheVariants.{Null}
 use Rattle.heap_cells.specs.declared.cells.CellId.{CellId}
-use Rattle.mem_axioms.specs.Events.{accesses, modifies, is_modification, is_wake, is_seq_cst_fence, value_of}
+use Rattle.mem_axioms.specs.Events.{accesses, modifies, is_modification, is_seq_cst_fence, value_of}
 use Rattle.mem_axioms.specs.Logs.{event_at, newest}
 use Rattle.mem_axioms.specs.EventFits.{is_thread}
 use Rattle.mem_axioms.specs.Known.{HasCells}
@@ -11,7 +11,6 @@ use Rattle.mem_axioms.specs.Sound.{IsSound}
 use Rattle.mem_axioms.specs.declared.types.Rule.{Rule}
 use Rattle.mem_axioms.specs.declared.types.Event.{Event}
 use Rattle.clock_laws.specs.Clocks.{views}
-use Rattle.clock_laws.specs.NamedWakes.{wakes_are_named}
 use Rattle.clocks.specs.Tables.{table_at, row_at}
 use Rattle.clocks.specs.Spans.{Spans}
 use Rattle.mem_views.specs.CellClocks.{released_at, sequence_at, Named}
@@ -38,7 +37,7 @@ pub record RowsHold (rule : Rule) (log : List Event) (rows : Rows) : Type 0 wher
   pub fenced : (t u : ℕ) → row_at rows.fenced t u ≡ (views rule log).fenced t u
   pub pending : (t u : ℕ) → row_at rows.pending t u ≡ (views rule log).pending t u
   pub joined : (u : ℕ) → slice_index rows.joined u ≡ (views rule log).joined u
-  pub wakes : (i : ℕ) (e : Event) → event_at log i ≡ Some e → is_wake e ≡ true → (u : ℕ) → table_at rows.wakes i u ≡ (views rule log).at i u
+  pub wakes : (i u : ℕ) → table_at rows.wakes i u ≡ (views rule log).woke i u
   pub before : (a : ℕ) (e : Event) → event_at log a ≡ Some e → is_seq_cst_fence e ≡ true → (u : ℕ) → table_at rows.before a u ≡ (views rule log).before a u
   pub fences : (u : ℕ) → accesses_at rows.fences.items u ≡ entries_by (λ n e. n) (fence_by u) log
 
@@ -68,12 +67,11 @@ pub record CellsHold (rule : Rule) (log : List Event) (clocks : Spans) (numbers 
   pub clocked : (cell : CellId) (p : ℕ) (d : CellViews) → place_in numbers cell ≡ suc p → p < length kept → ClocksHold rule log clocks cell (slice_index_or kept p d)
   pub untouched : (cell : CellId) → place_in numbers cell ≡ 0 → IsUntouched log cell
 
--- What holds of the log: it is sound, its cells are of added objects, each Woken names a wake, the thread of each event was
--- made, and threads are below 64.
+-- What holds of the log: it is sound, its cells are of added objects, the thread of each event was made, and
+-- threads are below 64.
 pub record LogHolds (rule : Rule) (objects : List (List Scalar)) (log : List Event) : Type 0 where
   pub sound : IsSound rule objects log
   pub cells : HasCells objects log
-  pub named : wakes_are_named log ≡ true
   pub threads : (i : ℕ) (e : Event) → event_at log i ≡ Some e → is_thread log e.thread ≡ true
   pub small : (t : ℕ) → is_thread log t ≡ true → t < 64
 

@@ -157,6 +157,7 @@ impl Rows {
     pub fn new(alloc: Global) -> Rows
         ensures threads { (t u : ℕ) → row_at result.threads t u ≡ 0 }
         ensures left { (s u : ℕ) → table_at result.left s u ≡ 0 }
+        ensures wakes { (i u : ℕ) → table_at result.wakes i u ≡ 0 }
         ensures fenced { (t u : ℕ) → row_at result.fenced t u ≡ 0 }
         ensures pending { (t u : ℕ) → row_at result.pending t u ≡ 0 }
         ensures joined { (u : ℕ) → slice_index result.joined u ≡ 0 }

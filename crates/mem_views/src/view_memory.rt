@@ -1,10 +1,12 @@
 // The memory of histories and clocks.
-ghost use Rattle.std.specs.Prelude.{◌≡◌, ℕ, ◌+◌, ◌-◌, ◌*◌, ◌^◌, ◌<◌, ◌≤◌, true, false, None, Some, List, [], ◌∷◌, ◌++◌, map, length, take, slice_index, slice_get, vec_len, vec_capacity, OnOk, OnErr, MatchOption, IsNone, IsSome, IfSome};
+ghost use Rattle.std.specs.Prelude.{◌≡◌, ℕ, ◌+◌, ◌-◌, ◌*◌, ◌^◌, ◌<◌, ◌≤◌, true, false, if◌then◌else◌, None, Some, List, [], ◌∷◌, ◌++◌, map, length, take, slice_index, slice_get, vec_len, vec_capacity, OnOk, OnErr, MatchOption, IsNone, IsSome, IfSome};
+ghost use Rattle.mu_values.specs.SameScalar.{same_scalar};
+ghost use Rattle.mu_values.specs.declared.scalars.Scalar.TheVariants.{Null};
 ghost use Rattle.mem_axioms.specs.Events.{accesses, is_seq_cst};
 ghost use Rattle.mem_axioms.specs.Logs.{newest};
 ghost use Rattle.mem_axioms.specs.Form.{value_at};
 ghost use Rattle.mem_axioms.specs.Floor.{floor};
-ghost use Rattle.mem_axioms.specs.Choices.{chosen_at, holds, choices};
+ghost use Rattle.mem_axioms.specs.Choices.{chosen_at, holds, choices, options};
 ghost use Rattle.mem_axioms.specs.Reads.{reads, excluded_by, below};
 ghost use Rattle.mem_axioms.specs.Objects.{initial_of, HasCell};
 ghost use Rattle.mem_axioms.specs.EventFits.{EventFits, is_thread};
@@ -20,7 +22,7 @@ ghost use Rattle.write_history.specs.Occurrences.{occurrences};
 ghost use Rattle.mem_views.specs.RowsAdded.{RowsRoom};
 ghost use Rattle.mem_views.specs.Roominess.{CellFits};
 ghost use Rattle.mem_views.specs.Answers.{IsKnown};
-ghost use Rattle.mem_views.specs.Bounds.{search_bound, values_bound};
+ghost use Rattle.mem_views.specs.Bounds.{search_bound, failure_options};
 ghost use Rattle.mem_views.specs.Differing.{differs_from, floor_bound, count_bound, looks_bound};
 
 use crate::cell::{CellViews, NextEvent};
@@ -75,6 +77,9 @@ pub struct ViewMemory {
     ghost clocks_fit: { room.events + room.events ≤ clocks.spare },
     ghost cell_fits: { CellFits room places.objects.items kept.items },
 }
+
+/// Where a read may take so many positions or fewer, each is looked at for another value. More are searched.
+const FEW: u32 = 128;
 
 /// A read of a cell: a load, or a comparison that fails.
 #[derive(Clone, Copy)]
@@ -379,7 +384,7 @@ impl ViewMemory {
         requires end { end ≤ newest self.now.tape.events cell + 1 }
         ensures count { result + occurrences scalar (take end (values_of self.now.tape.events cell)) ≡ end - from + occurrences scalar (take from (values_of self.now.tape.events cell)) }
         ensures at_most { result ≤ end - from }
-        ensures cost { (d : ℕ) → length self.now.tape.events < 2 ^ d → steps.new ≤ steps.old + (2 * d + 132) }
+        ensures cost { (d : ℕ) → length self.now.tape.events < 2 ^ d → steps.new ≤ steps.old + (2 * d + 130) }
     {
         match self.views_of(cell) {
             Some(kept) => kept.history.count_others(scalar, from, end, steps),
@@ -407,8 +412,113 @@ impl ViewMemory {
         initial + self.count_later(others.cell, from, end, others.scalar, steps)
     }
 
-    /// The n-th position from the floor on that has another value, from the newest down. Below it are those that are older, and
-    /// below the next one more, so it is searched by halves.
+    /// How many positions from the floor on have another value, by a look at each.
+    fn count_in_turn<L: Ledger>(
+        &self,
+        others: OtherPositions,
+        last: u32,
+        steps: &mut Steps<L>,
+    ) -> u32
+        requires cell { HasCell self.now.objects.values others.cell }
+        requires last { last ≡ newest self.now.tape.events others.cell }
+        requires floor { others.floor ≤ last }
+        requires few { last + 1 < 4294967295 }
+        ensures count { result ≡ length (below (differs_from (initial_of self.now.objects.values) self.now.tape.events others.cell others.floor others.scalar) (last + 1)) }
+        ensures at_most { result ≤ last + 1 }
+        ensures cost { steps.new ≤ steps.old + (last + 1 - others.floor) }
+    {
+        let mut count = 0;
+        for position in others.floor..last + 1 {
+            if self.differs(others, position, steps) {
+                count += 1;
+            }
+        }
+        count
+    }
+
+    /// How many positions from the floor on have another value. Of few each is looked at.
+    fn count_others<L: Ledger>(
+        &self,
+        others: OtherPositions,
+        last: u32,
+        steps: &mut Steps<L>,
+    ) -> u32
+        requires cell { HasCell self.now.objects.values others.cell }
+        requires last { last ≡ newest self.now.tape.events others.cell }
+        requires floor { others.floor ≤ last }
+        requires few { last + 1 < 4294967295 }
+        ensures count { result ≡ length (below (differs_from (initial_of self.now.objects.values) self.now.tape.events others.cell others.floor others.scalar) (last + 1)) }
+        ensures at_most { result ≤ last + 1 }
+        ensures cost { (d : ℕ) → length self.now.tape.events < 2 ^ d → steps.new ≤ steps.old + looks_bound d (last + 1 - others.floor) (Some others.scalar) }
+    {
+        if last - others.floor < FEW {
+            return self.count_in_turn(others, last, steps);
+        }
+        self.count_differing(others, last + 1, steps)
+    }
+
+    /// The n-th position from the floor on that has another value, from the newest down, by a look at each.
+    fn nth_in_turn<L: Ledger>(
+        &self,
+        others: OtherPositions,
+        last: u32,
+        n: u32,
+        steps: &mut Steps<L>,
+    ) -> u32
+        requires cell { HasCell self.now.objects.values others.cell }
+        requires last { last ≡ newest self.now.tape.events others.cell }
+        requires floor { others.floor ≤ last }
+        requires few { last + 1 < 4294967295 }
+        requires n { n < length (below (differs_from (initial_of self.now.objects.values) self.now.tape.events others.cell others.floor others.scalar) (last + 1)) }
+        ensures nth { slice_get (below (differs_from (initial_of self.now.objects.values) self.now.tape.events others.cell others.floor others.scalar) (last + 1)) n ≡ Some result }
+        ensures at_most { result ≤ last }
+        ensures cost { steps.new ≤ steps.old + (last + 1 - others.floor) }
+    {
+        let mut newer = 0;
+        for index in 0..last + 1 - others.floor {
+            let position = last - index;
+            if self.differs(others, position, steps) {
+                if newer == n {
+                    return position;
+                }
+                newer += 1;
+            }
+        }
+        unreachable!()
+    }
+
+    /// The n-th position that has another value, from the newest down, by two searches. The history has NULL in the place of
+    /// the initial scalar, so position 0 is what is left where no later position is the n-th.
+    fn nth_searched<L: Ledger>(
+        &self,
+        others: OtherPositions,
+        last: u32,
+        n: u32,
+        steps: &mut Steps<L>,
+    ) -> u32
+        requires cell { HasCell self.now.objects.values others.cell }
+        requires last { last ≡ newest self.now.tape.events others.cell }
+        requires floor { others.floor ≤ last }
+        requires few { last + 1 < 4294967295 }
+        requires n { n < length (below (differs_from (initial_of self.now.objects.values) self.now.tape.events others.cell others.floor others.scalar) (last + 1)) }
+        ensures nth { slice_get (below (differs_from (initial_of self.now.objects.values) self.now.tape.events others.cell others.floor others.scalar) (last + 1)) n ≡ Some result }
+        ensures at_most { result ≤ last }
+        ensures cost { (d : ℕ) → length self.now.tape.events < 2 ^ d → steps.new ≤ steps.old + (2 * d + 130) }
+    {
+        let Some(kept) = self.views_of(others.cell) else {
+            return 0;
+        };
+        let same = kept.history.count_below(others.scalar, last + 1, steps);
+        let differing = last + 1 - same;
+        if n + placeholder(others.scalar) < differing {
+            return kept
+                .history
+                .other_at(others.scalar, differing - 1 - n, steps);
+        }
+        0
+    }
+
+    /// The n-th position from the floor on that has another value, from the newest down. Of few each is looked at.
     fn nth_differing<L: Ledger>(
         &self,
         others: OtherPositions,
@@ -423,22 +533,13 @@ impl ViewMemory {
         requires n { n < length (below (differs_from (initial_of self.now.objects.values) self.now.tape.events others.cell others.floor others.scalar) (last + 1)) }
         ensures nth { slice_get (below (differs_from (initial_of self.now.objects.values) self.now.tape.events others.cell others.floor others.scalar) (last + 1)) n ≡ Some result }
         ensures at_most { result ≤ last }
-        ensures cost { (d : ℕ) → length self.now.tape.events < 2 ^ d → steps.new ≤ steps.old + (d + 1) * count_bound d }
+        ensures cost { (d : ℕ) → length self.now.tape.events < 2 ^ d → steps.new ≤ steps.old + looks_bound d (last + 1 - others.floor) (Some others.scalar) }
     {
-        let all = self.count_differing(others, last + 1, steps);
-        let older = all - (n + 1);
-        let mut low = others.floor;
-        let mut high = last + 1;
-        while low + 1 < high {
-            let middle = low + (high - low) / 2;
-            let fewer = self.count_differing(others, middle, steps);
-            if fewer <= older {
-                low = middle;
-            } else {
-                high = middle;
-            }
+        let positions = last - others.floor + 1;
+        if positions <= FEW {
+            return self.nth_in_turn(others, last, n, steps);
         }
-        low
+        self.nth_searched(others, last, n, steps)
     }
 
     /// How many positions may be read.
@@ -447,7 +548,7 @@ impl ViewMemory {
         requires count { length self.now.tape.events + 1 < 4294967295 }
         ensures count { result ≡ length (reads self.now.rule (initial_of self.now.objects.values) self.now.tape.events read.thread read.cell read.order read.excluded) }
         ensures at_most { result ≤ length self.now.tape.events + 1 }
-        ensures cost { (d : ℕ) → length self.now.tape.events < 2 ^ d → steps.new ≤ steps.old + (floor_bound self.now.tape.events d + looks_bound d read.excluded) }
+        ensures cost { (d : ℕ) → length self.now.tape.events < 2 ^ d → steps.new ≤ steps.old + (floor_bound self.now.tape.events d + looks_bound d (length (options self.now.rule (initial_of self.now.objects.values) self.now.tape.events read.thread read.cell read.order)) read.excluded) }
     {
         let cell = read.cell;
         let floor = self.floor(read.thread, cell, read.order, steps);
@@ -460,7 +561,7 @@ impl ViewMemory {
                     floor,
                     scalar,
                 };
-                self.count_differing(others, newest + 1, steps)
+                self.count_others(others, newest, steps)
             }
         }
     }
@@ -472,7 +573,7 @@ impl ViewMemory {
         requires n { n < length (reads self.now.rule (initial_of self.now.objects.values) self.now.tape.events read.thread read.cell read.order read.excluded) }
         ensures nth { slice_get (reads self.now.rule (initial_of self.now.objects.values) self.now.tape.events read.thread read.cell read.order read.excluded) n ≡ Some result }
         ensures at_most { result ≤ newest self.now.tape.events read.cell }
-        ensures cost { (d : ℕ) → length self.now.tape.events < 2 ^ d → steps.new ≤ steps.old + (floor_bound self.now.tape.events d + looks_bound d read.excluded) }
+        ensures cost { (d : ℕ) → length self.now.tape.events < 2 ^ d → steps.new ≤ steps.old + (floor_bound self.now.tape.events d + looks_bound d (length (options self.now.rule (initial_of self.now.objects.values) self.now.tape.events read.thread read.cell read.order)) read.excluded) }
     {
         let cell = read.cell;
         let newest = self.newest(cell);
@@ -516,7 +617,7 @@ impl ViewMemory {
         requires count { length self.now.tape.events + 1 < 4294967295 }
         requires n { n < length (reads self.now.rule (initial_of self.now.objects.values) self.now.tape.events read.thread read.cell read.order read.excluded) }
         ensures chosen { slice_get (map (chosen_at (initial_of self.now.objects.values) self.now.tape.events read.cell false) (reads self.now.rule (initial_of self.now.objects.values) self.now.tape.events read.thread read.cell read.order read.excluded)) n ≡ Some result }
-        ensures cost { (d : ℕ) → length self.now.tape.events < 2 ^ d → steps.new ≤ steps.old + (floor_bound self.now.tape.events d + looks_bound d read.excluded + 1) }
+        ensures cost { (d : ℕ) → length self.now.tape.events < 2 ^ d → steps.new ≤ steps.old + (floor_bound self.now.tape.events d + looks_bound d (length (options self.now.rule (initial_of self.now.objects.values) self.now.tape.events read.thread read.cell read.order)) read.excluded + 1) }
     {
         let position = self.nth_read(read, n, steps);
         self.chosen(read.cell, false, position, steps)
@@ -540,6 +641,19 @@ impl ViewMemory {
     {
         let newest = self.newest(cell);
         self.holds(cell, expected, newest, steps)
+    }
+}
+
+/// How many positions of a history, 1 or 0, are 0 and have another value than the scalar: NULL stands there in the place of the
+/// initial scalar.
+fn placeholder(scalar: Scalar) -> u32
+    ensures is { result ≡ (if same_scalar Null scalar then 0 else 1) }
+    ensures at_most { result ≤ 1 }
+{
+    if is_same_scalar(Scalar::Null, scalar) {
+        0
+    } else {
+        1
     }
 }
 
@@ -606,7 +720,8 @@ impl Memory for ViewMemory {
         requires count { length self.now.tape.events + 1 < 4294967295 }
         ensures count { result ≡ length (choices self.now.rule (initial_of self.now.objects.values) self.now.tape.events thread cell wanted.now) }
         ensures some { 1 ≤ result }
-        ensures cost { (d : ℕ) → length self.now.tape.events < 2 ^ d → steps.new ≤ steps.old + (search_bound self.now.tape.events d + values_bound d wanted.now) }
+        ensures cost { (d : ℕ) → length self.now.tape.events < 2 ^ d → steps.new ≤ steps.old + (search_bound self.now.tape.events d + failure_options self.now.rule (initial_of self.now.objects.values) self.now.tape.events thread cell wanted.now) }
+        ensures cost_of_many { (d : ℕ) → length self.now.tape.events < 2 ^ d → steps.new ≤ steps.old + (search_bound self.now.tape.events d + 128) }
     {
         match *wanted {
             Wanted::Load { order } => {
@@ -653,7 +768,8 @@ impl Memory for ViewMemory {
         requires count { length self.now.tape.events + 1 < 4294967295 }
         requires n { n < length (choices self.now.rule (initial_of self.now.objects.values) self.now.tape.events thread cell wanted.now) }
         ensures chosen { slice_get (choices self.now.rule (initial_of self.now.objects.values) self.now.tape.events thread cell wanted.now) n ≡ Some result }
-        ensures cost { (d : ℕ) → length self.now.tape.events < 2 ^ d → steps.new ≤ steps.old + (search_bound self.now.tape.events d + values_bound d wanted.now) }
+        ensures cost { (d : ℕ) → length self.now.tape.events < 2 ^ d → steps.new ≤ steps.old + (search_bound self.now.tape.events d + failure_options self.now.rule (initial_of self.now.objects.values) self.now.tape.events thread cell wanted.now) }
+        ensures cost_of_many { (d : ℕ) → length self.now.tape.events < 2 ^ d → steps.new ≤ steps.old + (search_bound self.now.tape.events d + 128) }
     {
         match *wanted {
             Wanted::Load { order } => {

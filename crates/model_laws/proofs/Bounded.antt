@@ -1,5 +1,5 @@
 -- A step is counted, and stays in bounds; a run has an ending.
-use Rattle.std.specs.Prelude.{◌≡◌, ◌≢◌, ◌≤◌, ◌<◌, ◌+◌, ◌++◌, ◌||◌, ◌-◌, ◌*◌, ◌^◌, ◌==◌, ℕ, zero, suc, Bool, true, false, List, [], ◌∷◌, Option, Some, None, All, length, filter, take, find, map, slice_get, refl, reverse, if◌then◌else◌}
+use Rattle.std.specs.Prelude.{◌≡◌, ◌≤◌, ◌<◌, ◌+◌, ◌++◌, ◌||◌, ◌^◌, ◌==◌, ℕ, zero, suc, Bool, true, false, List, [], ◌∷◌, Option, Some, None, All, length, filter, take, find, map, slice_get, refl, reverse, if◌then◌else◌}
 use Rattle.std.specs.List.{list_any, IsDistinct, AllByRecursion}
 use Rattle.std.proofs.Common.{sym, ◌∙◌, ap, subst, inl, inr, arith, cond, eqb, lit<}
 use Rattle.std.proofs.lemmas.Bool.{false≢true}
@@ -44,7 +44,7 @@ use Rattle.std.proofs.lemmas.List.Elements.{All-cons, All-nil}
 use Rattle.typed_heap.specs.Objects.{leaf_classes, run_classes}
 use Rattle.typed_heap.specs.Places.{with_some}
 
-some_inside : {A B : Type 0} (o : Option A) (f : A → Option B) (b : B) → with_some o f ≡ Some b → (a : A) × (o ≡ Some a) × (f a ≡ Some b)
+pub some_inside : {A B : Type 0} (o : Option A) (f : A → Option B) (b : B) → with_some o f ≡ Some b → (a : A) × (o ≡ Some a) × (f a ≡ Some b)
 some_inside None f b e = cc
 some_inside (Some a) f b e = (a, refl, e)
 
@@ -100,7 +100,7 @@ waiters_below p ts ss (w ∷ ws) h q e = by (eqb q w.thread) refl e (waiters_bel
     ]
     by false k e rest = rest e
 
-waiters_few : (p : Program) (ts : List (Option Thread)) (ss : List Stack) (ws : List Waiter) → WaitersFit p ts ss ws → length ws ≤ length ts
+pub waiters_few : (p : Program) (ts : List (Option Thread)) (ss : List Stack) (ws : List Waiter) → WaitersFit p ts ss ws → length ws ≤ length ts
 waiters_few p ts ss ws h =
     omega (arith, sym (threads_length ws), length-le_from_distinct_below (map (λ (w : Waiter). w.thread) ws) (length ts) (waiters_apart p ts ss ws h) (waiters_below p ts ss ws h))
   where
@@ -108,7 +108,7 @@ waiters_few p ts ss ws h =
     threads_length [] = refl
     threads_length (w ∷ ws) = ap suc (threads_length ws)
 
-filter_short : (q : Waiter → Bool) (ws : List Waiter) → length (filter q ws) ≤ length ws
+pub filter_short : (q : Waiter → Bool) (ws : List Waiter) → length (filter q ws) ≤ length ws
 filter_short q [] = omega arith
 filter_short q (w ∷ ws) = by (q w) (filter_short q ws)
   where
@@ -116,7 +116,7 @@ filter_short q (w ∷ ws) = by (q w) (filter_short q ws)
     by true l = omega (arith, l)
     by false l = omega (arith, l)
 
-take_short : (n : ℕ) (ws : List Waiter) → length (take n ws) ≤ length ws
+pub take_short : (n : ℕ) (ws : List Waiter) → length (take n ws) ≤ length ws
 take_short zero ws = omega arith
 take_short (suc n) [] = omega arith
 take_short (suc n) (w ∷ ws) = omega (arith, take_short n ws)

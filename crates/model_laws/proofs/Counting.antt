@@ -1,5 +1,5 @@
 -- How much a step adds.
-use Rattle.std.specs.Prelude.{◌≡◌, ◌≤◌, ◌<◌, ◌+◌, ◌*◌, ◌==◌, ℕ, zero, suc, Bool, true, false, nat_le, List, [], ◌∷◌, ◌++◌, Option, Some, None, All, Result, Ok, Err, length, fold, flat_map, slice_get, bytes_eq, refl, if◌then◌else◌}
+use Rattle.std.specs.Prelude.{◌≡◌, ◌≤◌, ◌+◌, ℕ, zero, suc, Bool, true, false, nat_le, List, [], ◌∷◌, ◌++◌, Option, Some, None, All, Result, Ok, Err, length, fold, flat_map, slice_get, bytes_eq, refl, if◌then◌else◌}
 use Rattle.std.proofs.Common.{sym, ◌∙◌, ap, arith, length-append}
 use Rattle.std.proofs.Math.ListN.{length-set}
 use Rattle.std.proofs.lemmas.List.Elements.{All-set, All-push}
@@ -97,7 +97,7 @@ entered_depth p (f ∷ fs) (ThrowsInto e) r q = unwinding_depth p e (f ∷ fs) r
 entered_depth p [] Misfits r q = cc
 entered_depth p (f ∷ fs) Misfits r q = cc
 
-ready_is : (ss : List Stack) (s : Scalar) (x : ℕ × List Activation) → ready ss s ≡ Some (Ok x) → slice_get ss x.0 ≡ Some (Ready x.1)
+pub ready_is : (ss : List Stack) (s : Scalar) (x : ℕ × List Activation) → ready ss s ≡ Some (Ok x) → slice_get ss x.0 ≡ Some (Ready x.1)
 ready_is ss (scalars.Stack k) x q = by (slice_get ss k) refl q
   where
     by : (o : Option Stack) → slice_get ss k ≡ o → with_some o (λ s. Some (ready_at k s)) ≡ Some (Ok x) → slice_get ss x.0 ≡ Some (Ready x.1)

@@ -20,3 +20,4 @@ pub mod Answering
 pub mod Proved
 pub mod Counting
 pub mod Bounded
+pub mod Printing

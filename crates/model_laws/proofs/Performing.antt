@@ -1,5 +1,5 @@
 -- A step of a well typed configuration is never stuck, and what follows is well typed again.
-use Rattle.std.specs.Prelude.{◌≡◌, ◌≢◌, ◌⊎◌, ◌≤◌, ◌<◌, ◌==◌, ◌+◌, ◌||◌, ℕ, zero, suc, Bool, true, false, not, List, [], ◌∷◌, ◌++◌, Option, Some, None, IsSomeAnd, length, filter, find, slice_get, Result, Ok, Err, IfOk, option_map, refl, if◌then◌else◌}
+use Rattle.std.specs.Prelude.{◌≡◌, ◌≤◌, ◌<◌, ◌==◌, ◌+◌, ◌||◌, ℕ, zero, suc, Bool, true, false, not, List, [], ◌∷◌, Option, Some, None, IsSomeAnd, length, filter, find, slice_get, Result, Ok, Err, IfOk, option_map, refl, if◌then◌else◌}
 use Rattle.std.proofs.Common.{sym, ◌∙◌, ap, subst, inl, inr, arith, cond}
 use Rattle.std.proofs.lemmas.Bool.Decides.{eqb_tells}
 use Rattle.std.proofs.lemmas.Option.{slice_get_within}
@@ -32,7 +32,6 @@ use Rattle.model_laws.specs.ThreadsFit.{ThreadFits, is_waiting}
 use Rattle.model_laws.specs.Values.{ValuesFit, world}
 use Rattle.model_laws.specs.WellTyped.{GoesWell, WellTyped}
 use Rattle.mu_model.specs.Acts.{Act, Program}
-use Rattle.mu_model.specs.Answers.{typed}
 use Rattle.mu_threads.specs.Picks.{pick}
 use Rattle.mu_model.specs.Changes.{logged}
 use Rattle.mu_model.specs.Configuration.{Active, Configuration, Thread, Waiter}
@@ -106,7 +105,7 @@ module _ (p : Program) (t : Places) (typed : IsTyped p t) where
   performed_good c u (acts.Casts d s) does k h = found_good (world p.tables c) c u (cast_any p.tables c.objects (class_definition p.tables d) s) k h
   performed_good c u (acts.Finds way s) does k h = found_good (world p.tables c) c u (find_place (type_graph p.tables) c.objects (move (type_graph p.tables) way) s) k h
   performed_good c u (acts.Accesses a cell) does k h = accesses_good p t typed (world p.tables c) c u a cell k.going k.turned k.known h
-  performed_good c u (acts.Fences r) does k h = fences_good (world p.tables c) c u r k h
+  performed_good c u (acts.Fences r) does k h = fences_good (world p.tables c) c u r k h.0
   performed_good c u (acts.Chooses n a b) does k h = chooses_good (world p.tables c) c u n a b k h
   performed_good c u (acts.Swaps s cs e) does k h = swaps_good p t typed (world p.tables c) c u s cs e k.thread k.going k.turned k.there k.known does h
   performed_good c u (acts.Leaves s e) does k h = leaves_good p t typed (world p.tables c) c u s e k.thread k.going k.turned k.there k.known h

@@ -10,6 +10,7 @@ use Rattle.typed_heap.specs.Fits.{World, ScalarFits}
 use Rattle.mu_model.specs.Types.{type_graph}
 use Rattle.mu_model.specs.Acts.{Access, Loads, Stores, Compares, Updates, Program}
 use Rattle.mu_model.specs.Accesses.{updated}
+use Rattle.model_laws.specs.Orders.{OrdersFit}
 use Rattle.model_laws.specs.Places.{Places}
 
 -- its results have these types
@@ -38,6 +39,7 @@ pub record AccessFits (p : Program) (t : Places) (w : World) (block at : ℕ) (a
   pub leaf : leaf_classes (type_graph p.tables) class ≡ class ∷ []
   pub there : CellFits w cell class
   pub access : AccessOf (type_graph p.tables) w class a
+  pub orders : OrdersFit a
   pub gives : Gives t block at (access_gives p.tables class a)
 
 -- a wait or a wake

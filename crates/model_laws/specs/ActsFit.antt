@@ -15,6 +15,7 @@ use Rattle.mu_model.specs.Acts as acts
 use Rattle.mu_model.specs.Acts.{Entering, Passes, ThrowsInto, Misfits, Act, Program}
 use Rattle.mu_model.specs.Objects.{cast_any}
 use Rattle.model_laws.specs.Values.{ValuesFit}
+use Rattle.model_laws.specs.Orders.{IsFenceOrder}
 use Rattle.model_laws.specs.Places.{Places, GoalFits}
 use Rattle.model_laws.specs.AccessesFit.{Gives, AccessFits, FutexFits}
 
@@ -66,7 +67,7 @@ ActFits p t w block at (acts.MakesHybrid c many) =
 ActFits p t w block at (acts.MakesOwn c) =
     MadeFits p t block at types.Iref (λ d. place_fits (type_graph p.tables) d (object_of (type_graph p.tables) (leaf_classes (type_graph p.tables) c)) 0)
 ActFits p t w block at (acts.Accesses a cell) = AccessFits p t w block at a cell
-ActFits p t w block at (acts.Fences o) = Gives t block at []
+ActFits p t w block at (acts.Fences o) = Gives t block at [] × IsFenceOrder o
 ActFits p t w block at (acts.Traps cs) = Gives t block at cs
 ActFits p t w block at (acts.Watches n cs disabled) = Gives t block at cs × GoalFits p t w block disabled
 ActFits p t w block at (acts.Chooses n disabled enabled) = GoalFits p t w block disabled × GoalFits p t w block enabled

@@ -10,3 +10,5 @@ pub mod ClientsFit
 pub mod WellTyped
 pub mod Laws
 pub mod Bounds
+pub mod Orders
+pub mod Printable

@@ -1,6 +1,7 @@
 // What holds of every step of a well-typed program.
 ghost use Rattle.model_laws.specs.Laws.{FirstIsWellTyped, StepsGoWell, ClientsSettle, OperandsFit, StacksHaveOneOwner, LogsMeetAxioms, LogsAreRaceFree, ReadsWereOffered};
 ghost use Rattle.model_laws.specs.Bounds.{FirstIsInBounds, StepsStayInBounds, RunsStaySmall, RunsEnd};
+ghost use Rattle.model_laws.specs.Printable.{FirstIsPrintable, StepsStayPrintable};
 
 /// A run of a well-typed program begins well typed, where it is given objects and a client that fit, and begins in a function that takes
 /// nothing.
@@ -47,4 +48,11 @@ pub fn runs_stay_in_bounds()
 /// A run of a well-typed program from a well-typed configuration has an ending, within one step more than it may make.
 pub fn runs_have_an_ending()
     ensures { RunsEnd }
+{}
+
+/// Each event that a run logs can be printed: it names stacks that exist, with an order of its kind. No object has more cells than the
+/// setting allows.
+pub fn logs_stay_printable()
+    ensures first { FirstIsPrintable }
+    ensures steps { StepsStayPrintable }
 {}

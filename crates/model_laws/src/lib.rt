@@ -5,6 +5,7 @@
 mod laws;
 
 pub use laws::{
-    first_configuration_is_well_typed, logs_meet_the_axioms, operands_fit_their_types,
-    runs_have_an_ending, runs_stay_in_bounds, stacks_have_one_owner, steps_are_never_stuck,
+    first_configuration_is_well_typed, logs_meet_the_axioms, logs_stay_printable,
+    operands_fit_their_types, runs_have_an_ending, runs_stay_in_bounds, stacks_have_one_owner,
+    steps_are_never_stuck,
 };

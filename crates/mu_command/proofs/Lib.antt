@@ -13,3 +13,6 @@ pub mod Files
 pub mod Beginnings
 pub mod Trials
 pub mod Tallies
+pub mod Limits
+pub mod Judged
+pub mod AutoClient

@@ -1,5 +1,5 @@
 -- To believe: the one statement about the program, and the causes of its statuses.
-use Rattle.std.specs.Prelude.{◌≡◌, ◌≢◌, ◌⊎◌, ℕ, ◌-◌, ◌^◌, ◌<◌, List, [], length, Option, None, Some, Ok, Err, nat_le, if◌then◌else◌}
+use Rattle.std.specs.Prelude.{true, ◌≡◌, ◌≢◌, ◌⊎◌, ℕ, ◌-◌, ◌^◌, ◌<◌, List, [], length, Option, None, Some, Ok, Err, nat_le, if◌then◌else◌}
 use Rattle.mu_base.specs.declared.status.Status.{Status}
 use Rattle.mu_base.specs.declared.status.Status.TheVariants.{Refused}
 use Rattle.mu_base.specs.Faults.{Rose}
@@ -11,9 +11,13 @@ use Rattle.mu_model.specs.Programs.{named}
 use Rattle.mu_model.specs.Acts.{Program}
 use Rattle.mu_model.specs.Accesses.{initial}
 use Rattle.mu_model.specs.Configuration.{Configuration}
-use Rattle.mu_model.specs.Outcomes.{Stuck}
+use Rattle.mu_model.specs.declared.lines.Line.{Line}
+use Rattle.mu_model.specs.declared.endings.Ending.{Ending}
+use Rattle.mu_model.specs.Clients.{Answer as ClientAnswer}
+use Rattle.mu_model.specs.Outcomes.{Outcome as StepOutcome, Next, Asks, Stuck, View}
 use Rattle.mu_model.specs.Step.{step}
-use Rattle.mu_model.specs.Run.{first_configuration, client_answers}
+use Rattle.mu_model.specs.Run.{Ends, first_configuration, client_answers}
+use Rattle.run_texts.specs.Texts.{ending_status}
 use Rattle.model_laws.specs.Laws.{OneOwner}
 use Rattle.text_programs.specs.Moments.{Reaches, IsSoundLog}
 use Rattle.mu_texts.specs.declared.ready.Ready.{Ready}
@@ -23,7 +27,7 @@ use Rattle.mu_texts.specs.declared.what.What.{What}
 use Rattle.mu_texts.specs.What.{slot_of}
 use Rattle.mu_command.specs.Job.{job_of, file_of, word}
 use Rattle.mu_texts.specs.Start.{Started}
-use Rattle.mu_texts.specs.Answer.{Answer, ready_answer}
+use Rattle.mu_texts.specs.Answer.{Answer, ready_answer, run_of}
 use Rattle.mu_command.specs.Answer.{Outcomes, found, answer_of}
 use Rattle.mu_command.specs.Allowed.{Seen, AllowsJob, file_limit}
 use Rattle.mu_command.specs.Written.{Writes}
@@ -102,6 +106,29 @@ HasOneOwner p c = OneOwner c
 -- The next step has a rule.
 abbrev pub IsNotStuck : Program → Configuration → Type 0
 IsNotStuck p c = client_answers p c.client (step p c) ≢ Stuck
+
+-- Where the next step asks a client that has no entries left and answers with zero and NULL, the run goes on.
+abbrev pub AutoGoesOn : Program → Configuration → Type 0
+AutoGoesOn p c = (view : View) (go : Option ClientAnswer → StepOutcome) → step p c ≡ Asks view go → c.client ≡ record { entries = []; auto = true } →
+    (d : Configuration) × (client_answers p c.client (step p c) ≡ Next d)
+
+-- ---- the ending
+
+-- The first configuration exists, the run comes to its ending, and the answer has the status of that ending.
+pub record HasItsEnding (code : List Item) (start : Started) (telling : Telling) : Type 0 where
+  pub first : Configuration
+  pub begins : first_configuration (named code) start.setting start.entry ≡ Some first
+  pub steps : List (List Line)
+  pub lines : List Line
+  pub ending : Ending
+  pub ends : run_of code start.entry start.setting ≡ Ends steps lines ending
+  pub status : (ready_answer (Entered code start telling)).status ≡ ending_status ending
+
+-- Each run that the words ask for, whatever bytes its files have, has its ending.
+abbrev pub EachRunEnds : List (List ℕ) → Type 0
+EachRunEnds words =
+    (job : Job) (outcomes : Outcomes) (code : List Item) (start : Started) (telling : Telling) →
+    job_of words ≡ Some job → found words job outcomes ≡ Ok (Entered code start telling) → HasItsEnding code start telling
 
 -- ---- completeness
 

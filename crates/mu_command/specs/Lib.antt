@@ -6,3 +6,4 @@ pub mod Parts
 pub mod Central
 pub mod Examples
 pub mod Steps
+pub mod Judged

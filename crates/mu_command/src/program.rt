@@ -6,13 +6,13 @@ ghost use Rattle.text_programs.specs.Moments.{EndsSoundly};
 ghost use Rattle.text_programs.specs.Offers.{OffersExactly};
 ghost use Rattle.mu_texts.specs.Answer.{is_end};
 ghost use Rattle.mu_command.specs.Answer.{answer_of, read_fault_line, too_long_line};
-ghost use Rattle.mu_command.specs.Central.{Answered, MayFail, IsPast, IsUnfetched, OfJob, IsAccepted, IsRefused, IsQuiet, outcomes_of, OneAnswer, EachMoment, HasSoundLog, HasOneOwner, IsNotStuck};
+ghost use Rattle.mu_command.specs.Central.{Answered, MayFail, IsPast, IsUnfetched, OfJob, IsAccepted, IsRefused, IsQuiet, outcomes_of, OneAnswer, EachMoment, EachRunEnds, HasSoundLog, HasOneOwner, IsNotStuck, AutoGoesOn};
 ghost use Rattle.mu_command.specs.Job.{job_of};
 ghost use Rattle.mu_command.specs.Written.{IsWhole, Writes};
 
 use crate::finding::find;
 use crate::running::write;
-use crate::sound::runs_are_sound;
+use crate::sound::{runs_are_sound, runs_have_their_endings};
 use crate::writing::put_line;
 use mu_base::{Inputs, Sink, Status, Words};
 use mu_texts::Stop;
@@ -99,6 +99,10 @@ pub fn mu<I: Inputs, S: Sink>(alloc: Global, words: &Words, inputs: &mut I, out:
     ensures never_stuck { EachMoment IsNotStuck words.now }
     // Where the next step gives the ending, it logs nothing, or that a thread left its stack, and the log that is left is sound too.
     ensures sound_endings { EachMoment EndsSoundly words.now }
+    // Where the next step asks a client that has no entries left and passes zero and NULL, the run goes on after its answer.
+    ensures auto_goes_on { EachMoment AutoGoesOn words.now }
+    // The run that the words ask for begins, and comes to its ending, whose status is that of the answer.
+    ensures ends { EachRunEnds words.now }
 
     // What the inputs tell stays, and no count of faults falls.
     ensures inputs_stay { I.holds inputs.new ≡ I.holds inputs.old }
@@ -112,6 +116,7 @@ pub fn mu<I: Inputs, S: Sink>(alloc: Global, words: &Words, inputs: &mut I, out:
         (S.written out.old) (S.written out.new) (S.ends out.old) (S.ends out.new) result }
 {
     runs_are_sound();
+    runs_have_their_endings();
     answer(alloc, words, inputs, out)
 }
 

@@ -2,7 +2,7 @@
 ghost use Rattle.std.specs.Prelude.{◌≡◌, ◌≢◌, ◌<◌, IsSome, Some, IfOk, length, take, true, false};
 ghost use Rattle.std.specs.List.{flat_map};
 ghost use Rattle.frames.specs.Activations.{Activation};
-ghost use Rattle.frames.specs.Chains.{frames_of};
+ghost use Rattle.frames.specs.Chains.{frames_in};
 ghost use Rattle.frames.specs.Handlers.{first_handler};
 ghost use Rattle.mu_model.specs.Acts as acts;
 ghost use Rattle.step_forms.specs.Asked.{entering_of};
@@ -60,8 +60,8 @@ fn pass_at(
     out: &mut Slots,
 ) -> Result<Arrival, AllocError>
     requires same { types.now.members ≡ frames.now.top.waits }
-    requires there { IsSome (entered_by code.now (frames_of frames.now) (acts.Passes types.now.members values.now.values)) }
-    ensures { IfOk result (λ a. entered_by code.now (frames_of frames.now) (acts.Passes types.now.members values.now.values) ≡ found (Found.Lands a) (frames_of frames.now) out.new.values) }
+    requires there { IsSome (entered_by code.now (frames_in frames.now) (acts.Passes types.now.members values.now.values)) }
+    ensures { IfOk result (λ a. entered_by code.now (frames_in frames.now) (acts.Passes types.now.members values.now.values) ≡ found (Found.Lands a) (frames_in frames.now) out.new.values) }
 {
     let place = passing(code, frames.top(), values, out)?;
     Ok(Arrival { above: 0, place })
@@ -76,8 +76,8 @@ fn pass(
     values: &Slots,
     out: &mut Slots,
 ) -> Result<Found, AllocError>
-    requires { IsSome (entered_by code.now (frames_of frames.now) (acts.Passes types.now.members values.now.values)) }
-    ensures is { IfOk result (λ r. entered_by code.now (frames_of frames.now) (acts.Passes types.now.members values.now.values) ≡ found r (frames_of frames.now) out.new.values) }
+    requires { IsSome (entered_by code.now (frames_in frames.now) (acts.Passes types.now.members values.now.values)) }
+    ensures is { IfOk result (λ r. entered_by code.now (frames_in frames.now) (acts.Passes types.now.members values.now.values) ≡ found r (frames_in frames.now) out.new.values) }
     ensures plain { IfOk result IsPlain }
 {
     if are_same(types, &frames.top().waits) {
@@ -96,9 +96,9 @@ fn catch_at(
     exception: Scalar,
     out: &mut Slots,
 ) -> Result<Arrival, AllocError>
-    requires first { first_handler (frames_of frames.now) ≡ Some above }
-    requires there { IsSome (entered_by code.now (frames_of frames.now) (acts.ThrowsInto exception)) }
-    ensures { IfOk result (λ a. entered_by code.now (frames_of frames.now) (acts.ThrowsInto exception) ≡ found (Found.Lands a) (frames_of frames.now) out.new.values) }
+    requires first { first_handler (frames_in frames.now) ≡ Some above }
+    requires there { IsSome (entered_by code.now (frames_in frames.now) (acts.ThrowsInto exception)) }
+    ensures { IfOk result (λ a. entered_by code.now (frames_in frames.now) (acts.ThrowsInto exception) ≡ found (Found.Lands a) (frames_in frames.now) out.new.values) }
 {
     let block = handler_goal(frames.frame(above), out)?;
     add_exception(code, block, exception, out)?;
@@ -116,8 +116,8 @@ fn catch(
     exception: Scalar,
     out: &mut Slots,
 ) -> Result<Found, AllocError>
-    requires { IsSome (entered_by code.now (frames_of frames.now) (acts.ThrowsInto exception)) }
-    ensures is { IfOk result (λ r. entered_by code.now (frames_of frames.now) (acts.ThrowsInto exception) ≡ found r (frames_of frames.now) out.new.values) }
+    requires { IsSome (entered_by code.now (frames_in frames.now) (acts.ThrowsInto exception)) }
+    ensures is { IfOk result (λ r. entered_by code.now (frames_in frames.now) (acts.ThrowsInto exception) ≡ found r (frames_in frames.now) out.new.values) }
     ensures plain { IfOk result IsPlain }
 {
     match frames.unwind() {
@@ -139,8 +139,8 @@ pub(crate) fn prepare(
     room: &Room,
     out: &mut Slots,
 ) -> Result<Found, AllocError>
-    requires { IsSome (entered_by code.now (frames_of frames.now) (entering_of entering room.now.types.members room.now.values.values)) }
-    ensures is { IfOk result (λ r. entered_by code.now (frames_of frames.now) (entering_of entering room.now.types.members room.now.values.values) ≡ found r (frames_of frames.now) out.new.values) }
+    requires { IsSome (entered_by code.now (frames_in frames.now) (entering_of entering room.now.types.members room.now.values.values)) }
+    ensures is { IfOk result (λ r. entered_by code.now (frames_in frames.now) (entering_of entering room.now.types.members room.now.values.values) ≡ found r (frames_in frames.now) out.new.values) }
     ensures plain { IfOk result IsPlain }
 {
     match entering {
@@ -152,9 +152,9 @@ pub(crate) fn prepare(
 
 /// The frames go on so, and the cells of the objects of those that end are dead.
 pub(crate) fn arrive(frames: &mut Frames, heap: &mut Heap, arrival: Arrival, out: &mut Slots)
-    requires { arrival.above < length (frames_of frames.old) }
-    ensures frames { arrives arrival (frames_of frames.old) out.old.values ≡ Some (record { frames = frames_of frames.new; ended = take arrival.above (frames_of frames.old) }) }
-    ensures objects { heap.new.objects ≡ objects_end heap.old.objects (flat_map (λ (f : Activation). f.objects) (take arrival.above (frames_of frames.old))) }
+    requires { arrival.above < length (frames_in frames.old) }
+    ensures frames { arrives arrival (frames_in frames.old) out.old.values ≡ Some (record { frames = frames_in frames.new; ended = take arrival.above (frames_in frames.old) }) }
+    ensures objects { heap.new.objects ≡ objects_end heap.old.objects (flat_map (λ (f : Activation). f.objects) (take arrival.above (frames_in frames.old))) }
     ensures left { heap.new.left ≡ heap.old.left }
     ensures initials { initials heap.new.objects ≡ initials heap.old.objects }
 {

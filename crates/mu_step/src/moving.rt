@@ -1,6 +1,6 @@
 // A thread that moves from its stack to another one.
 ghost use Rattle.std.specs.Prelude.{◌≡◌, ◌≢◌, ◌+◌, ◌-◌, ◌<◌, ◌∷◌, [], Some, IfOk, length, slice_get, false};
-ghost use Rattle.frames.specs.Chains.{frames_of};
+ghost use Rattle.frames.specs.Chains.{frames_in};
 ghost use Rattle.mem_axioms.specs.EventFits.{EventFits};
 ghost use Rattle.mem_axioms.specs.Lemmas.Kept.{is_any_access};
 ghost use Rattle.mu_model.specs.declared.lines.Line.TheVariants as written;
@@ -105,8 +105,8 @@ pub(crate) fn switch(
     requires waits { frames.old.top.waits ≡ waits.members }
     requires takes { IsReadyFor (slice_get seats.old.stacks to) with_ }
     ensures passed { result ≡ with_ }
-    ensures frames { slice_get seats.old.stacks to ≡ Some (Ready (frames_of frames.new)) }
-    ensures moved { IsMoved seats.old seats.new seat.thread seat.stack to (Ready (frames_of frames.old)) }
+    ensures frames { slice_get seats.old.stacks to ≡ Some (Ready (frames_in frames.new)) }
+    ensures moved { IsMoved seats.old seats.new seat.thread seat.stack to (Ready (frames_in frames.old)) }
 {
     seats.exchange(seat.thread, seat.stack, frames);
     let passed = seats.leave_to(seat.thread, seat.stack, waits, to, with_);
@@ -128,9 +128,9 @@ pub(crate) fn switch_ending(
     requires within { seat.stack < length seats.old.stacks }
     requires other { to ≢ seat.stack }
     requires takes { IsReadyFor (slice_get seats.old.stacks to) with_ }
-    ensures ended { frames_of result.0 ≡ frames_of frames.old }
+    ensures ended { frames_in result.0 ≡ frames_in frames.old }
     ensures passed { result.1 ≡ with_ }
-    ensures frames { slice_get seats.old.stacks to ≡ Some (Ready (frames_of frames.new)) }
+    ensures frames { slice_get seats.old.stacks to ≡ Some (Ready (frames_in frames.new)) }
     ensures moved { IsMoved seats.old seats.new seat.thread seat.stack to Dead }
 {
     seats.exchange(seat.thread, seat.stack, frames);
@@ -155,8 +155,8 @@ pub(crate) fn switch_starting(
     requires other { to ≢ seat.stack }
     requires takes { IsReadyFor (slice_get seats.old.stacks to) with_ }
     ensures passed { result ≡ with_ }
-    ensures frames { slice_get seats.old.stacks to ≡ Some (Ready (frames_of frames.new)) }
-    ensures started { IsStarted seats.old seats.new seat.stack to own (Active seat.thread (frames_of frames.old)) }
+    ensures frames { slice_get seats.old.stacks to ≡ Some (Ready (frames_in frames.new)) }
+    ensures started { IsStarted seats.old seats.new seat.stack to own (Active seat.thread (frames_in frames.old)) }
 {
     let number = seats.made();
     seats.exchange(seat.thread, seat.stack, frames);

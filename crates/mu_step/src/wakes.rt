@@ -1,5 +1,6 @@
 // Wakes.
 ghost use Rattle.std.specs.Prelude.{◌≡◌, ◌≢◌, ◌+◌, ◌-◌, ◌<◌, ◌≤◌, ◌∷◌, ◌++◌, IsSome, IsSomeAnd, Some, IfOk, OnOk, OnErr, length, slice_set, true, false};
+ghost use Rattle.frames.specs.Chains.{chain_of};
 ghost use Rattle.mem_axioms.specs.Objects.{HasCell};
 ghost use Rattle.mem_axioms.specs.EventFits.{is_thread, wakes_at};
 ghost use Rattle.mu_model.specs.declared.lines.Line.TheVariants as written;
@@ -59,7 +60,7 @@ fn stand_there(
 )
     requires { IsOn seats.old thread stack }
     ensures seats { IsSomeAnd (frames_at seats.old.threads seats.old.stacks thread) (λ at. seats.new ≡ record seats.old { stacks = slice_set seats.old.stacks stack (Active thread (stood place.block place.at values.old.values at.1)) }) }
-    ensures frames { frames.new ≡ frames.old }
+    ensures frames { chain_of frames.new ≡ chain_of frames.old }
 {
     seats.exchange(thread, stack, frames);
     stand(frames, place, values);
@@ -78,7 +79,7 @@ fn go_on_all(
     requires there { IsSome (all_go code.now seats.old.threads woken.now seats.old.stacks) }
     ensures ok { OnOk result (IsSomeAnd (all_go code.now seats.old.threads woken.now seats.old.stacks) (λ ss. seats.new ≡ record seats.old { stacks = ss })) }
     ensures err { OnErr result (seats.new ≡ seats.old) }
-    ensures frames { frames.new ≡ frames.old }
+    ensures frames { chain_of frames.new ≡ chain_of frames.old }
 {
     match woken.split_first() {
         None => Ok(()),

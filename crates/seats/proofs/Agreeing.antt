@@ -3,7 +3,7 @@ use Rattle.std.specs.Prelude.{◌≡◌, ◌≢◌, ℕ, ◌<◌, List, [], ◌�
 use Rattle.std.proofs.Common.{sym, ◌∙◌, ap, subst, inl, inr, arith, set}
 use Rattle.std.proofs.lemmas.Bool.{cases_eq}
 use Rattle.std.proofs.lemmas.Option.{slice_get_within, same_Some}
-use Rattle.frames.specs.Chains.{Chain}
+use Rattle.frames.specs.Chains.{StoredChain}
 use Rattle.stacks.specs.Stacks.{Bound}
 use Rattle.stacks.specs.Directories.{Entry, Ready, Active, Dead}
 use Rattle.stacks.proofs.Writes.{get_written, get_unwritten, map_written, get_last}
@@ -25,7 +25,7 @@ SameElsewhere old new i = (j : ℕ) → j ≢ i → slice_get new j ≡ slice_ge
 pub record IsPair (b : Option Bound) (x : Entry) (i n : ℕ) : Type 0 where
   pub bound : (c : Bound) → b ≡ Some c → (c.thread ≡ i) × (c.number ≡ n) × (x ≡ Active i)
   pub active : (j : ℕ) → x ≡ Active j → (j ≡ i) × IsSomeAnd b (λ c. c.number ≡ n)
-  pub ready : (c : Chain) (waits : List ℕ) → x ≡ Ready c waits → waits ≡ c.top.waits
+  pub ready : (c : StoredChain) (waits : List ℕ) → x ≡ Ready c waits → waits ≡ c.top.waits
 
 number_is : (o : Option Bound) (b : Bound) (n : ℕ) → o ≡ Some b → IsSomeAnd o (λ c. c.number ≡ n) → b.number ≡ n
 number_is None b n e h = absurd h
@@ -126,16 +126,16 @@ last_is es x y n e at =
     let P : ℕ → Type 0 = λ k. slice_get (es ++ x ∷ []) k ≡ Some y in
     same_Some x y (sym (get_last es x) ∙ subst P e at)
 
-fits_at_top : (c d : Chain) (waits ws : List ℕ) → Ready c waits ≡ Ready d ws → waits ≡ c.top.waits → ws ≡ d.top.waits
+fits_at_top : (c d : StoredChain) (waits ws : List ℕ) → Ready c waits ≡ Ready d ws → waits ≡ c.top.waits → ws ≡ d.top.waits
 fits_at_top c d waits ws e top =
     let same : c ≡ d = cc in
     let these : waits ≡ ws = cc in
-    sym these ∙ top ∙ ap (λ (k : Chain). k.top.waits) same
+    sym these ∙ top ∙ ap (λ (k : StoredChain). k.top.waits) same
 
-ready_or_active : (c : Chain) (waits : List ℕ) (i : ℕ) → Ready c waits ≡ Active i → ⊥
+ready_or_active : (c : StoredChain) (waits : List ℕ) (i : ℕ) → Ready c waits ≡ Active i → ⊥
 ready_or_active c waits i e = cc
 
-pub agree_more : (bs : List (Option Bound)) (es : List Entry) (c : Chain) (waits : List ℕ) → Agree bs es → waits ≡ c.top.waits → Agree bs (es ++ Ready c waits ∷ [])
+pub agree_more : (bs : List (Option Bound)) (es : List Entry) (c : StoredChain) (waits : List ℕ) → Agree bs es → waits ≡ c.top.waits → Agree bs (es ++ Ready c waits ∷ [])
 agree_more bs es c waits a top =
     record {
       bound = λ i b at. let p = a.bound i b at in (p.0, get_more es (Ready c waits) b.number (before es b.number (Active i) p.1) ∙ p.1);

@@ -4,7 +4,7 @@ use Rattle.std.proofs.Common.{sym, ◌∙◌, ap, subst, arith, set, Bor}
 use Rattle.std.proofs.lemmas.Option.{slice_get_within, slice_get-map, same_Some}
 use Rattle.std.proofs.lemmas.List.{length-set, length-map, length_push}
 use Rattle.mu_values.specs.declared.scalars.Scalar.{Scalar}
-use Rattle.frames.specs.Chains.{Chain, frames_of}
+use Rattle.frames.specs.Chains.{StoredChain, frames_in}
 use Rattle.stacks.specs.Stacks.{Bound, Unbound}
 use Rattle.stacks.specs.Directories.{Entry, Ready, Active, Dead, state_of, ready_frames}
 use Rattle.stacks.specs.declared.entered.Entered.{Entered}
@@ -32,15 +32,15 @@ use Rattle.seats.proofs.Seen.{IsSeated}
 agree_nothing : Agree [] []
 agree_nothing = record { bound = λ i b e. cc; active = λ n i e. cc; ready = λ n c w e. cc }
 
-agree_first : (c : Chain) → Agree (Some (entered_by 0 0 c) ∷ []) (Active 0 ∷ [])
+agree_first : (c : StoredChain) → Agree (Some (entered_by 0 0 c) ∷ []) (Active 0 ∷ [])
 agree_first c =
     let one = agree_more [] [] c c.top.waits agree_nothing refl in
     agree_entered [] (Some (entered_by 0 0 c) ∷ []) (Ready c c.top.waits ∷ []) 0 0 c c.top.waits one refl (last_elsewhere [] (entered_by 0 0 c)) refl refl
 
-first_fits : (c : Chain) (own : Scalar) (room : ℕ) → 64 ≤ room → IsSound (Runs ∷ []) (Some (entered_by 0 0 c) ∷ []) (Active 0 ∷ []) (own ∷ []) room []
+first_fits : (c : StoredChain) (own : Scalar) (room : ℕ) → 64 ≤ room → IsSound (Runs ∷ []) (Some (entered_by 0 0 c) ∷ []) (Active 0 ∷ []) (own ∷ []) room []
 first_fits c own room enough = record { states_fit = refl; agree = agree_first c; even = refl; few = omega arith; room_fits = enough; below = tt }
 
-pub first_sound : (ss : List ThreadState) (bs : List (Option Bound)) (b : Bound) (es : List Entry) (owns : List Scalar) (room : ℕ) (ws : List Waiter) (c : Chain) (own : Scalar) → ss ≡ Runs ∷ [] → bs ≡ Some b ∷ [] → b ≡ entered_by 0 0 c → es ≡ Active 0 ∷ [] → owns ≡ own ∷ [] → 64 ≤ room → ws ≡ [] → IsSound ss bs es owns room ws
+pub first_sound : (ss : List ThreadState) (bs : List (Option Bound)) (b : Bound) (es : List Entry) (owns : List Scalar) (room : ℕ) (ws : List Waiter) (c : StoredChain) (own : Scalar) → ss ≡ Runs ∷ [] → bs ≡ Some b ∷ [] → b ≡ entered_by 0 0 c → es ≡ Active 0 ∷ [] → owns ≡ own ∷ [] → 64 ≤ room → ws ≡ [] → IsSound ss bs es owns room ws
 first_sound ss bs b es owns room ws c own s t u e o enough w = rw (s, t ∙ ap (λ x. Some x ∷ []) u, e, o, w) (first_fits c own room enough)
 
 -- ---- looking
@@ -57,7 +57,7 @@ many_stacks bs owns es ws s v = sym (length-map es (stack_seen bs)) ∙ ap (λ (
 at_stack : (bs : List (Option Bound)) (owns : List Scalar) (es : List Entry) (ws : List Waiter) (s : Seats) (n : ℕ) → seats_seen bs owns es ws ≡ s → slice_get s.stacks n ≡ option_map (stack_seen bs) (slice_get es n)
 at_stack bs owns es ws s n v = ap (λ (w : Seats). slice_get w.stacks n) (sym v) ∙ slice_get-map (stack_seen bs) es n
 
-pub ready_told : (bs : List (Option Bound)) (owns : List Scalar) (es : List Entry) (ws : List Waiter) (s : Seats) (n : ℕ) (r : Option (Bor Unbound)) → seats_seen bs owns es ws ≡ s → IfSome r (λ u. slice_get es n ≡ Some (Ready u.now.frames u.now.waits)) → IfSome r (λ u. slice_get s.stacks n ≡ Some (seen.Ready (frames_of u.now.frames)))
+pub ready_told : (bs : List (Option Bound)) (owns : List Scalar) (es : List Entry) (ws : List Waiter) (s : Seats) (n : ℕ) (r : Option (Bor Unbound)) → seats_seen bs owns es ws ≡ s → IfSome r (λ u. slice_get es n ≡ Some (Ready u.now.frames u.now.waits)) → IfSome r (λ u. slice_get s.stacks n ≡ Some (seen.Ready (frames_in u.now.frames)))
 ready_told bs owns es ws s n None v h = tt
 ready_told bs owns es ws s n (Some u) v h = at_stack bs owns es ws s n v ∙ ap (option_map (stack_seen bs)) h
 
@@ -77,11 +77,11 @@ none_told bs owns es ws s n None v h = subst (λ (o : Option Stack). IsSomeAnd o
 
 -- ---- making
 
-more_sound : (ss : List ThreadState) (bs : List (Option Bound)) (es : List Entry) (owns : List Scalar) (room : ℕ) (ws : List Waiter) (c : Chain) (waits : List ℕ) → IsSound ss bs es owns room ws → waits ≡ c.top.waits → IsSound ss bs (es ++ Ready c waits ∷ []) owns room ws
+more_sound : (ss : List ThreadState) (bs : List (Option Bound)) (es : List Entry) (owns : List Scalar) (room : ℕ) (ws : List Waiter) (c : StoredChain) (waits : List ℕ) → IsSound ss bs es owns room ws → waits ≡ c.top.waits → IsSound ss bs (es ++ Ready c waits ∷ []) owns room ws
 more_sound ss bs es owns room ws c waits sound top =
     record { states_fit = sound.states_fit; agree = agree_more bs es c waits sound.agree top; even = sound.even; few = sound.few; room_fits = sound.room_fits; below = sound.below }
 
-pub made_sound : {E : Type 0} (ss : List ThreadState) (bs : List (Option Bound)) (es new : List Entry) (owns : List Scalar) (room : ℕ) (ws : List Waiter) (c : Chain) (waits : List ℕ) (r : Result ℕ E) → IsSound ss bs es owns room ws → waits ≡ c.top.waits → OnOk r (new ≡ es ++ Ready c waits ∷ []) → OnErr r (new ≡ es) → IsSound ss bs new owns room ws
+pub made_sound : {E : Type 0} (ss : List ThreadState) (bs : List (Option Bound)) (es new : List Entry) (owns : List Scalar) (room : ℕ) (ws : List Waiter) (c : StoredChain) (waits : List ℕ) (r : Result ℕ E) → IsSound ss bs es owns room ws → waits ≡ c.top.waits → OnOk r (new ≡ es ++ Ready c waits ∷ []) → OnErr r (new ≡ es) → IsSound ss bs new owns room ws
 made_sound ss bs es new owns room ws c waits (Ok n) sound top made same = subst (λ (all : List Entry). IsSound ss bs all owns room ws) (sym made) (more_sound ss bs es owns room ws c waits sound top)
 made_sound ss bs es new owns room ws c waits (Err e) sound top made same = subst (λ (all : List Entry). IsSound ss bs all owns room ws) (sym same) sound
 
@@ -89,11 +89,11 @@ pub made_number : {E : Type 0} (bs : List (Option Bound)) (owns : List Scalar) (
 made_number bs owns es ws s (Ok n) v h = h ∙ many_stacks bs owns es ws s v
 made_number bs owns es ws s (Err e) v h = tt
 
-pub made_seen : {E : Type 0} (bs : List (Option Bound)) (owns : List Scalar) (es new : List Entry) (ws : List Waiter) (s : Seats) (c : Chain) (waits : List ℕ) (r : Result ℕ E) → seats_seen bs owns es ws ≡ s → OnOk r (new ≡ es ++ Ready c waits ∷ []) → OnOk r (seats_seen bs owns new ws ≡ record s { stacks = s.stacks ++ seen.Ready (frames_of c) ∷ [] })
+pub made_seen : {E : Type 0} (bs : List (Option Bound)) (owns : List Scalar) (es new : List Entry) (ws : List Waiter) (s : Seats) (c : StoredChain) (waits : List ℕ) (r : Result ℕ E) → seats_seen bs owns es ws ≡ s → OnOk r (new ≡ es ++ Ready c waits ∷ []) → OnOk r (seats_seen bs owns new ws ≡ record s { stacks = s.stacks ++ seen.Ready (frames_in c) ∷ [] })
 made_seen bs owns es new ws s c waits (Err e) v h = tt
 made_seen bs owns es new ws s c waits (Ok n) v h =
     ap (λ ss. record { threads = threads_seen bs owns; stacks = ss; waiters = waiters_seen ws }) (ap (stacks_seen bs) h ∙ map_pushed (stack_seen bs) (stack_seen bs) es (Ready c waits) (λ m x at. refl))
-    ∙ ap (λ (w : Seats). record w { stacks = w.stacks ++ seen.Ready (frames_of c) ∷ [] }) v
+    ∙ ap (λ (w : Seats). record w { stacks = w.stacks ++ seen.Ready (frames_in c) ∷ [] }) v
 
 pub same_seen : {E : Type 0} (bs : List (Option Bound)) (owns : List Scalar) (es new : List Entry) (ws : List Waiter) (s : Seats) (r : Result ℕ E) → seats_seen bs owns es ws ≡ s → OnErr r (new ≡ es) → OnErr r (seats_seen bs owns new ws ≡ s)
 same_seen bs owns es new ws s (Ok n) v h = tt
@@ -110,29 +110,29 @@ is_ready_there bs (Some Dead) h = absurd h
 pub ready_there : (bs : List (Option Bound)) (owns : List Scalar) (es : List Entry) (ws : List Waiter) (s : Seats) (n : ℕ) → seats_seen bs owns es ws ≡ s → IsReady (slice_get s.stacks n) → IsSome (ready_frames (slice_get es n))
 ready_there bs owns es ws s n v h = is_ready_there bs (slice_get es n) (subst (λ (o : Option Stack). IsReady o) (at_stack bs owns es ws s n v) h)
 
-frames_told : (bs : List (Option Bound)) (o : Option Entry) (c : Chain) → ready_frames o ≡ Some c → option_map (stack_seen bs) o ≡ Some (seen.Ready (frames_of c))
+frames_told : (bs : List (Option Bound)) (o : Option Entry) (c : StoredChain) → ready_frames o ≡ Some c → option_map (stack_seen bs) o ≡ Some (seen.Ready (frames_in c))
 frames_told bs None c h = cc
-frames_told bs (Some (Ready d waits)) c h = ap (λ x. Some (seen.Ready (frames_of x))) (same_Some d c h)
+frames_told bs (Some (Ready d waits)) c h = ap (λ x. Some (seen.Ready (frames_in x))) (same_Some d c h)
 frames_told bs (Some (Active i)) c h = cc
 frames_told bs (Some Dead) c h = cc
 
-pub killed_frames : (bs : List (Option Bound)) (owns : List Scalar) (es : List Entry) (ws : List Waiter) (s : Seats) (n : ℕ) (c : Chain) → seats_seen bs owns es ws ≡ s → ready_frames (slice_get es n) ≡ Some c → slice_get s.stacks n ≡ Some (seen.Ready (frames_of c))
+pub killed_frames : (bs : List (Option Bound)) (owns : List Scalar) (es : List Entry) (ws : List Waiter) (s : Seats) (n : ℕ) (c : StoredChain) → seats_seen bs owns es ws ≡ s → ready_frames (slice_get es n) ≡ Some c → slice_get s.stacks n ≡ Some (seen.Ready (frames_in c))
 killed_frames bs owns es ws s n c v h = at_stack bs owns es ws s n v ∙ frames_told bs (slice_get es n) c h
 
-never_active : (o : Option Entry) (c : Chain) → ready_frames o ≡ Some c → (j : ℕ) → o ≢ Some (Active j)
+never_active : (o : Option Entry) (c : StoredChain) → ready_frames o ≡ Some c → (j : ℕ) → o ≢ Some (Active j)
 never_active None c h j e = cc
 never_active (Some (Ready d waits)) c h j e = cc
 never_active (Some (Active i)) c h j e = cc
 never_active (Some Dead) c h j e = cc
 
-within_ready : (es : List Entry) (n : ℕ) (o : Option Entry) (c : Chain) → slice_get es n ≡ o → ready_frames o ≡ Some c → n < length es
+within_ready : (es : List Entry) (n : ℕ) (o : Option Entry) (c : StoredChain) → slice_get es n ≡ o → ready_frames o ≡ Some c → n < length es
 within_ready es n None c e h = cc
 within_ready es n (Some x) c e h = slice_get_within es n x e
 
 dead_pair : (i n : ℕ) → IsPair None Dead i n
 dead_pair i n = record { bound = λ c e. cc; active = λ j e. cc; ready = λ c ws e. cc }
 
-pub killed_sound : (ss : List ThreadState) (bs : List (Option Bound)) (es new : List Entry) (owns : List Scalar) (room : ℕ) (ws : List Waiter) (n : ℕ) (c : Chain) → IsSound ss bs es owns room ws → ready_frames (slice_get es n) ≡ Some c → new ≡ set es n Dead → IsSound ss bs new owns room ws
+pub killed_sound : (ss : List ThreadState) (bs : List (Option Bound)) (es new : List Entry) (owns : List Scalar) (room : ℕ) (ws : List Waiter) (n : ℕ) (c : StoredChain) → IsSound ss bs es owns room ws → ready_frames (slice_get es n) ≡ Some c → new ≡ set es n Dead → IsSound ss bs new owns room ws
 killed_sound ss bs es new owns room ws n c sound h e =
     let alone = alone_free bs es (length bs) n sound.agree (no_more_there bs) (never_active (slice_get es n) c h) in
     let pair = subst (λ o. IsPair o Dead (length bs) n) (sym (no_more_there bs)) (dead_pair (length bs) n) in
@@ -146,7 +146,7 @@ killed_sound ss bs es new owns room ws n c sound h e =
       below = sound.below;
     })
 
-pub killed_seen : (ss : List ThreadState) (bs : List (Option Bound)) (es new : List Entry) (owns : List Scalar) (room : ℕ) (ws : List Waiter) (s : Seats) (n : ℕ) (c : Chain) → seats_seen bs owns es ws ≡ s → IsSound ss bs es owns room ws → ready_frames (slice_get es n) ≡ Some c → new ≡ set es n Dead → seats_seen bs owns new ws ≡ record s { stacks = set s.stacks n seen.Dead }
+pub killed_seen : (ss : List ThreadState) (bs : List (Option Bound)) (es new : List Entry) (owns : List Scalar) (room : ℕ) (ws : List Waiter) (s : Seats) (n : ℕ) (c : StoredChain) → seats_seen bs owns es ws ≡ s → IsSound ss bs es owns room ws → ready_frames (slice_get es n) ≡ Some c → new ≡ set es n Dead → seats_seen bs owns new ws ≡ record s { stacks = set s.stacks n seen.Dead }
 killed_seen ss bs es new owns room ws s n c v sound h e =
     let alone = alone_free bs es (length bs) n sound.agree (no_more_there bs) (never_active (slice_get es n) c h) in
     ap (λ ks. record { threads = threads_seen bs owns; stacks = ks; waiters = waiters_seen ws }) (ap (stacks_seen bs) e ∙ stacks_written bs bs es (length bs) n Dead alone (λ j apart. refl))
@@ -196,11 +196,11 @@ ended_seen t u v es new owns room ws s i k view sound h number e f g =
 
 -- a stack that is ready, and takes what comes
 pub record IsOpen (es : List Entry) (n : ℕ) (e : Entered) : Type 0 where
-  pub frames : Chain
+  pub frames : StoredChain
   pub waits : List ℕ
   pub there : slice_get es n ≡ Some (Ready frames waits)
   pub top : waits ≡ frames.top.waits
-  pub takes : Takes (frames_of frames) e
+  pub takes : Takes (frames_in frames) e
 
 open_at : (bs : List (Option Bound)) (es : List Entry) (n : ℕ) (o : Option Entry) (e : Entered) → Agree bs es → slice_get es n ≡ o → IsReadyFor (option_map (stack_seen bs) o) e → IsOpen es n e
 open_at bs es n None e a at h = absurd h
@@ -214,7 +214,7 @@ is_open ss bs es owns room ws s n e v sound h = open_at bs es n (slice_get es n)
 pub takes_there : (es : List Entry) (n : ℕ) (e : Entered) → IsOpen es n e → TakesThere (slice_get es n) e
 takes_there es n e o = subst (λ x. TakesThere x e) (sym o.there) (o.top, o.takes)
 
-ready_and_active : (o : Option Entry) (c : Chain) (waits : List ℕ) (i : ℕ) → o ≡ Some (Ready c waits) → o ≡ Some (Active i) → ⊥
+ready_and_active : (o : Option Entry) (c : StoredChain) (waits : List ℕ) (i : ℕ) → o ≡ Some (Ready c waits) → o ≡ Some (Active i) → ⊥
 ready_and_active o c waits i e f = cc
 
 -- it is so after a stack was left
@@ -257,7 +257,7 @@ stacks_after_ready t es new owns room ws s i k cs sound h number f =
     let now : new ≡ set es h.stack.number (Ready h.stack.frames cs) = f ∙ ap (λ x. ready_at (there x) cs es) h.listed in
     ap (stacks_seen (set t.stacks i None)) now
     ∙ seen_ready t.stacks es i h.stack cs sound.agree h.listed
-    ∙ sym (changed_at left_ready (stacks_seen t.stacks es) h.stack.number (seen.Active i (frames_of h.stack.frames)) (own_stack t.stacks es i h.stack sound.agree h.listed))
+    ∙ sym (changed_at left_ready (stacks_seen t.stacks es) h.stack.number (seen.Active i (frames_in h.stack.frames)) (own_stack t.stacks es i h.stack sound.agree h.listed))
     ∙ ap (λ n. changed left_ready n (stacks_seen t.stacks es)) number
 
 pub stacks_after_dead : (t : Threads) (es new : List Entry) (owns : List Scalar) (room : ℕ) (ws : List Waiter) (s : Seats) (i k : ℕ) → IsSound t.states t.stacks es owns room ws → (h : IsSeated t.stacks owns s i) → h.stack.number ≡ k → new ≡ dead_at (stack_of t i) es → stacks_seen (set t.stacks i None) new ≡ set (stacks_seen t.stacks es) k seen.Dead
@@ -298,7 +298,7 @@ sat_seen t u v left new owns ws s i n e h a o f g k =
     ∙ ap (λ ts. record { threads = ts; stacks = stacks_seen (set t.stacks i (Some b)) (set left n (Active i)); waiters = waiters_seen ws }) (bound_elsewhere t.stacks owns i h.stack b h.listed)
     ∙ ap (λ ks. record { threads = changed (option_map (on_stack n)) i (threads_seen t.stacks owns); stacks = ks; waiters = waiters_seen ws })
     (seen_entered (set t.stacks i None) (set t.stacks i (Some b)) left i n o.frames o.waits a (none_there t.stacks i within) (back_elsewhere t.stacks i b) (back_there t.stacks i b within) o.there
-    ∙ sym (changed_at (bound_to i) (stacks_seen (set t.stacks i None) left) n (seen.Ready (frames_of o.frames)) (stack_here (set t.stacks i None) left n (Ready o.frames o.waits) o.there)))
+    ∙ sym (changed_at (bound_to i) (stacks_seen (set t.stacks i None) left) n (seen.Ready (frames_in o.frames)) (stack_here (set t.stacks i None) left n (Ready o.frames o.waits) o.there)))
 
 pub sat_after_ready : (t u v : Threads) (es left new : List Entry) (owns : List Scalar) (room : ℕ) (ws : List Waiter) (s : Seats) (i k n : ℕ) (cs : List ℕ) (e : Entered) → seats_seen t.stacks owns es ws ≡ s → IsSound t.states t.stacks es owns room ws → (h : IsSeated t.stacks owns s i) → h.stack.number ≡ k → cs ≡ h.stack.frames.top.waits → left ≡ ready_at (stack_of t i) cs es → IsOpen left n e → u ≡ with_stack t i None → v ≡ with_stack u i (bound_from n i (slice_get left n)) → new ≡ set left n (Active i) → seats_seen v.stacks owns new ws ≡ record s { threads = changed (option_map (on_stack n)) i s.threads; stacks = changed (bound_to i) n (changed left_ready k s.stacks) }
 sat_after_ready t u v es left new owns room ws s i k n cs e view sound h number top l o f g m =
@@ -353,6 +353,6 @@ started_seen t u es new owns more room ws s n own e view sound o g k m =
     ∙ ap (λ ts. record { threads = ts; stacks = stacks_seen (t.stacks ++ Some b ∷ []) (set es n (Active (length t.stacks))); waiters = waiters_seen ws }) (one_more t.stacks owns b own sound.even)
     ∙ ap (λ ks. record { threads = threads_seen t.stacks owns ++ Some (record { stack = n; own = own }) ∷ []; stacks = ks; waiters = waiters_seen ws })
     (seen_entered t.stacks (t.stacks ++ Some b ∷ []) es (length t.stacks) n o.frames o.waits sound.agree (no_more_there t.stacks) (last_elsewhere t.stacks b) (last_there t.stacks b) o.there
-    ∙ sym (changed_at (bound_to (length t.stacks)) (stacks_seen t.stacks es) n (seen.Ready (frames_of o.frames)) (stack_here t.stacks es n (Ready o.frames o.waits) o.there))
+    ∙ sym (changed_at (bound_to (length t.stacks)) (stacks_seen t.stacks es) n (seen.Ready (frames_in o.frames)) (stack_here t.stacks es n (Ready o.frames o.waits) o.there))
     ∙ ap (λ j. changed (bound_to j) n (stacks_seen t.stacks es)) (sym many))
     ∙ ap (λ (w : Seats). record w { threads = w.threads ++ Some (record { stack = n; own = own }) ∷ []; stacks = changed (bound_to (length w.threads)) n w.stacks }) view

@@ -2,7 +2,7 @@
 use Rattle.std.specs.Prelude.{◌≡◌, ◌≢◌, ℕ, zero, suc, ◌<◌, List, [], ◌∷◌, ◌++◌, Option, Some, None, length, slice_get, refl}
 use Rattle.std.proofs.Common.{sym, ◌∙◌, ap, subst, arith, set}
 use Rattle.std.proofs.lemmas.Option.{slice_get_within, slice_get_past, same_Some}
-use Rattle.frames.specs.Chains.{Chain, frames_of}
+use Rattle.frames.specs.Chains.{StoredChain, frames_in}
 use Rattle.stacks.specs.Stacks.{Bound}
 use Rattle.stacks.specs.Directories.{Entry, Ready, Active, Dead}
 use Rattle.stacks.proofs.Writes.{get_written, get_unwritten, get_last}
@@ -12,10 +12,10 @@ use Rattle.seats.specs.Kept.{frames_there, stack_seen, stacks_seen, Agree}
 use Rattle.seats.proofs.Lists.{set_same, get_more}
 use Rattle.seats.proofs.Agreeing.{SameElsewhere, IsPair, alone_held, alone_free, agree_written, stacks_written}
 
-abbrev pub entered_by : ℕ → ℕ → Chain → Bound
+abbrev pub entered_by : ℕ → ℕ → StoredChain → Bound
 entered_by n i c = record { number = n; thread = i; frames = c; passed = None }
 
-abbrev pub with_frames : Chain → Bound → Bound
+abbrev pub with_frames : StoredChain → Bound → Bound
 with_frames f b = record b { frames = f }
 
 elsewhere : (bs : List (Option Bound)) (i : ℕ) (o : Option Bound) → SameElsewhere bs (set bs i o) i
@@ -29,7 +29,7 @@ pair_of b c x i n e p = subst (λ o. IsPair o x i n) (sym e) p
 
 -- ---- a stack leaves its thread
 
-left_pair : (x : Entry) (i n : ℕ) → ((j : ℕ) → x ≢ Active j) → ((c : Chain) (waits : List ℕ) → x ≡ Ready c waits → waits ≡ c.top.waits) → IsPair None x i n
+left_pair : (x : Entry) (i n : ℕ) → ((j : ℕ) → x ≢ Active j) → ((c : StoredChain) (waits : List ℕ) → x ≡ Ready c waits → waits ≡ c.top.waits) → IsPair None x i n
 left_pair x i n apart ready = record { bound = λ c e. cc; active = λ j e. absurd (apart j e); ready = ready }
 
 entry_within : (bs : List (Option Bound)) (es : List Entry) (i : ℕ) (b : Bound) → Agree bs es → slice_get bs i ≡ Some (Some b) → b.number < length es
@@ -41,7 +41,7 @@ agree_left bs es i b x a at pair =
     (pair_of (there (slice_get (set bs i None) i)) None x i b.number (there_written bs i None (slice_get_within bs i (Some b) at)) pair)
 
 pub agree_ready : (bs : List (Option Bound)) (es : List Entry) (i : ℕ) (b : Bound) (waits : List ℕ) → Agree bs es → slice_get bs i ≡ Some (Some b) → waits ≡ b.frames.top.waits → Agree (set bs i None) (set es b.number (Ready b.frames waits))
-agree_ready bs es i b waits a at top = agree_left bs es i b (Ready b.frames waits) a at (left_pair (Ready b.frames waits) i b.number (λ j e. cc) (λ c ws e. let same : b.frames ≡ c = cc in let these : waits ≡ ws = cc in sym these ∙ top ∙ ap (λ (k : Chain). k.top.waits) same))
+agree_ready bs es i b waits a at top = agree_left bs es i b (Ready b.frames waits) a at (left_pair (Ready b.frames waits) i b.number (λ j e. cc) (λ c ws e. let same : b.frames ≡ c = cc in let these : waits ≡ ws = cc in sym these ∙ top ∙ ap (λ (k : StoredChain). k.top.waits) same))
 
 pub agree_dead : (bs : List (Option Bound)) (es : List Entry) (i : ℕ) (b : Bound) → Agree bs es → slice_get bs i ≡ Some (Some b) → Agree (set bs i None) (set es b.number Dead)
 agree_dead bs es i b a at = agree_left bs es i b Dead a at (left_pair Dead i b.number (λ j e. cc) (λ c ws e. cc))
@@ -49,7 +49,7 @@ agree_dead bs es i b a at = agree_left bs es i b Dead a at (left_pair Dead i b.n
 seen_left : (bs : List (Option Bound)) (es : List Entry) (i : ℕ) (b : Bound) (x : Entry) → Agree bs es → slice_get bs i ≡ Some (Some b) → stacks_seen (set bs i None) (set es b.number x) ≡ set (stacks_seen bs es) b.number (stack_seen (set bs i None) x)
 seen_left bs es i b x a at = stacks_written bs (set bs i None) es i b.number x (alone_held bs es i b a (ap there at)) (elsewhere bs i None)
 
-pub seen_ready : (bs : List (Option Bound)) (es : List Entry) (i : ℕ) (b : Bound) (waits : List ℕ) → Agree bs es → slice_get bs i ≡ Some (Some b) → stacks_seen (set bs i None) (set es b.number (Ready b.frames waits)) ≡ set (stacks_seen bs es) b.number (stacks.Ready (frames_of b.frames))
+pub seen_ready : (bs : List (Option Bound)) (es : List Entry) (i : ℕ) (b : Bound) (waits : List ℕ) → Agree bs es → slice_get bs i ≡ Some (Some b) → stacks_seen (set bs i None) (set es b.number (Ready b.frames waits)) ≡ set (stacks_seen bs es) b.number (stacks.Ready (frames_in b.frames))
 seen_ready bs es i b waits a at = seen_left bs es i b (Ready b.frames waits) a at
 
 pub seen_dead : (bs : List (Option Bound)) (es : List Entry) (i : ℕ) (b : Bound) → Agree bs es → slice_get bs i ≡ Some (Some b) → stacks_seen (set bs i None) (set es b.number Dead) ≡ set (stacks_seen bs es) b.number stacks.Dead
@@ -57,7 +57,7 @@ seen_dead bs es i b a at = seen_left bs es i b Dead a at
 
 -- ---- a thread enters a stack
 
-entered_pair : (n i : ℕ) (c : Chain) → IsPair (Some (entered_by n i c)) (Active i) i n
+entered_pair : (n i : ℕ) (c : StoredChain) → IsPair (Some (entered_by n i c)) (Active i) i n
 entered_pair n i c =
     record {
       bound = λ d e.
@@ -67,15 +67,15 @@ entered_pair n i c =
       ready = λ d ws e. cc;
     }
 
-not_active : (o : Option Entry) (c : Chain) (waits : List ℕ) → o ≡ Some (Ready c waits) → (j : ℕ) → o ≢ Some (Active j)
+not_active : (o : Option Entry) (c : StoredChain) (waits : List ℕ) → o ≡ Some (Ready c waits) → (j : ℕ) → o ≢ Some (Active j)
 not_active o c waits e j h = cc
 
-pub agree_entered : (bs new : List (Option Bound)) (es : List Entry) (i n : ℕ) (c : Chain) (waits : List ℕ) → Agree bs es → there (slice_get bs i) ≡ None → SameElsewhere bs new i → there (slice_get new i) ≡ Some (entered_by n i c) → slice_get es n ≡ Some (Ready c waits) → Agree new (set es n (Active i))
+pub agree_entered : (bs new : List (Option Bound)) (es : List Entry) (i n : ℕ) (c : StoredChain) (waits : List ℕ) → Agree bs es → there (slice_get bs i) ≡ None → SameElsewhere bs new i → there (slice_get new i) ≡ Some (entered_by n i c) → slice_get es n ≡ Some (Ready c waits) → Agree new (set es n (Active i))
 agree_entered bs new es i n c waits a free same now at =
     agree_written bs new es i n (Active i) a (alone_free bs es i n a free (not_active (slice_get es n) c waits at)) (slice_get_within es n (Ready c waits) at) same
     (pair_of (there (slice_get new i)) (Some (entered_by n i c)) (Active i) i n now (entered_pair n i c))
 
-pub seen_entered : (bs new : List (Option Bound)) (es : List Entry) (i n : ℕ) (c : Chain) (waits : List ℕ) → Agree bs es → there (slice_get bs i) ≡ None → SameElsewhere bs new i → there (slice_get new i) ≡ Some (entered_by n i c) → slice_get es n ≡ Some (Ready c waits) → stacks_seen new (set es n (Active i)) ≡ set (stacks_seen bs es) n (stacks.Active i (frames_of c))
+pub seen_entered : (bs new : List (Option Bound)) (es : List Entry) (i n : ℕ) (c : StoredChain) (waits : List ℕ) → Agree bs es → there (slice_get bs i) ≡ None → SameElsewhere bs new i → there (slice_get new i) ≡ Some (entered_by n i c) → slice_get es n ≡ Some (Ready c waits) → stacks_seen new (set es n (Active i)) ≡ set (stacks_seen bs es) n (stacks.Active i (frames_in c))
 seen_entered bs new es i n c waits a free same now at =
     stacks_written bs new es i n (Active i) (alone_free bs es i n a free (not_active (slice_get es n) c waits at)) same
     ∙ ap (λ o. set (stacks_seen bs es) n (stacks.Active i (frames_there o))) now
@@ -102,7 +102,7 @@ last_elsewhere bs b j apart = get_more bs (Some b) j apart
 
 -- ---- a stack has other frames
 
-frames_pair : (i : ℕ) (b : Bound) (f : Chain) → b.thread ≡ i → IsPair (Some (with_frames f b)) (Active i) i b.number
+frames_pair : (i : ℕ) (b : Bound) (f : StoredChain) → b.thread ≡ i → IsPair (Some (with_frames f b)) (Active i) i b.number
 frames_pair i b f thread =
     record {
       bound = λ d e.
@@ -112,7 +112,7 @@ frames_pair i b f thread =
       ready = λ d ws e. cc;
     }
 
-pub agree_exchanged : (bs : List (Option Bound)) (es : List Entry) (i : ℕ) (b : Bound) (f : Chain) → Agree bs es → slice_get bs i ≡ Some (Some b) → Agree (set bs i (Some (with_frames f b))) es
+pub agree_exchanged : (bs : List (Option Bound)) (es : List Entry) (i : ℕ) (b : Bound) (f : StoredChain) → Agree bs es → slice_get bs i ≡ Some (Some b) → Agree (set bs i (Some (with_frames f b))) es
 agree_exchanged bs es i b f a at =
     let here = a.bound i b (ap there at) in
     let new = set bs i (Some (with_frames f b)) in
@@ -120,7 +120,7 @@ agree_exchanged bs es i b f a at =
     (agree_written bs new es i b.number (Active i) a (alone_held bs es i b a (ap there at)) (entry_within bs es i b a at) (elsewhere bs i (Some (with_frames f b)))
     (pair_of (there (slice_get new i)) (Some (with_frames f b)) (Active i) i b.number (there_written bs i (Some (with_frames f b)) (slice_get_within bs i (Some b) at)) (frames_pair i b f here.0)))
 
-pub seen_exchanged : (bs : List (Option Bound)) (es : List Entry) (i : ℕ) (b : Bound) (f : Chain) → Agree bs es → slice_get bs i ≡ Some (Some b) → stacks_seen (set bs i (Some (with_frames f b))) es ≡ set (stacks_seen bs es) b.number (stacks.Active i (frames_of f))
+pub seen_exchanged : (bs : List (Option Bound)) (es : List Entry) (i : ℕ) (b : Bound) (f : StoredChain) → Agree bs es → slice_get bs i ≡ Some (Some b) → stacks_seen (set bs i (Some (with_frames f b))) es ≡ set (stacks_seen bs es) b.number (stacks.Active i (frames_in f))
 seen_exchanged bs es i b f a at =
     let here = a.bound i b (ap there at) in
     let new = set bs i (Some (with_frames f b)) in
@@ -135,7 +135,7 @@ stack_here bs [] n x at = cc
 stack_here bs (y ∷ es) zero x at = ap (λ z. Some (stack_seen bs z)) (same_Some y x at)
 stack_here bs (y ∷ es) (suc n) x at = stack_here bs es n x at
 
-pub own_stack : (bs : List (Option Bound)) (es : List Entry) (i : ℕ) (b : Bound) → Agree bs es → slice_get bs i ≡ Some (Some b) → slice_get (stacks_seen bs es) b.number ≡ Some (stacks.Active i (frames_of b.frames))
+pub own_stack : (bs : List (Option Bound)) (es : List Entry) (i : ℕ) (b : Bound) → Agree bs es → slice_get bs i ≡ Some (Some b) → slice_get (stacks_seen bs es) b.number ≡ Some (stacks.Active i (frames_in b.frames))
 own_stack bs es i b a at =
     stack_here bs es b.number (Active i) ((a.bound i b (ap there at)).1) ∙ ap (λ o. Some (stacks.Active i (frames_there (there o)))) at
 
@@ -158,4 +158,4 @@ seen_fresh bs es i b a at =
     ap (λ (all : List Entry). stacks_seen new all) (sym (set_same es b.number (Active i) here.1))
     ∙ stacks_written bs new es i b.number (Active i) (alone_held bs es i b a (ap there at)) (elsewhere bs i (Some c))
     ∙ ap (λ o. set (stacks_seen bs es) b.number (stacks.Active i (frames_there o))) (there_written bs i (Some c) (slice_get_within bs i (Some b) at))
-    ∙ set_same (stacks_seen bs es) b.number (stacks.Active i (frames_of b.frames)) (own_stack bs es i b a at)
+    ∙ set_same (stacks_seen bs es) b.number (stacks.Active i (frames_in b.frames)) (own_stack bs es i b a at)

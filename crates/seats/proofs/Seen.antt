@@ -5,7 +5,7 @@ use Rattle.std.proofs.lemmas.Option.{slice_get_within, same_Some}
 use Rattle.std.proofs.lemmas.List.{length-set}
 use Rattle.mu_values.specs.declared.scalars.Scalar.{Scalar}
 use Rattle.frames.specs.Activations.{Activation}
-use Rattle.frames.specs.Chains.{Chain, frames_of}
+use Rattle.frames.specs.Chains.{StoredChain, frames_in}
 use Rattle.stacks.specs.Stacks.{Bound}
 use Rattle.stacks.specs.Directories.{Entry}
 use Rattle.mu_threads.specs.Threads.{Threads, there, stack_of, runnable_from, with_stack}
@@ -85,7 +85,7 @@ active_seen states bs owns es room ws s i b e sound h at =
     let P : Option Stack → Type 0 = λ o. IsSomeAnd o (λ k. IsSome (active_on i k)) in
     let Q : Bound → Type 0 = λ c. slice_get bs i ≡ Some (Some c) in
     let here = own_stack bs es i b sound.agree (subst Q (same_number bs i h.stack b h.listed at) h.listed) in
-    subst P (sym (ap (λ (v : Seats). slice_get v.stacks b.number) (sym e) ∙ here)) (active_here i (frames_of b.frames))
+    subst P (sym (ap (λ (v : Seats). slice_get v.stacks b.number) (sym e) ∙ here)) (active_here i (frames_in b.frames))
 
 -- ---- own objects
 
@@ -115,7 +115,7 @@ owned_seen bs owns new es ws s i own e f =
 
 -- ---- other frames
 
-pub exchanged_sound : (t u : Threads) (owns : List Scalar) (es : List Entry) (room : ℕ) (ws : List Waiter) (s : Seats) (i : ℕ) (f : Chain) → IsSound t.states t.stacks es owns room ws → IsSeated t.stacks owns s i → u ≡ with_stack t i (with_frames f (stack_of t i)) → IsSound u.states u.stacks es owns room ws
+pub exchanged_sound : (t u : Threads) (owns : List Scalar) (es : List Entry) (room : ℕ) (ws : List Waiter) (s : Seats) (i : ℕ) (f : StoredChain) → IsSound t.states t.stacks es owns room ws → IsSeated t.stacks owns s i → u ≡ with_stack t i (with_frames f (stack_of t i)) → IsSound u.states u.stacks es owns room ws
 exchanged_sound t u owns es room ws s i f sound h e =
     let now = e ∙ ap (λ o. with_stack t i (with_frames f (there o))) h.listed in
     let b = h.stack in
@@ -129,20 +129,20 @@ exchanged_sound t u owns es room ws s i f sound h e =
       below = rw (length-set t.stacks i (Some (record b { frames = f }))) sound.below;
     })
 
-pub exchanged_seen : (t u : Threads) (owns : List Scalar) (es : List Entry) (room : ℕ) (ws : List Waiter) (s : Seats) (i k : ℕ) (f : Chain) → seats_seen t.stacks owns es ws ≡ s → IsSound t.states t.stacks es owns room ws → (h : IsSeated t.stacks owns s i) → h.stack.number ≡ k → u ≡ with_stack t i (with_frames f (stack_of t i)) → seats_seen u.stacks owns es ws ≡ record s { stacks = set s.stacks k (Active i (frames_of f)) }
+pub exchanged_seen : (t u : Threads) (owns : List Scalar) (es : List Entry) (room : ℕ) (ws : List Waiter) (s : Seats) (i k : ℕ) (f : StoredChain) → seats_seen t.stacks owns es ws ≡ s → IsSound t.states t.stacks es owns room ws → (h : IsSeated t.stacks owns s i) → h.stack.number ≡ k → u ≡ with_stack t i (with_frames f (stack_of t i)) → seats_seen u.stacks owns es ws ≡ record s { stacks = set s.stacks k (Active i (frames_in f)) }
 exchanged_seen t u owns es room ws s i k f v sound h number e =
     let now = e ∙ ap (λ o. with_stack t i (with_frames f (there o))) h.listed in
     let b = h.stack in
     ap (λ (w : Threads). seats_seen w.stacks owns es ws) now
     ∙ ap (λ ts. record { threads = ts; stacks = stacks_seen (set t.stacks i (Some (record b { frames = f }))) es; waiters = waiters_seen ws }) (bound_again t.stacks owns i b (record b { frames = f }) h.listed refl)
-    ∙ ap (λ ss. record { threads = threads_seen t.stacks owns; stacks = ss; waiters = waiters_seen ws }) (seen_exchanged t.stacks es i b f sound.agree h.listed ∙ ap (λ n. set (stacks_seen t.stacks es) n (Active i (frames_of f))) number)
-    ∙ ap (λ (w : Seats). record w { stacks = set w.stacks k (Active i (frames_of f)) }) v
+    ∙ ap (λ ss. record { threads = threads_seen t.stacks owns; stacks = ss; waiters = waiters_seen ws }) (seen_exchanged t.stacks es i b f sound.agree h.listed ∙ ap (λ n. set (stacks_seen t.stacks es) n (Active i (frames_in f))) number)
+    ∙ ap (λ (w : Seats). record w { stacks = set w.stacks k (Active i (frames_in f)) }) v
 
 -- the frames that were there
-pub frames_seen : (states : List ThreadState) (bs : List (Option Bound)) (owns : List Scalar) (es : List Entry) (room : ℕ) (ws : List Waiter) (s : Seats) (i k : ℕ) (f : Chain) → seats_seen bs owns es ws ≡ s → IsSound states bs es owns room ws → (h : IsSeated bs owns s i) → h.stack.number ≡ k → frames_held (there (slice_get bs i)) ≡ Some f → slice_get s.stacks k ≡ Some (Active i (frames_of f))
+pub frames_seen : (states : List ThreadState) (bs : List (Option Bound)) (owns : List Scalar) (es : List Entry) (room : ℕ) (ws : List Waiter) (s : Seats) (i k : ℕ) (f : StoredChain) → seats_seen bs owns es ws ≡ s → IsSound states bs es owns room ws → (h : IsSeated bs owns s i) → h.stack.number ≡ k → frames_held (there (slice_get bs i)) ≡ Some f → slice_get s.stacks k ≡ Some (Active i (frames_in f))
 frames_seen states bs owns es room ws s i k f v sound h number e =
     let same : h.stack.frames ≡ f = same_Some h.stack.frames f (sym (ap (λ o. frames_held (there o)) h.listed) ∙ e) in
     ap (λ (w : Seats). slice_get w.stacks k) (sym v)
     ∙ ap (slice_get (stacks_seen bs es)) (sym number)
     ∙ own_stack bs es i h.stack sound.agree h.listed
-    ∙ ap (λ c. Some (Active i (frames_of c))) same
+    ∙ ap (λ c. Some (Active i (frames_in c))) same

@@ -4,8 +4,9 @@ use Rattle.std.proofs.Common.{sym, ◌∙◌, ap, subst, set}
 use Rattle.std.proofs.lemmas.List.{length-set}
 use Rattle.std.proofs.lemmas.Option.{slice_get_within}
 use Rattle.mu_values.specs.declared.scalars.Scalar.{Scalar}
-use Rattle.frames.specs.Chains.{Chain, frames_of}
-use Rattle.stacks.specs.Stacks.{Bound, Unbound}
+use Rattle.frames.specs.Activations.{Activation}
+use Rattle.frames.specs.Chains.{frames_in}
+use Rattle.stacks.specs.Stacks.{Bound}
 use Rattle.stacks.specs.Directories.{Entry}
 use Rattle.stacks.proofs.Writes.{get_written}
 use Rattle.mu_threads.specs.Threads.{Threads, there, stack_of, with_stack}
@@ -45,21 +46,15 @@ shown_same t u es owns room ws s i v sound h e =
     ∙ ap (λ ks. record { threads = threads_seen t.stacks owns; stacks = ks; waiters = waiters_seen ws }) (seen_fresh t.stacks es i h.stack sound.agree h.listed)
     ∙ v
 
-frames_same : (i : ℕ) (c d : Chain) → Some (Active i (frames_of c)) ≡ Some (Active i (frames_of d)) → c ≡ d
-frames_same i c d e =
-    let middle : Chain = record { top = d.top; below = c.below } in
-    let top : c.top ≡ d.top = cc in
-    let below : c.below ≡ d.below = cc in
-    let first : c ≡ middle = ap (λ f. record { top = f; below = c.below }) top in
-    let last : middle ≡ d = ap (λ fs. record { top = d.top; below = fs }) below in
-    first ∙ last
+frames_same : (i : ℕ) (fs gs : List Activation) → Some (Active i fs) ≡ Some (Active i gs) → fs ≡ gs
+frames_same i fs gs e = cc
 
-pub shown_asked : (t : Threads) (es : List Entry) (owns : List Scalar) (room : ℕ) (ws : List Waiter) (s : Seats) (i k : ℕ) (cs : List ℕ) (P : Unbound → Type 0) → seats_seen t.stacks owns es ws ≡ s → IsSound t.states t.stacks es owns room ws → (h : IsSeated t.stacks owns s i) → h.stack.number ≡ k → IfSome (stack_of t i) (λ b. P (record { number = b.number; frames = b.frames; waits = cs })) → (c : Chain) → slice_get s.stacks k ≡ Some (Active i (frames_of c)) → P (record { number = k; frames = c; waits = cs })
-shown_asked t es owns room ws s i k cs P v sound h number asked c at =
+pub shown_asked : (t : Threads) (es : List Entry) (owns : List Scalar) (room : ℕ) (ws : List Waiter) (s : Seats) (i k : ℕ) (P : ℕ → List Activation → Type 0) → seats_seen t.stacks owns es ws ≡ s → IsSound t.states t.stacks es owns room ws → (h : IsSeated t.stacks owns s i) → h.stack.number ≡ k → IfSome (stack_of t i) (λ b. P b.number (frames_in b.frames)) → (fs : List Activation) → slice_get s.stacks k ≡ Some (Active i fs) → P k fs
+shown_asked t es owns room ws s i k P v sound h number asked fs at =
     let here = ap (λ (w : Seats). slice_get w.stacks k) (sym v) ∙ ap (slice_get (stacks_seen t.stacks es)) (sym number) ∙ own_stack t.stacks es i h.stack sound.agree h.listed in
-    let same : h.stack.frames ≡ c = frames_same i h.stack.frames c (sym here ∙ at) in
-    let told : P (record { number = h.stack.number; frames = h.stack.frames; waits = cs }) = subst (λ o. IfSome (there o) (λ b. P (record { number = b.number; frames = b.frames; waits = cs }))) h.listed asked in
-    subst (λ f. P (record { number = k; frames = f; waits = cs })) same (subst (λ n. P (record { number = n; frames = h.stack.frames; waits = cs })) number told)
+    let same : frames_in h.stack.frames ≡ fs = frames_same i (frames_in h.stack.frames) fs (sym here ∙ at) in
+    let told : P h.stack.number (frames_in h.stack.frames) = subst (λ o. IfSome (there o) (λ b. P b.number (frames_in b.frames))) h.listed asked in
+    subst (P k) same (subst (λ n. P n (frames_in h.stack.frames)) number told)
 
 listed_if : (bs : List (Option Bound)) (i : ℕ) (o : Option (Option Bound)) (b : Bound) → slice_get bs i ≡ o → there o ≡ Some b → i < length bs
 listed_if bs i None b e h = cc

@@ -2,7 +2,7 @@
 use Rattle.std.specs.Prelude.{◌≡◌, ℕ, suc, ◌<◌, ◌≤◌, Bool, true, false, List, [], ◌∷◌, Option, Some, None, map, length, slice_get, slice_set, is_some, IsSome, IsSomeAnd, if◌then◌else◌}
 use Rattle.mu_values.specs.declared.scalars.Scalar.{Scalar}
 use Rattle.frames.specs.Activations.{Activation}
-use Rattle.frames.specs.Chains.{Chain, frames_of}
+use Rattle.frames.specs.Chains.{StoredChain, frames_in}
 use Rattle.stacks.specs.Stacks.{Bound}
 use Rattle.stacks.specs.declared.entered.Entered.{Entered}
 use Rattle.stacks.specs.Directories as entries
@@ -30,10 +30,10 @@ threads_seen (b ∷ bs) (own ∷ owns) = thread_seen b own ∷ threads_seen bs o
 
 abbrev pub frames_there : Option Bound → List Activation
 frames_there None = []
-frames_there (Some b) = frames_of b.frames
+frames_there (Some b) = frames_in b.frames
 
 abbrev pub stack_seen : List (Option Bound) → Entry → Stack
-stack_seen bs (entries.Ready c waits) = Ready (frames_of c)
+stack_seen bs (entries.Ready c waits) = Ready (frames_in c)
 stack_seen bs (entries.Active i) = Active i (frames_there (there (slice_get bs i)))
 stack_seen bs entries.Dead = Dead
 
@@ -43,7 +43,7 @@ stacks_seen bs es = map (stack_seen bs) es
 -- ---- moves of a stack between the directory and a thread
 
 -- a stack with other frames
-abbrev pub with_frames : Chain → Option Bound → Option Bound
+abbrev pub with_frames : StoredChain → Option Bound → Option Bound
 with_frames f None = None
 with_frames f (Some b) = Some (record b { frames = f })
 
@@ -52,7 +52,7 @@ abbrev pub bound_anew : ℕ → Option Bound → Option Bound
 bound_anew i None = None
 bound_anew i (Some b) = Some (record { number = b.number; thread = i; frames = b.frames; passed = None })
 
-abbrev pub frames_held : Option Bound → Option Chain
+abbrev pub frames_held : Option Bound → Option StoredChain
 frames_held None = None
 frames_held (Some b) = Some b.frames
 
@@ -86,7 +86,7 @@ held_from n (Some b ∷ bs) = n ∷ held_from (suc n) bs
 -- an entry is there and ready, waits for what its top frame waits for, and takes what comes
 abbrev pub TakesThere : Option Entry → Entered → Type 0
 TakesThere None e = ⊥
-TakesThere (Some (entries.Ready c waits)) e = (waits ≡ c.top.waits) × Takes (frames_of c) e
+TakesThere (Some (entries.Ready c waits)) e = (waits ≡ c.top.waits) × Takes (frames_in c) e
 TakesThere (Some (entries.Active j)) e = ⊥
 TakesThere (Some entries.Dead) e = ⊥
 
@@ -144,7 +144,7 @@ HasThreads bs es = (n i : ℕ) → slice_get es n ≡ Some (entries.Active i) �
 
 -- a stack that is ready waits for what its top frame waits for
 abbrev pub WaitAtTop : List Entry → Type 0
-WaitAtTop es = (n : ℕ) (c : Chain) (waits : List ℕ) → slice_get es n ≡ Some (entries.Ready c waits) → waits ≡ c.top.waits
+WaitAtTop es = (n : ℕ) (c : StoredChain) (waits : List ℕ) → slice_get es n ≡ Some (entries.Ready c waits) → waits ≡ c.top.waits
 
 pub record Agree (bs : List (Option Bound)) (es : List Entry) : Type 0 where
   pub bound : HasEntries bs es

@@ -1,7 +1,7 @@
 // Stacks that move between the directory and a thread.
 ghost use Rattle.std.specs.Prelude.{◌≡◌, ◌<◌, ◌≤◌, [], ◌∷◌, ◌++◌, Some, None, IfOk, OnOk, OnErr, IsSome, length, slice_get, slice_set, vec_capacity};
 ghost use Rattle.mu_values.specs.declared.scalars.Scalar.TheVariants as scalars;
-ghost use Rattle.frames.specs.Chains.{frames_of};
+ghost use Rattle.frames.specs.Chains.{frames_in};
 ghost use Rattle.mu_threads.specs.Threads.{stack_of, with_stack, IsLeft};
 ghost use Rattle.stacks.specs.Directories.{Active, Ready, Dead, ready_frames};
 ghost use Rattle.seats.specs.Seats.{Takes};
@@ -79,7 +79,7 @@ pub(crate) fn list_held(threads: &Threads, alloc: Global) -> Result<Listing<u32>
 /// Binds a stack to a thread, with values or an exception, which it hands out.
 fn bind(stack: ReadyStack, thread: u32, with_: Entered) -> (ActiveStack, Entered)
     requires waits { stack.waits ≡ stack.frames.top.waits }
-    requires takes { Takes (frames_of stack.frames) with_ }
+    requires takes { Takes (frames_in stack.frames) with_ }
     ensures stack { result.0 ≡ record { number = stack.number; thread = thread; frames = stack.frames; passed = None } }
     ensures passed { result.1 ≡ with_ }
 {

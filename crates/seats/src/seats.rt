@@ -1,6 +1,7 @@
 // Threads on their stacks.
-ghost use Rattle.std.specs.Prelude.{◌≡◌, ◌<◌, [], ◌∷◌, ◌++◌, Some, None, IfOk, OnOk, OnErr, IfSome, IfNone, IsSome, IsSomeAnd, nat_lt, length, slice_get, slice_set, option_map};
-ghost use Rattle.frames.specs.Chains.{Chain, frames_of};
+ghost use Rattle.std.specs.Prelude.{◌≡◌, ◌<◌, List, [], ◌∷◌, ◌++◌, Some, None, IfOk, OnOk, OnErr, IfSome, IfNone, IsSome, IsSomeAnd, nat_lt, length, slice_get, slice_set, option_map};
+ghost use Rattle.frames.specs.Activations.{Activation};
+ghost use Rattle.frames.specs.Chains.{frames_in};
 ghost use Rattle.mu_values.specs.declared.scalars.Scalar.TheVariants as scalars;
 ghost use Rattle.mu_model.specs.Configuration.{Active, Ready, Dead};
 ghost use Rattle.mu_model.specs.Changes.{changed};
@@ -56,7 +57,7 @@ impl Seats {
     /// Thread 0 on stack 0, which has these frames, and with NULL as its own object. It makes all room that later calls need for
     /// threads. It is refused for want of memory alone.
     pub fn new(alloc: Global, frames: Frames) -> Result<Seats, AllocError>
-        ensures { IfOk result (λ s. s ≡ record { threads = Some (record { stack = 0; own = scalars.Null }) ∷ []; stacks = Active 0 (frames_of frames) ∷ []; waiters = [] }) }
+        ensures { IfOk result (λ s. s ≡ record { threads = Some (record { stack = 0; own = scalars.Null }) ∷ []; stacks = Active 0 (frames_in frames) ∷ []; waiters = [] }) }
     {
         let mut stacks = Directory::new(alloc);
         let stack = first(alloc, &mut stacks, frames)?;
@@ -120,7 +121,7 @@ impl Seats {
     /// The frames of a thread's stack.
     pub fn frames(&self, thread: u32, stack: u32) -> &Frames
         requires { IsOn self.now thread stack }
-        ensures { slice_get self.now.stacks stack ≡ Some (Active thread (frames_of result.now)) }
+        ensures { slice_get self.now.stacks stack ≡ Some (Active thread (frames_in result.now)) }
     {
         self.threads.stack(thread).frames()
     }
@@ -128,8 +129,8 @@ impl Seats {
     /// Exchanges the frames of a thread's stack for others.
     pub fn exchange(&mut self, thread: u32, stack: u32, frames: &mut Frames)
         requires { IsOn self.old thread stack }
-        ensures seats { self.new ≡ record self.old { stacks = slice_set self.old.stacks stack (Active thread (frames_of frames.old)) } }
-        ensures frames { slice_get self.old.stacks stack ≡ Some (Active thread (frames_of frames.new)) }
+        ensures seats { self.new ≡ record self.old { stacks = slice_set self.old.stacks stack (Active thread (frames_in frames.old)) } }
+        ensures frames { slice_get self.old.stacks stack ≡ Some (Active thread (frames_in frames.new)) }
     {
         exchange(&mut self.threads, thread, frames);
     }
@@ -144,7 +145,7 @@ impl Seats {
     /// A stack that is ready, where it stands. None comes exactly where it is active or dead.
     pub fn ready(&self, id: u32) -> Option<&ReadyStack>
         requires { id < length self.now.stacks }
-        ensures some { IfSome result (λ r. slice_get self.now.stacks id ≡ Some (Ready (frames_of r.now.frames))) }
+        ensures some { IfSome result (λ r. slice_get self.now.stacks id ≡ Some (Ready (frames_in r.now.frames))) }
         ensures waits { IfSome result (λ r. r.now.waits ≡ r.now.frames.top.waits) }
         ensures number { IfSome result (λ r. r.now.number ≡ id) }
         ensures none { IfNone result (IsSomeAnd (slice_get self.now.stacks id) IsActiveOrDead) }
@@ -157,7 +158,7 @@ impl Seats {
     pub fn make(&mut self, frames: Frames, waits: Types) -> Result<u32, AllocError>
         requires { waits.members ≡ frames.top.waits }
         ensures number { IfOk result (λ n. n ≡ length self.old.stacks) }
-        ensures made { OnOk result (self.new ≡ record self.old { stacks = self.old.stacks ++ Ready (frames_of frames) ∷ [] }) }
+        ensures made { OnOk result (self.new ≡ record self.old { stacks = self.old.stacks ++ Ready (frames_in frames) ∷ [] }) }
         ensures same { OnErr result (self.new ≡ self.old) }
     {
         make(&mut self.stacks, frames, waits)
@@ -166,7 +167,7 @@ impl Seats {
     /// A stack that is ready is dead from now on, and its frames come back.
     pub fn kill(&mut self, id: u32) -> Frames
         requires { IsReady (slice_get self.old.stacks id) }
-        ensures frames { slice_get self.old.stacks id ≡ Some (Ready (frames_of result)) }
+        ensures frames { slice_get self.old.stacks id ≡ Some (Ready (frames_in result)) }
         ensures dead { self.new ≡ record self.old { stacks = slice_set self.old.stacks id Dead } }
     {
         kill(&mut self.stacks, id)
@@ -175,7 +176,7 @@ impl Seats {
     /// A thread ends, and its stack is dead from now on. The frames of that come back.
     pub fn end(&mut self, thread: u32, stack: u32) -> Frames
         requires { IsOn self.old thread stack }
-        ensures frames { slice_get self.old.stacks stack ≡ Some (Active thread (frames_of result)) }
+        ensures frames { slice_get self.old.stacks stack ≡ Some (Active thread (frames_in result)) }
         ensures ended { self.new ≡ record self.old { threads = slice_set self.old.threads thread None; stacks = slice_set self.old.stacks stack Dead } }
     {
         let frames = leave_dead(&mut self.threads, &mut self.stacks, thread);
@@ -208,7 +209,7 @@ impl Seats {
     pub fn end_to(&mut self, thread: u32, stack: u32, to: u32, with_: Entered) -> (Frames, Entered)
         requires on { IsOn self.old thread stack }
         requires takes { IsReadyFor (slice_get self.old.stacks to) with_ }
-        ensures frames { slice_get self.old.stacks stack ≡ Some (Active thread (frames_of result.0)) }
+        ensures frames { slice_get self.old.stacks stack ≡ Some (Active thread (frames_in result.0)) }
         ensures passed { result.1 ≡ with_ }
         ensures seats { self.new ≡ record self.old { threads = changed (option_map (on_stack to)) thread self.old.threads; stacks = changed (bound_to thread) to (slice_set self.old.stacks stack Dead) } }
     {
@@ -221,7 +222,7 @@ impl Seats {
     pub fn ask<A: Asks>(&mut self, thread: u32, stack: u32, waits: Types, asks: &mut A)
         requires { IsOn self.old thread stack }
         ensures same { self.new ≡ self.old }
-        ensures asked { (c : Chain) → slice_get self.old.stacks stack ≡ Some (Active thread (frames_of c)) → A.asked asks.old (record { number = stack; frames = c; waits = waits.members }) asks.new }
+        ensures asked { (frames : List Activation) → slice_get self.old.stacks stack ≡ Some (Active thread frames) → A.asked asks.old stack frames waits.members asks.new }
     {
         show(&mut self.threads, thread, waits, asks);
     }

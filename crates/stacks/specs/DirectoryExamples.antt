@@ -1,15 +1,16 @@
 -- Entries of a directory: computed.
 use Rattle.std.specs.Prelude.{◌≡◌, false, List, [], ◌∷◌, Some, None, slice_get, slice_set, option_map, refl}
-use Rattle.frames.specs.Chains.{Chain}
+use Rattle.frames.specs.Chains.{StoredChain}
 use Rattle.stacks.specs.Directories.{Entry, Ready, Active, Dead, state_of, ready_frames}
 use Rattle.stacks.specs.declared.state.StackState.TheVariants as states
 
 -- one frame, which waits for a value of class 4
-abbrev one_frame : Chain
+abbrev one_frame : StoredChain
 one_frame =
     record {
       top = record { block = 0; at = 1; vars = []; fresh = false; waits = 4 ∷ []; handler = None; kept = record { types = []; values = [] }; objects = [] };
       below = [];
+      spare = 0;
     }
 
 -- stack 0 runs on thread 0, stack 1 is ready, and stack 2 is dead

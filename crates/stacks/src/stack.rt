@@ -1,14 +1,15 @@
 // Stacks that are owned.
-ghost use Rattle.std.specs.Prelude.{◌≡◌, ◌≢◌, Some, None, IsSome, OnOk, OnErr, IfOk, IfErr};
+ghost use Rattle.std.specs.Prelude.{◌≡◌, ◌≢◌, ◌<◌, ◌≤◌, Some, None, IsSome, OnOk, OnErr, IfOk, IfErr};
 ghost use Rattle.std.specs.Borrow.{sem};
-ghost use Rattle.frames.specs.Chains.{frames_of};
+ghost use Rattle.frames.specs.Chains.{frames_in};
 ghost use Rattle.frames.specs.Handlers.{first_handler};
-ghost use Rattle.stacks.specs.Lending.{LendsFrames};
+ghost use Rattle.stacks.specs.Lending.{LendsFrames, LendsOpened};
 
 use crate::entered::Entered;
 use frames::{Frames, Unwound};
 use mu_base::Types;
 use mu_values::{Passed, Scalar};
+use std::alloc::AllocError;
 use std::marker::Model;
 
 /// A stack that may be entered: by values of the types that it waits for, or by an exception that one of its frames catches.
@@ -42,6 +43,21 @@ impl Model for ActiveStack {
     ghost Value = { Bound };
 
     ghost view = { λ s. record { number = s.number; thread = s.thread; frames = s.frames; passed = s.passed } };
+}
+
+/// A stack whose frames are edited. It waits for nothing, and cannot be bound to a thread until it is closed.
+#[derive(Drop)]
+pub struct OpenStack {
+    number: u32,
+    frames: Frames,
+}
+
+impl Model for OpenStack {
+    ghost use Rattle.stacks.specs.Stacks.{Opened};
+
+    ghost Value = { Opened };
+
+    ghost view = { λ s. record { number = s.number; frames = s.frames } };
 }
 
 /// A stack waits for values of other types than were passed.
@@ -95,6 +111,28 @@ impl ReadyStack {
         self.frames
     }
 
+    /// Makes room for one more frame, as `Frames::reserve` of its frames does, and is refused where that is. Nothing else changes.
+    pub fn reserve(&mut self) -> Result<(), AllocError>
+        ensures number { self.new.number ≡ self.old.number }
+        ensures waits { self.new.waits ≡ self.old.waits }
+        ensures frames { frames_in self.new.frames ≡ frames_in self.old.frames }
+        ensures room { OnOk result (0 < self.new.frames.spare) }
+        ensures spare { self.old.frames.spare ≤ self.new.frames.spare }
+    {
+        self.frames.reserve()
+    }
+
+    /// Opens the stack, so that its frames can be edited. What it waited for is lost. It takes no memory, and the frames keep their
+    /// room.
+    pub fn begin_edit(self) -> OpenStack
+        ensures { result ≡ record { number = self.number; frames = self.frames } }
+    {
+        OpenStack {
+            number: self.number,
+            frames: self.frames,
+        }
+    }
+
     /// Binds the stack to a thread and passes values to it, which `entered` hands out. It is refused exactly where their types are
     /// not those that the stack waits for; then the stack and the values come back.
     pub fn bind_values(
@@ -124,9 +162,9 @@ impl ReadyStack {
     /// catches it; then the stack comes back.
     pub fn bind_throw(self, thread: u32, exc: Scalar) -> Result<ActiveStack, (ReadyStack, Uncaught)>
         ensures bound { IfOk result (λ s. s ≡ record { number = self.number; thread = thread; frames = self.frames; passed = Some (Entered.Thrown exc) }) }
-        ensures caught { OnOk result (IsSome (first_handler (frames_of self.frames))) }
+        ensures caught { OnOk result (IsSome (first_handler (frames_in self.frames))) }
 
-        ensures uncaught { OnErr result (first_handler (frames_of self.frames) ≡ None) }
+        ensures uncaught { OnErr result (first_handler (frames_in self.frames) ≡ None) }
         ensures stack_back { IfErr result (λ e. e.0 ≡ self) }
     {
         match self.frames.unwind() {
@@ -150,6 +188,28 @@ impl ReadyStack {
             thread,
             frames: self.frames,
             passed: None,
+        }
+    }
+}
+
+impl OpenStack {
+    /// Lends its frames.
+    pub fn frames_mut(&mut self) -> &mut Frames
+        ensures* lends { sem 𝓛 (LendsOpened self.entry result) }
+        ensures is { result.now ≡ self.old.frames }
+    {
+        &mut self.frames
+    }
+
+    /// Closes the stack: its edit is done, and from then on it waits for values of these types. It takes no memory, and the frames
+    /// keep their room.
+    pub fn close(self, waits: Types) -> ReadyStack
+        ensures { result ≡ record { number = self.number; frames = self.frames; waits = waits.members } }
+    {
+        ReadyStack {
+            number: self.number,
+            frames: self.frames,
+            waits,
         }
     }
 }

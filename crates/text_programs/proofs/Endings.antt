@@ -63,22 +63,22 @@ use Rattle.text_programs.specs.Moments.{IsSoundLog, IsLastLog, as_before, left, 
 
 -- ---- the lines of each ending that an outcome may come to
 
-abbrev EachEnd : (List Line → Type 0) → Outcome → Type 0
+abbrev pub EachEnd : (List Line → Type 0) → Outcome → Type 0
 EachEnd P (Next c) = Unit {0}
 EachEnd P (End ls e) = P ls
 EachEnd P (Asks view go) = (a : Option Answer) → EachEnd P (go a)
 EachEnd P Stuck = Unit {0}
 
-ends_at : {A : Type 0} (P : List Line → Type 0) (o : Option A) (go : A → Outcome) → ((a : A) → o ≡ Some a → EachEnd P (go a)) → EachEnd P (on o go)
+pub ends_at : {A : Type 0} (P : List Line → Type 0) (o : Option A) (go : A → Outcome) → ((a : A) → o ≡ Some a → EachEnd P (go a)) → EachEnd P (on o go)
 unfolding on
 ends_at P None go h = tt
 ends_at P (Some a) go h = h a refl
 
-ends_on : {A : Type 0} (P : List Line → Type 0) (o : Option A) (go : A → Outcome) → ((a : A) → EachEnd P (go a)) → EachEnd P (on o go)
+pub ends_on : {A : Type 0} (P : List Line → Type 0) (o : Option A) (go : A → Outcome) → ((a : A) → EachEnd P (go a)) → EachEnd P (on o go)
 ends_on P o go h = ends_at P o go (λ a q. h a)
 
 -- what goes on has no ending
-next_ends : {A : Type 0} (P : List Line → Type 0) (o : Option A) (go : A → Configuration) → EachEnd P (on o (λ a. Next (go a)))
+pub next_ends : {A : Type 0} (P : List Line → Type 0) (o : Option A) (go : A → Configuration) → EachEnd P (on o (λ a. Next (go a)))
 next_ends P o go = ends_on P o (λ a. Next (go a)) (λ a. tt)
 
 module _ (p : Program) (P : List Line → Type 0) where
@@ -168,7 +168,7 @@ module _ (p : Program) (P : List Line → Type 0) where
     wakes_ends : (many : ℕ) (cell : CellId) → EachEnd P (futex_wakes p b u many cell)
     wakes_ends many cell = tried_ends b u _ _ here (λ at. ends_on P _ _ (λ d. next_ends P _ _))
 
-    performed_ends : (a : Act) → EachEnd P (performed p b u a)
+    pub performed_ends : (a : Act) → EachEnd P (performed p b u a)
     performed_ends (acts.Gives vs) = next_ends P _ _
     performed_ends (acts.Faults k) = refused_ends b u k here
     performed_ends (acts.Goes g) = next_ends P _ _

@@ -4,3 +4,6 @@ pub mod Endings
 pub mod Offers
 pub mod Moments
 pub mod RunLogs
+pub mod Printable
+pub mod Numbers
+pub mod Asking

@@ -23,11 +23,11 @@ use Rattle.text_programs.proofs.Endings.{ends_soundly}
 use Rattle.text_programs.proofs.Offers.{offers_exactly}
 
 module _ (p : Program) (t : Places) (typed : IsTyped p t) where
-  stays_typed : (c d : Configuration) → WellTyped p t c → Reaches p c d → WellTyped p t d
+  pub stays_typed : (c d : Configuration) → WellTyped p t c → Reaches p c d → WellTyped p t d
   stays_typed c d well here = well
   stays_typed c d well (onward {d = m} far e) = subst (Settles p t) e (clients_settle p t m typed (stays_typed c m well far))
 
-  stays_in_bounds : (n : ℕ) (c d : Configuration) → WellTyped p t c → InBounds n c → Reaches p c d → InBounds n d × (d.budget ≡ c.budget)
+  pub stays_in_bounds : (n : ℕ) (c d : Configuration) → WellTyped p t c → InBounds n c → Reaches p c d → InBounds n d × (d.budget ≡ c.budget)
   stays_in_bounds n c d well bounds here = (bounds, refl)
   stays_in_bounds n c d well bounds (onward {d = m} far e) =
       let before = stays_in_bounds n c m well bounds far in
@@ -57,7 +57,7 @@ pub endings_are_sound : EndingsOfTextsAreSound
 endings_are_sound bytes bundle read names checked s name n fits entered c d first far = (moments_are_sound bytes bundle read names checked s name n fits entered c d first far).ending
 
 -- a run begins with its budget
-first_budget : (p : Program) (s : Setting) (f : ℕ) (c : Configuration) → first_configuration p s f ≡ Some c → c.budget ≡ s.budget
+pub first_budget : (p : Program) (s : Setting) (f : ℕ) (c : Configuration) → first_configuration p s f ≡ Some c → c.budget ≡ s.budget
 first_budget p s f c first = by (p.body f) first
   where
     by : (o : Option (Option ℕ)) → with_some {B = Configuration} o (λ b. with_some {B = Configuration} b (λ block. Some (begins_in p s f block))) ≡ Some c → c.budget ≡ s.budget

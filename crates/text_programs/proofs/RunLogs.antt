@@ -1,6 +1,7 @@
 -- The lines of a step tell what it logs, so the lines of a run tell the log that it leaves.
 use Rattle.std.specs.Prelude.{◌≡◌, ◌==◌, ◌++◌, ℕ, zero, suc, Bool, true, false, nat_le, List, [], ◌∷◌, Option, Some, None, Result, Ok, Err, length, find, reverse, slice_get, refl, if◌then◌else◌}
-use Rattle.std.proofs.Common.{sym, ◌∙◌, ap, subst}
+use mathlib.Core.List.{reverse_aux}
+use Rattle.std.proofs.Common.{map, sym, ◌∙◌, ap, subst}
 use Rattle.mu_base.specs.declared.order.Order.TheVariants.{Relaxed}
 use Rattle.mu_values.specs.declared.scalars.Scalar.{Scalar}
 use Rattle.mu_values.specs.declared.scalars.Scalar.TheVariants as scalars
@@ -23,6 +24,8 @@ use Rattle.mu_model.specs.declared.endings.Case.TheVariants.{DivideByZero, NullA
 use Rattle.mu_model.specs.declared.endings.Ending.{Ending}
 use Rattle.mu_model.specs.declared.endings.Ending.TheVariants.{Budget, HeapFull, ThreadsFull}
 use Rattle.mu_model.specs.declared.lines.Line.{Line}
+use Rattle.mu_model.specs.declared.lines.Line.TheVariants as lines
+use Rattle.mu_model.specs.declared.lines.Note.{Note}
 use Rattle.mu_model.specs.declared.lines.Note.TheVariants.{TimedOut}
 use Rattle.mu_model.specs.Accesses.{access_results, accessed, initial, kind_of, raced, wanted}
 use Rattle.mu_model.specs.Acts as acts
@@ -38,7 +41,7 @@ use Rattle.mu_model.specs.Exceptions.{EnteredFrames, returns}
 use Rattle.mu_model.specs.Frames.{fresh_frame, passed}
 use Rattle.mu_model.specs.Objects.{asks_cells, object_added, owning}
 use Rattle.mu_model.specs.Operands.{scalar_in}
-use Rattle.mu_model.specs.Outcomes.{Asks, End, Next, Outcome, Stuck, excepted, faulted, has_result, next, on, onto, refused, tried, unless_refused}
+use Rattle.mu_model.specs.Outcomes.{Asks, End, Next, Outcome, Stuck, excepted, faulted, has_result, next, onto, refused, tried, unless_refused}
 use Rattle.mu_model.specs.Programs.{named}
 use Rattle.mu_model.specs.Run.{Breaks, Ends, Run, Setting, Unfinished, begins_in, behind, client_answers, first_configuration, goes_on, program_run, run, run_from, with_client}
 use Rattle.mu_model.specs.Step.{ends_or_picks, performed, picked, picking_thread, runnable, step, threads_from, turned, turns, with_own}
@@ -52,17 +55,29 @@ use Rattle.text_programs.specs.RunLogs.{LinesTellTheLog, RunsOfTextsLeaveSoundLo
 use Rattle.text_programs.proofs.Endings.{told_on, turned_round, notes_pass, some_inside}
 use Rattle.text_programs.proofs.Moments.{moments_are_sound}
 
+-- ---- the numbers of event lines
+
+-- Each event line, newest first after a log, has the number of events before it.
+abbrev pub NumbersAreRight : List Line → List Event → Type 0
+NumbersAreRight [] log = Unit {0}
+NumbersAreRight (lines.Event number e ∷ ls) log = (number ≡ length (told_on ls log)) × NumbersAreRight ls log
+NumbersAreRight (lines.Note note ∷ ls) log = NumbersAreRight ls log
+
+pub notes_right : (asked : List Note) (more rest : List Line) (log : List Event) → NumbersAreRight (more ++ rest) log → NumbersAreRight (reverse_aux (map lines.Note asked) more ++ rest) log
+notes_right [] more rest log h = h
+notes_right (n ∷ asked) more rest log h = notes_right asked (lines.Note n ∷ more) rest log h
+
 -- ---- what a configuration that a step goes on with has logged, its lines tell
 
 module _ (p : Program) (rule : Rule) (log : List Event) where
   abbrev pub Keeps : Configuration → Type 0
-  Keeps d = (d.log ≡ told_on d.lines log) × (d.rule ≡ rule)
+  Keeps d = (d.log ≡ told_on d.lines log) × (d.rule ≡ rule) × NumbersAreRight d.lines log
 
   logged_keeps : (d : Configuration) (i : ℕ) (k : Kind) → Keeps d → Keeps (logged i k d)
-  logged_keeps d i k h = (ap (λ (l : List Event). event i k ∷ l) h.0, h.1)
+  logged_keeps d i k h = (ap (λ (l : List Event). event i k ∷ l) h.0, h.1, (ap length h.0, h.2))
 
   enters_keep : (d : Configuration) (i k : ℕ) (r : EnteredFrames) → Keeps d → Keeps (enters i k r d)
-  enters_keep d i k r h = (ap (λ (l : List Event). event i (kinds.Enter k) ∷ l) h.0, h.1)
+  enters_keep d i k r h = (ap (λ (l : List Event). event i (kinds.Enter k) ∷ l) h.0, h.1, (ap length h.0, h.2))
 
   next_keeps : (d : Configuration) (u : Turn) (fs : Option (List Activation)) → Keeps d → Every Keeps (next d u fs)
   next_keeps d u fs h = every_on Keeps fs _ (λ now q. h)
@@ -123,7 +138,7 @@ module _ (p : Program) (rule : Rule) (log : List Event) where
 
   module _ (b : Configuration) (u : Turn) (h : Keeps b) where
     left_keeps : (f : Activation) → Keeps (leaving u f b)
-    left_keeps f = (ap (λ (l : List Event). event u.thread (kinds.Leave u.stack) ∷ l) h.0, h.1)
+    left_keeps f = (ap (λ (l : List Event). event u.thread (kinds.Leave u.stack) ∷ l) h.0, h.1, (ap length h.0, h.2))
 
     enters_by_keeps : (d : Configuration) (s : Scalar) (a : With TypedValues Classed) → Keeps d → Every Keeps (enters_by p d u s a)
     enters_by_keeps d s a k = every_on Keeps (entering_of p.tables a) _ (λ e q. over_keeps d u s e d k k)
@@ -136,7 +151,7 @@ module _ (p : Program) (rule : Rule) (log : List Event) where
 
     answered_keeps : (d : Configuration) (a : Option Answer) → Keeps d → Every Keeps (answered p d u a)
     answered_keeps d None k = tt
-    answered_keeps d (Some a) k = replied_keeps (taken a d) a.reply (k.0 ∙ sym (notes_pass a.notes [] d.lines log), k.1)
+    answered_keeps d (Some a) k = replied_keeps (taken a d) a.reply (k.0 ∙ sym (notes_pass a.notes [] d.lines log), k.1, notes_right a.notes [] d.lines log k.2)
 
     trapped_keeps : (n : Option ℕ) (cs : List ℕ) → Every Keeps (trapped p b u n cs)
     trapped_keeps n cs = every_on Keeps (waiting u cs) _ (λ f q a. answered_keeps (noted (trap_note u n) (leaving u f b)) a (left_keeps f))
@@ -155,7 +170,7 @@ module _ (p : Program) (rule : Rule) (log : List Event) where
 
     starts_keep : (s own : Scalar) (e : Entering) (x : Bool) → Every Keeps (if x then faulted p b u (ThreadsFull u.thread) else entering p b u s e (λ k r. has_result p (started b u own k r) u (scalars.Thread (length b.threads))))
     starts_keep s own e true = faulted_keeps b u (ThreadsFull u.thread) h
-    starts_keep s own e false = entering_keeps b u s e _ h (λ k r. next_keeps (started b u own k r) u _ (ap (λ (l : List Event). event (length b.threads) (kinds.Enter k) ∷ event u.thread (kinds.NewThread (length b.threads)) ∷ l) h.0, h.1))
+    starts_keep s own e false = entering_keeps b u s e _ h (λ k r. next_keeps (started b u own k r) u _ (ap (λ (l : List Event). event (length b.threads) (kinds.Enter k) ∷ event u.thread (kinds.NewThread (length b.threads)) ∷ l) h.0, h.1, (ap (λ (l : List Event). suc (length l)) h.0, (ap length h.0, h.2))))
 
     waits_keep : (timed : Bool) (y : Scalar) (cell : CellId) → Every Keeps (futex_waits p b u timed y cell)
     waits_keep timed y cell = tried_keeps b u _ _ h (λ at. every_on Keeps _ _ (λ k q. by at k (same_scalar k.value y)))
@@ -213,8 +228,8 @@ module _ (p : Program) (c : Configuration) where
   turns_told ps i = every_on Told (turn_of p (picked c ps) i) _ (λ u q. by u (find (is_of i) c.waiters))
     where
       by : (u : Turn) (w : Option Waiter) → Every Told (turned p (picked c ps) w u)
-      by u (Some w) = next_keeps p c.rule c.log (noted (TimedOut u.thread w.cell) (record (picked c ps) { waiters = without (w ∷ []) c.waiters })) u _ (refl, refl)
-      by u None = every_on Told u.doing.act _ (λ a q. performed_keeps p c.rule c.log (picked c ps) u (refl, refl) a)
+      by u (Some w) = next_keeps p c.rule c.log (noted (TimedOut u.thread w.cell) (record (picked c ps) { waiters = without (w ∷ []) c.waiters })) u _ (refl, refl, tt)
+      by u None = every_on Told u.doing.act _ (λ a q. performed_keeps p c.rule c.log (picked c ps) u (refl, refl, tt) a)
 
   step_told : Every Told (step p c)
   step_told = by (threads_from 0 c.threads) (runnable c)
@@ -240,7 +255,7 @@ module _ (p : Program) (c : Configuration) where
       by Stuck g = g
   client_told k Stuck g = g
 
-  next_told : (d : Configuration) → client_answers p c.client (step p c) ≡ Next d → Told d
+  pub next_told : (d : Configuration) → client_answers p c.client (step p c) ≡ Next d → Told d
   next_told d q = subst (Every Told) q (client_told c.client (step p c) step_told)
 
 pub lines_tell : LinesTellTheLog

@@ -3,3 +3,5 @@ pub mod Offers
 pub mod Moments
 pub mod Lines
 pub mod RunLogs
+pub mod Printable
+pub mod Numbers

@@ -2,6 +2,8 @@
 ghost use Rattle.text_programs.specs.Laws.{BundlesThatAreReadHaveBlocks, TextsAreTyped, RunsOfTextsHaveAnEnding, RunsOfTextsNeverBreak, PlainSettingsFit, EnteredRunsHaveAnEnding};
 ghost use Rattle.text_programs.specs.Lines.{LinesDoNotMix};
 ghost use Rattle.text_programs.specs.Moments.{MomentsOfTextsAreSound, EndingsOfTextsAreSound, MomentsOfTextsAreSmall};
+ghost use Rattle.text_programs.specs.Printable.{MomentsOfTextsArePrintable};
+ghost use Rattle.text_programs.specs.Numbers.{RunsAreNumbered};
 ghost use Rattle.text_programs.specs.RunLogs.{LinesTellTheLog, RunsOfTextsLeaveSoundLogs, RuleStays};
 
 /// Each function that is defined in a bundle that is read has a block.
@@ -66,4 +68,14 @@ pub fn runs_leave_sound_logs()
 /// Each moment of a run goes by the rule of release sequences that the run is given. So it is of every program.
 pub fn rule_stays()
     ensures { RuleStays }
+{}
+
+/// At each such moment each event of the log can be printed, and no object has more cells than the setting allows.
+pub fn moments_are_printable()
+    ensures { MomentsOfTextsArePrintable }
+{}
+
+/// The event lines of a run that ends are numbered from 0 on. This holds of every program.
+pub fn runs_are_numbered()
+    ensures { RunsAreNumbered }
 {}

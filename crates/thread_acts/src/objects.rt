@@ -2,7 +2,7 @@
 ghost use Rattle.std.specs.Prelude.{◌≡◌, ◌<◌, length, take, drop};
 ghost use Rattle.std.specs.List.{flat_map};
 ghost use Rattle.frames.specs.Activations.{Activation};
-ghost use Rattle.frames.specs.Chains.{frames_of};
+ghost use Rattle.frames.specs.Chains.{frames_in};
 ghost use Rattle.typed_heap.specs.Objects.{killed};
 ghost use Rattle.mu_model.specs.Changes.{changed};
 ghost use Rattle.thread_acts.specs.Acting.{objects_end};
@@ -43,7 +43,7 @@ pub(crate) fn end_objects(heap: &mut Heap, objects: &[u32])
 /// Takes the top frame away.
 pub(crate) fn leave(frames: &mut Frames)
     requires { 0 < length frames.old.below }
-    ensures { frames_of frames.new ≡ frames.old.below }
+    ensures { frames_in frames.new ≡ frames.old.below }
 {
     match frames.leave() {
         Some(_frame) => {}
@@ -54,7 +54,7 @@ pub(crate) fn leave(frames: &mut Frames)
 /// The same. The list of its values comes in exchange for this one, so that its room may be used again.
 pub(crate) fn leave_for(frames: &mut Frames, slots: &mut Slots)
     requires { 0 < length frames.old.below }
-    ensures { frames_of frames.new ≡ frames.old.below }
+    ensures { frames_in frames.new ≡ frames.old.below }
 {
     match frames.leave() {
         Some(mut frame) => mem::swap(&mut frame.slots, slots),
@@ -65,8 +65,8 @@ pub(crate) fn leave_for(frames: &mut Frames, slots: &mut Slots)
 /// Takes the top frame away, and the cells of its objects are dead.
 #[tactic(auto, using(crate::specs::Lists::second_there))]
 fn leave_one(frames: &mut Frames, heap: &mut Heap)
-    requires { 1 < length (frames_of frames.old) }
-    ensures frames { frames_of frames.new ≡ frames.old.below }
+    requires { 1 < length (frames_in frames.old) }
+    ensures frames { frames_in frames.new ≡ frames.old.below }
     ensures objects { heap.new.objects ≡ objects_end heap.old.objects frames.old.top.objects }
     ensures left { heap.new.left ≡ heap.old.left }
     ensures initials { initials heap.new.objects ≡ initials heap.old.objects }
@@ -78,9 +78,9 @@ fn leave_one(frames: &mut Frames, heap: &mut Heap)
 /// Takes so many frames away from the top, and the cells of their objects are dead.
 #[tactic(auto, using(crate::specs::Lists::leaving))]
 pub fn leave_frames(frames: &mut Frames, heap: &mut Heap, n: u32)
-    requires { n < length (frames_of frames.old) }
-    ensures frames { frames_of frames.new ≡ drop n (frames_of frames.old) }
-    ensures objects { heap.new.objects ≡ objects_end heap.old.objects (flat_map (λ (f : Activation). f.objects) (take n (frames_of frames.old))) }
+    requires { n < length (frames_in frames.old) }
+    ensures frames { frames_in frames.new ≡ drop n (frames_in frames.old) }
+    ensures objects { heap.new.objects ≡ objects_end heap.old.objects (flat_map (λ (f : Activation). f.objects) (take n (frames_in frames.old))) }
     ensures left { heap.new.left ≡ heap.old.left }
     ensures initials { initials heap.new.objects ≡ initials heap.old.objects }
 {
@@ -92,7 +92,7 @@ pub fn leave_frames(frames: &mut Frames, heap: &mut Heap, n: u32)
 /// The cells of the objects of all frames are dead.
 #[tactic(auto, using(crate::specs::Lists::all_ending))]
 pub fn end_frames(frames: &Frames, heap: &mut Heap)
-    ensures objects { heap.new.objects ≡ objects_end heap.old.objects (flat_map (λ (f : Activation). f.objects) (frames_of frames.now)) }
+    ensures objects { heap.new.objects ≡ objects_end heap.old.objects (flat_map (λ (f : Activation). f.objects) (frames_in frames.now)) }
     ensures left { heap.new.left ≡ heap.old.left }
     ensures initials { initials heap.new.objects ≡ initials heap.old.objects }
 {

@@ -1,6 +1,6 @@
 // The state of a run.
 ghost use Rattle.std.specs.Prelude.{◌≡◌, ◌<◌, [], None, length, slice_set, true};
-ghost use Rattle.frames.specs.Chains.{frames_of};
+ghost use Rattle.frames.specs.Chains.{frames_in};
 ghost use Rattle.mu_model.specs.declared.endings.Ending.{Ending};
 ghost use Rattle.mu_model.specs.declared.endings.Case.{Case};
 ghost use Rattle.mu_model.specs.declared.endings.StepEnd.TheVariants.{Went};
@@ -52,10 +52,11 @@ impl<M: Memory, C: Determined> Model for State<M, C> {
     ghost use Rattle.thread_acts.specs.Held.{Held};
     ghost use Rattle.thread_acts.specs.Hand.{IsSound};
     ghost use Rattle.thread_acts.specs.Remembering.{initials};
+    ghost use Rattle.frames.specs.Chains.{chain_of};
 
     ghost Value = { Held };
 
-    ghost view = { λ s. record { thread = s.thread; stack = s.stack; frames = s.frames; left = s.left; seats = s.seats; objects = s.heap.objects; log = M.log s.memory; watched = s.watched; client = C.stands_for s.client; picks = s.picks; skip = s.skip; rule = M.rule s.memory; cells = s.heap.left; steps = s.steps; budget = s.budget } };
+    ghost view = { λ s. record { thread = s.thread; stack = s.stack; frames = chain_of s.frames; left = s.left; seats = s.seats; objects = s.heap.objects; log = M.log s.memory; watched = s.watched; client = C.stands_for s.client; picks = s.picks; skip = s.skip; rule = M.rule s.memory; cells = s.heap.left; steps = s.steps; budget = s.budget } };
 
     ghost invariant = { λ s. (M.objects s.memory ≡ initials s.heap.objects) × (s.events ≡ length (M.log s.memory)) × (s.events ≤ 100 * s.steps) × (s.steps ≤ s.budget) × (s.budget ≤ 1000000) × IsSound s.left s.thread s.stack s.seats (M.log s.memory) };
 }
@@ -74,8 +75,8 @@ pub fn ended(alloc: Global, ending: Ending) -> StepEnd
 fn end_seat(seats: &mut Seats, thread: u32, stack: u32, frames: &mut Frames) -> Frames
     requires on { IsOn seats.old thread stack }
     requires within { stack < length seats.old.stacks }
-    ensures frames { frames_of result ≡ frames_of frames.old }
-    ensures seats { seats.new ≡ record seats.old { threads = slice_set seats.old.threads thread None; stacks = slice_set (slice_set seats.old.stacks stack (Active thread (frames_of frames.old))) stack Dead } }
+    ensures frames { frames_in result ≡ frames_in frames.old }
+    ensures seats { seats.new ≡ record seats.old { threads = slice_set seats.old.threads thread None; stacks = slice_set (slice_set seats.old.stacks stack (Active thread (frames_in frames.old))) stack Dead } }
 {
     seats.exchange(thread, stack, frames);
     seats.end(thread, stack)

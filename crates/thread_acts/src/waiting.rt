@@ -2,7 +2,7 @@
 ghost use Rattle.std.specs.Prelude.{◌≡◌, ℕ, List, IsSome, None, Some, true, IfOk, OnOk, OnErr, option_map};
 ghost use Rattle.bundle_check.specs.Answers.{code_at};
 ghost use Rattle.bundle_check.specs.Checking.{bundle_tables};
-ghost use Rattle.frames.specs.Chains.{nothing_kept};
+ghost use Rattle.frames.specs.Chains.{chain_of, nothing_kept};
 ghost use Rattle.frames.specs.FrameOf.{frame_of, goal_of};
 ghost use Rattle.mu_model.specs.Types.{classes_given};
 ghost use Rattle.model_numbers.specs.Numbered.{optional_goal_at, kept_at};
@@ -197,7 +197,7 @@ pub fn exchange_on_top(frames: &mut Frames, waiting: &mut Wait)
 /// Puts a frame on top, below which the one that was there waits so. What it waited for before stands then where what it waits for stood.
 /// Where that is refused the frames are as before.
 pub(crate) fn enter(frames: &mut Frames, frame: Frame, waiting: &mut Wait) -> Result<(), AllocError>
-    ensures ok { OnOk result (frames.new ≡ entered_above frames.old (frame_of frame) waiting.old) }
+    ensures ok { OnOk result (chain_of frames.new ≡ entered_above (chain_of frames.old) (frame_of frame) waiting.old) }
     ensures err { OnErr result (frames.new ≡ frames.old) }
 {
     exchange_on_top(frames, waiting);

@@ -1,6 +1,6 @@
 //! Asks a client about a stack.
-ghost use Rattle.std.specs.Prelude.{◌≡◌, IfOk, Some, option_map, slice_get};
-ghost use Rattle.frames.specs.Chains.{Chain, frames_of};
+ghost use Rattle.std.specs.Prelude.{◌≡◌, List, IfOk, Some, option_map, slice_get};
+ghost use Rattle.frames.specs.Activations.{Activation};
 ghost use Rattle.mu_model.specs.Configuration.{Active};
 ghost use Rattle.mu_model.specs.Answers.{answer_of};
 ghost use Rattle.client_hooks.specs.Plans.{planned};
@@ -24,10 +24,9 @@ struct Asking<'a, C: Determined> {
 impl<'a, C: Determined> Asks for Asking<'a, C> {
     ghost use Rattle.std.specs.Prelude.{◌≡◌, IfOk, option_map};
     ghost use Rattle.mu_model.specs.Answers.{answer_of};
-    ghost use Rattle.client_hooks.specs.Traps.{view_of};
     ghost use Rattle.client_hooks.specs.Plans.{planned};
 
-    ghost asked = { λ old stack new. IfOk new.answer (λ plan. option_map planned plan ≡ answer_of old.view.now.tables (view_of old.view.now stack) (C.stands_for old.client.now)) };
+    ghost asked = { λ old number frames waits new. IfOk new.answer (λ plan. option_map planned plan ≡ answer_of old.view.now.tables (record { thread = old.view.now.thread; watchpoint = old.view.now.watchpoint; asked = old.view.now.asked; frames = frames }) (C.stands_for old.client.now)) };
 
     fn ask(&mut self, stack: ReadyStack) -> ReadyStack {
         match self.client.answer(self.alloc, self.view, stack) {
@@ -59,8 +58,8 @@ pub fn ask<C: Determined>(
 ) -> Result<Option<Plan>, AllocError>
     requires { IsOn seats.old view.now.thread stack }
     ensures same { seats.new ≡ seats.old }
-    ensures answer { (c : Chain) → slice_get seats.old.stacks stack ≡ Some (Active view.now.thread (frames_of c))
-        → IfOk result (λ plan. option_map planned plan ≡ answer_of view.now.tables (record { thread = view.now.thread; watchpoint = view.now.watchpoint; asked = view.now.asked; frames = frames_of c }) (C.stands_for client.now)) }
+    ensures answer { (frames : List Activation) → slice_get seats.old.stacks stack ≡ Some (Active view.now.thread frames)
+        → IfOk result (λ plan. option_map planned plan ≡ answer_of view.now.tables (record { thread = view.now.thread; watchpoint = view.now.watchpoint; asked = view.now.asked; frames = frames }) (C.stands_for client.now)) }
 {
     let waits = Types::from_vec(Vec::from_slice(alloc, view.asked().as_slice())?);
     let mut asking = Asking {

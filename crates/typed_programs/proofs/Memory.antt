@@ -19,7 +19,7 @@ use Rattle.bundle_check.specs.Checking.{bundle_tables}
 use Rattle.code_check.specs.declared.code.Source.{Source}
 use Rattle.code_check.specs.declared.code.AccessForm.{AccessForm}
 use Rattle.code_check.specs.declared.code.AccessForm.TheVariants as accessing
-use Rattle.code_check.specs.Accesses.{updates_type}
+use Rattle.code_check.specs.Accesses.{updates_type, may_load, may_update}
 use Rattle.code_check.specs.Typed.{SourceFits, PlaceFits, HasType, Int64Fits, AccessFits}
 use Rattle.typed_heap.specs.Objects.{HeapObject, leaf_classes}
 use Rattle.typed_heap.specs.Fits.{World, DefinitionFits, ScalarFits, begins, fits, place_fits}
@@ -29,6 +29,7 @@ use Rattle.mu_model.specs.Accesses.{updated}
 use Rattle.mu_model.specs.AccessForms.{cell_act, access_act}
 use Rattle.mu_model.specs.StackForms.{futex_wait_act, futex_wait_timeout_act, futex_wake_act}
 use Rattle.mu_model.specs.Operands.{scalar_in, is_integer, bits_in}
+use Rattle.model_laws.specs.Orders.{OrdersFit}
 use Rattle.model_laws.specs.Places.{IsScalarClass}
 use Rattle.model_laws.specs.AccessesFit.{CellFits, AccessOf, access_gives}
 use Rattle.model_laws.proofs.Basics.{some_is, some_at, and_then}
@@ -131,33 +132,33 @@ module _ (bundle : List Item) (r : Moment bundle) where
         same_leaves bundle r p.refers.target c (record { left = p.refers.within; right = same.left; class = p.refers.class ∙ sym same.class }) ∙ k.leaf
 
     accesses : (l : Source) (t c : ℕ) (d : TypeDef) (o : Option Access) (gs : List ℕ) → IsScalarClass (bundle_tables bundle) c d → class_at (bundle_tables bundle).types t ≡ Some c →
-        PlaceFits (bundle_tables bundle) r.classes l t → GivesAt bundle block at gs → IsSomeAnd o (λ a. AccessOf (graph_of bundle) r.world c a × (gs ≡ access_gives (bundle_tables bundle) c a)) →
+        PlaceFits (bundle_tables bundle) r.classes l t → GivesAt bundle block at gs → IsSomeAnd o (λ a. AccessOf (graph_of bundle) r.world c a × (gs ≡ access_gives (bundle_tables bundle) c a) × OrdersFit a) →
         DoesFit bundle r.world block at (access_act (value_at bundle r.values l) o)
     accesses l t c d o gs k e h gives ho =
         let p = place_of bundle r block at l t h in
         and_then (scalar_in (value_at bundle r.values l)) _ (DefinitionFits (graph_of bundle) r.world (types.Iref p.refers.target)) _ p.scalar (λ x hx.
-        and_then o _ (λ a. AccessOf (graph_of bundle) r.world c a × (gs ≡ access_gives (bundle_tables bundle) c a)) _ ho (λ a ha.
+        and_then o _ (λ a. AccessOf (graph_of bundle) r.world c a × (gs ≡ access_gives (bundle_tables bundle) c a) × OrdersFit a) _ ho (λ a ha.
         celled (acts.Accesses a) p.refers.target c (target_leaf l t c d k e p) (λ cell there.
-        record { class = c; leaf = k.leaf; there = there; access = ha.0; gives = gives ∙ ap (λ cs. Some cs) ha.1 }) x hx))
+        record { class = c; leaf = k.leaf; there = there; access = ha.0; orders = ha.2; gives = gives ∙ ap (λ cs. Some cs) ha.1 }) x hx))
 
     pub access_fits : (f : AccessForm) (gs : List ℕ) → AccessFits (bundle_tables bundle) r.classes f gs → GivesAt bundle block at gs → DoesFit bundle r.world block at (access_at bundle r.values f)
     access_fits (accessing.Load o c l) gs h gives =
         let k = scalar_class bundle r.names r.checked c h.1 in
-        accesses l h.1.number c k.0 (Some (acts.Loads o)) gs k.1 h.1.class h.2 gives (tt, h.3)
+        accesses l h.1.number c k.0 (Some (acts.Loads o)) gs k.1 h.1.class h.2 gives (tt, h.3, h.0)
     access_fits (accessing.Store o c l v) gs h gives =
         let k = scalar_class bundle r.names r.checked c h.1 in
         accesses l h.1.number c k.0 _ gs k.1 h.1.class h.2 gives
-        (and_then (scalar_in (value_at bundle r.values v)) _ (ScalarFits (graph_of bundle) r.world c) _ (scalar_of bundle r c k.0 v k.1 h.3) (λ y hy. (hy, h.4)))
+        (and_then (scalar_in (value_at bundle r.values v)) _ (ScalarFits (graph_of bundle) r.world c) _ (scalar_of bundle r c k.0 v k.1 h.3) (λ y hy. (hy, h.4, h.0)))
     access_fits (accessing.Cmpxchg w o f c l v u) gs h gives =
         let k = scalar_class bundle r.names r.checked c h.2 in
         accesses l h.2.number c k.0 _ gs k.1 h.2.class h.3 gives
         (and_then (scalar_in (value_at bundle r.values v)) _ (ScalarFits (graph_of bundle) r.world c) _ (scalar_of bundle r c k.0 v k.1 h.4) (λ x hx.
-        and_then (scalar_in (value_at bundle r.values u)) _ (ScalarFits (graph_of bundle) r.world c) _ (scalar_of bundle r c k.0 u k.1 h.5) (λ y hy. (hy, h.6))))
+        and_then (scalar_in (value_at bundle r.values u)) _ (ScalarFits (graph_of bundle) r.world c) _ (scalar_of bundle r c k.0 u k.1 h.5) (λ y hy. (hy, h.6, (h.0, (and_parts (may_load f) (may_update f) h.1).0)))))
     access_fits (accessing.Atomicrmw o op c l v) gs h gives =
         let k = scalar_class bundle r.names r.checked c (record { number = h.1.number; class = h.1.class; passes = updates_scalars op _ h.1.passes }) in
         accesses l h.1.number c k.0 _ gs k.1 h.1.class h.2 gives
-        (and_then (scalar_in (value_at bundle r.values v)) _ (ScalarFits (graph_of bundle) r.world c) _ (scalar_of bundle r c k.0 v k.1 h.3) (λ y hy. ((λ x hx. updates_fit op c h.1 y hy x hx), h.4)))
-    access_fits (accessing.Fence o) gs h gives = gives ∙ ap (λ cs. Some cs) h.1
+        (and_then (scalar_in (value_at bundle r.values v)) _ (ScalarFits (graph_of bundle) r.world c) _ (scalar_of bundle r c k.0 v k.1 h.3) (λ y hy. ((λ x hx. updates_fit op c h.1 y hy x hx), h.4, h.0)))
+    access_fits (accessing.Fence o) gs h gives = (gives ∙ ap (λ cs. Some cs) h.1, h.0)
 
     -- ---- waits and wakes
 

@@ -1,70 +1,42 @@
 // The positions of a cell by the values that they hold.
-ghost use Rattle.std.specs.Prelude.{◌≡◌, ℕ, ◌+◌, ◌^◌, ◌<◌, ◌≤◌, [], ◌∷◌, ◌++◌, length, take, nat_lt, if◌then◌else◌, Some, OnOk, IfOk};
-ghost use Rattle.indexmap.specs.IndexMap.{spare, get};
-ghost use Rattle.write_history.specs.Occurrences.{occurrences};
+ghost use Rattle.std.specs.Prelude.{◌≡◌, ℕ, ◌+◌, ◌-◌, ◌^◌, ◌<◌, ◌≤◌, [], ◌∷◌, ◌++◌, length, take, OnOk, IfOk};
+ghost use Rattle.write_history.specs.ByValue.{value_in};
+ghost use Rattle.write_history.specs.Occurrences.{occurrences, IsOther};
+ghost use Rattle.write_history.specs.Searching.{LastIn};
 
-use crate::key::Key;
+use crate::finding::{Positions, Sought, last};
 use crate::past::Past;
-use indexmap::IndexMap;
+use crate::runs::{Starts, settle};
 use mu_base::Steps;
 use mu_values::Scalar;
 use std::alloc::{AllocError, Global};
-use std::marker::Model;
-use std::sync::ledger::Ledger;
+use std::marker::{Brand, Model};
+use std::sync::ledger::{Blank, Ledger};
 
-/// One of the positions that hold a value, by its rank among them, from 0.
-#[derive(Clone, Copy, PartialEq, Eq, Hash)]
-struct Occurrence {
-    value: Key,
-    rank: u32,
-}
-
-/// The positions of a cell, grouped by value. Contracts see the list of values by position, and `spare`, the number of
-/// further values that `add` takes.
+/// The positions of a cell in the order of their values. Contracts see the list of values by position, and `spare`, the number
+/// of further values that `add` takes. It keeps no value: each call is lent the list of them.
 #[derive(Drop)]
 pub(crate) struct Groups {
     values: Past<Scalar>,
-    // How many positions hold each value.
-    counts: IndexMap<Key, u32>,
-    // At which position each occurrence of a value is.
-    places: IndexMap<Occurrence, u32>,
+    // By position: how many earlier positions have its value.
+    ranks: Vec<u32>,
+    // The positions, in four runs, each in the order of values.
+    order: Vec<u32>,
+    starts: Starts,
+    // Room in which runs are merged.
+    merged: Vec<u32>,
 }
 
 impl Model for Groups {
-    ghost use Rattle.std.specs.Prelude.{min, reverse};
-    ghost use Rattle.indexmap.specs.IndexMap.{spare, get};
+    ghost use Rattle.std.specs.Prelude.{◌-◌, min, reverse, length, vec_capacity};
     ghost use Rattle.write_history.specs.Rooms.{Values};
-    ghost use Rattle.write_history.specs.Occurrences.{Grouped};
+    ghost use Rattle.write_history.specs.Grouped.{IsGrouped};
 
     ghost Value = { Values };
 
-    ghost view = { λ a. record { values = reverse a.values.items; spare = min (spare a.counts) (spare a.places) } };
+    ghost view = { λ a. record { values = reverse a.values.items; spare = min (vec_capacity a.order - length a.order.items) (min (vec_capacity a.ranks - length a.ranks.items) (vec_capacity a.merged - length a.order.items)) } };
 
-    ghost invariant = { λ a. Grouped (reverse a.values.items) (λ value. get ⟦<Key as PartialEq>⟧.eq a.counts (record { scalar = value })) (λ value rank. get ⟦<Occurrence as PartialEq>⟧.eq a.places (record { value = record { scalar = value }; rank = rank })) };
-}
-
-/// Puts a number at a value, into room that is there.
-fn put_count(counts: &mut IndexMap<Key, u32>, value: Key, count: u32)
-    requires { 0 < spare counts.old }
-    ensures put { (v : Key) → get ⟦<Key as PartialEq>⟧.eq counts.new v ≡ (if ⟦<Key as PartialEq>⟧.eq value v then Some count else get ⟦<Key as PartialEq>⟧.eq counts.old v) }
-    ensures spare { spare counts.old ≤ spare counts.new + 1 }
-{
-    match counts.insert(value, count) {
-        Ok(_) => {}
-        Err(_) => unreachable!(),
-    }
-}
-
-/// Puts a position at an occurrence, into room that is there.
-fn put_place(places: &mut IndexMap<Occurrence, u32>, occurrence: Occurrence, position: u32)
-    requires { 0 < spare places.old }
-    ensures put { (o : Occurrence) → get ⟦<Occurrence as PartialEq>⟧.eq places.new o ≡ (if ⟦<Occurrence as PartialEq>⟧.eq occurrence o then Some position else get ⟦<Occurrence as PartialEq>⟧.eq places.old o) }
-    ensures spare { spare places.old ≤ spare places.new + 1 }
-{
-    match places.insert(occurrence, position) {
-        Ok(_) => {}
-        Err(_) => unreachable!(),
-    }
+    ghost invariant = { λ a. IsGrouped (reverse a.values.items) a.ranks.items a.order.items a.starts };
 }
 
 impl Groups {
@@ -74,8 +46,14 @@ impl Groups {
     {
         Groups {
             values: Past::new(),
-            counts: IndexMap::new(alloc),
-            places: IndexMap::new(alloc),
+            ranks: Vec::new(alloc),
+            order: Vec::new(alloc),
+            starts: Starts {
+                second: 0,
+                third: 0,
+                fourth: 0,
+            },
+            merged: Vec::new(alloc),
         }
     }
 
@@ -85,79 +63,118 @@ impl Groups {
         ensures room { OnOk result (count ≤ self.new.spare) }
         ensures spare { self.old.spare ≤ self.new.spare }
     {
-        self.counts.reserve(count)?;
-        self.places.reserve(count)
+        self.ranks.reserve(count)?;
+        self.order.reserve(count)?;
+        self.merged.clear();
+        self.merged.reserve(self.order.len() + count)
     }
 
-    /// Adds the value of the next position, which is that one, into room that is there.
-    pub(crate) fn add(&mut self, value: Scalar, position: u32)
-        requires room { 0 < self.old.spare }
-        requires position { position ≡ length self.old.values }
-        requires few { length self.old.values < 4294967295 }
-        ensures values { self.new.values ≡ self.old.values ++ value ∷ [] }
-        ensures spare { self.old.spare ≤ self.new.spare + 1 }
-    {
-        let key = Key { scalar: value };
-        let rank = self.count_of(value);
-        put_count(&mut self.counts, key, rank + 1);
-        put_place(&mut self.places, Occurrence { value: key, rank }, position);
-        self.values = self.values.and(&value);
-    }
-
-    /// How many positions hold the value.
-    fn count_of(&self, value: Scalar) -> u32
-        ensures count { result ≡ occurrences value self.now.values }
-        ensures few { result ≤ length self.now.values }
-    {
-        match self.counts.get(&Key { scalar: value }) {
-            Some(count) => *count,
-            None => 0,
-        }
-    }
-
-    /// Whether the occurrence of the value with that rank is below the position. It counts one step.
-    fn is_below<L: Ledger>(
+    /// The last position that is sought, of those with the values.
+    fn last<L: Ledger>(
         &self,
-        value: Scalar,
-        rank: u32,
-        position: u32,
+        values: &[Scalar],
+        sought: Sought,
         steps: &mut Steps<L>,
-    ) -> bool
-        ensures below { result ≡ nat_lt rank (occurrences value (take position self.now.values)) }
-        ensures cost { steps.new ≡ steps.old + 1 }
+    ) -> Option<u32>
+        requires { values.now ≡ self.now.values }
+        ensures found { LastIn self.now.values sought 0 (length self.now.values) result }
+        ensures cost { (d : ℕ) → length self.now.values < 2 ^ d → steps.new ≤ steps.old + (d + 41) }
     {
-        steps.tick();
-        let value = Key { scalar: value };
-        match self.places.get(&Occurrence { value, rank }) {
-            Some(place) => *place < position,
-            None => false,
-        }
+        let positions = Positions {
+            values,
+            ranks: &self.ranks,
+            order: &self.order,
+        };
+        last(positions, sought, self.starts, steps)
     }
 
-    /// How many positions below that one hold the value. It takes a look-up by hash for the value, and one for each
-    /// occurrence that it looks at, by halves. It counts each look-up as one step: at most d + 1 for every d with fewer than
-    /// 2^d values.
+    /// How many positions up to that one, itself among them, have its value.
+    fn count_up_to(&self, position: u32) -> u32
+        requires there { position < length self.now.values }
+        requires few { length self.now.values ≤ 4294967295 }
+        ensures { result ≡ occurrences (value_in self.now.values position) (take position self.now.values) + 1 }
+    {
+        self.ranks[position as usize] + 1
+    }
+
+    /// How many positions below that one hold the value. It looks at one place of the order at a time, and counts each look as
+    /// one step: at most d + 41 for every d with fewer than 2^d values.
     pub(crate) fn count_below<L: Ledger>(
         &self,
+        values: &[Scalar],
         value: Scalar,
         position: u32,
         steps: &mut Steps<L>,
     ) -> u32
+        requires values { values.now ≡ self.now.values }
+        requires few { length self.now.values ≤ 4294967295 }
         ensures count { result ≡ occurrences value (take position self.now.values) }
-        ensures cost { (d : ℕ) → length self.now.values < 2 ^ d → steps.new ≤ steps.old + (d + 1) }
+        ensures cost { (d : ℕ) → length self.now.values < 2 ^ d → steps.new ≤ steps.old + (d + 41) }
     {
-        steps.tick();
-        let mut low = 0;
-        let mut high = self.count_of(value);
-        while low < high {
-            let middle = low + (high - low) / 2;
-            if self.is_below(value, middle, position, steps) {
-                low = middle + 1;
-            } else {
-                high = middle;
-            }
+        let sought = Sought {
+            value,
+            limit: position,
+            others: false,
+        };
+        match self.last(values, sought, steps) {
+            Some(found) => self.count_up_to(found),
+            None => 0,
         }
-        low
+    }
+
+    /// The position with another value, below which so many have another value. It looks as `count_below` does, and counts
+    /// as many steps.
+    pub(crate) fn other_at<L: Ledger>(
+        &self,
+        values: &[Scalar],
+        value: Scalar,
+        below: u32,
+        steps: &mut Steps<L>,
+    ) -> u32
+        requires values { values.now ≡ self.now.values }
+        requires few { length self.now.values ≤ 4294967295 }
+        requires there { below + occurrences value self.now.values < length self.now.values }
+        ensures other { IsOther value self.now.values below result }
+        ensures cost { (d : ℕ) → length self.now.values < 2 ^ d → steps.new ≤ steps.old + (d + 41) }
+    {
+        let sought = Sought {
+            value,
+            limit: below + 1,
+            others: true,
+        };
+        match self.last(values, sought, steps) {
+            Some(found) => below + self.count_up_to(found),
+            None => below,
+        }
+    }
+
+    /// How many positions hold the value. The counter is one of its own.
+    fn count_of<L: Ledger>(&self, values: &[Scalar], value: Scalar, blank: Blank) -> u32
+        requires name { blank.name ≡ L.name }
+        requires parts { blank.parts ≡ L.parts }
+        requires one { L.parts ≡ 1 }
+        requires values { values.now ≡ self.now.values }
+        requires few { length self.now.values ≤ 4294967295 }
+        ensures { result ≡ occurrences value self.now.values }
+    {
+        let mut steps = Steps::<L>::new(blank);
+        self.count_below(values, value, values.len() as u32, &mut steps)
+    }
+
+    /// Adds the value of the next position, into room that is there. The list ends with it.
+    pub(crate) fn add(&mut self, values: &[Scalar], value: Scalar)
+        requires room { 0 < self.old.spare }
+        requires values { values.now ≡ self.old.values ++ value ∷ [] }
+        requires few { length self.old.values < 4294967295 }
+        ensures values { self.new.values ≡ self.old.values ++ value ∷ [] }
+        ensures spare { self.old.spare ≤ self.new.spare + 1 }
+    {
+        let position = self.order.len();
+        let rank = self.count_of::<Brand>(&values[..position], value, Blank::new(1));
+        self.ranks.push_reserved(rank);
+        self.order.push_reserved(position as u32);
+        self.starts = settle(values, &mut self.order, &mut self.merged, self.starts);
+        self.values = self.values.and(&value);
     }
 }
 
@@ -170,7 +187,7 @@ pub(crate) fn grouped(alloc: Global, values: &[Scalar], count: usize) -> Result<
     let mut groups = Groups::new(alloc);
     groups.reserve(values.len())?;
     for position in 0..values.len() {
-        groups.add(values[position], position as u32);
+        groups.add(&values[..position + 1], values[position]);
     }
     groups.reserve(count)?;
     Ok(groups)

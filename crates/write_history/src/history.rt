@@ -1,6 +1,6 @@
 // The values of one cell.
 ghost use Rattle.std.specs.Prelude.{◌≡◌, ℕ, ◌+◌, ◌-◌, ◌*◌, ◌^◌, ◌<◌, ◌≤◌, [], ◌∷◌, ◌++◌, length, take, slice_get, OnOk};
-ghost use Rattle.write_history.specs.Occurrences.{occurrences};
+ghost use Rattle.write_history.specs.Occurrences.{occurrences, IsOther};
 
 use crate::groups::{Groups, grouped};
 use crate::room::make_room;
@@ -57,6 +57,32 @@ fn count_in_turn<L: Ledger>(
     count
 }
 
+/// The position with another value, below which so many have another value. It looks at each in turn, and counts each as one
+/// step.
+fn other_in_turn<L: Ledger>(
+    values: &[Scalar],
+    value: Scalar,
+    below: u32,
+    steps: &mut Steps<L>,
+) -> u32
+    requires few { length values.now ≤ 64 }
+    requires there { below + occurrences value values.now < length values.now }
+    ensures other { IsOther value values.now below result }
+    ensures cost { steps.new ≤ steps.old + 64 }
+{
+    let mut others = 0;
+    for index in 0..values.len() {
+        steps.tick();
+        if !is_same_scalar(values[index], value) {
+            if others == below {
+                return index as u32;
+            }
+            others += 1;
+        }
+    }
+    unreachable!()
+}
+
 impl History {
     /// A history with no values. It takes no memory yet.
     pub fn new(alloc: Global) -> Self
@@ -102,10 +128,10 @@ impl History {
         ensures values { self.new.values ≡ self.old.values ++ value ∷ [] }
         ensures spare { self.old.spare ≤ self.new.spare + 1 }
     {
-        if let Some(groups) = &mut self.groups {
-            groups.add(value, self.values.len() as u32);
-        }
         self.values.push_reserved(value);
+        if let Some(groups) = &mut self.groups {
+            groups.add(&self.values, value);
+        }
     }
 
     /// The newest position, once the initial scalar was pushed.
@@ -127,16 +153,29 @@ impl History {
         self.values[position as usize]
     }
 
-    /// How many positions below that one hold the value. At most 64 values are looked at in turn. Of more it takes a look-up
-    /// by hash for the value, and one for each occurrence that it looks at, by halves. It counts each look as one step: at
-    /// most d + 65 for every d with fewer than 2^d values.
+    /// How many positions below that one hold the value. At most 64 values are looked at in turn. More are kept in the order of
+    /// values too, and are searched by halves. It counts each look as one step: at most d + 64 for every d with fewer than 2^d
+    /// values.
     pub fn count_below<L: Ledger>(&self, value: Scalar, position: u32, steps: &mut Steps<L>) -> u32
         ensures count { result ≡ occurrences value (take position self.now.values) }
-        ensures cost { (d : ℕ) → length self.now.values < 2 ^ d → steps.new ≤ steps.old + (d + 65) }
+        ensures cost { (d : ℕ) → length self.now.values < 2 ^ d → steps.new ≤ steps.old + (d + 64) }
     {
         match &self.groups {
-            Some(groups) => groups.count_below(value, position, steps),
+            Some(groups) => groups.count_below(&self.values, value, position, steps),
             None => count_in_turn(&self.values, value, position, steps),
+        }
+    }
+
+    /// The position with another value, below which so many have another value. It looks as `count_below` does, and counts as
+    /// many steps.
+    pub fn other_at<L: Ledger>(&self, value: Scalar, below: u32, steps: &mut Steps<L>) -> u32
+        requires there { below + occurrences value self.now.values < length self.now.values }
+        ensures other { IsOther value self.now.values below result }
+        ensures cost { (d : ℕ) → length self.now.values < 2 ^ d → steps.new ≤ steps.old + (d + 64) }
+    {
+        match &self.groups {
+            Some(groups) => groups.other_at(&self.values, value, below, steps),
+            None => other_in_turn(&self.values, value, below, steps),
         }
     }
 
@@ -153,7 +192,7 @@ impl History {
         requires end { end ≤ length self.now.values }
         ensures count { result + occurrences value (take end self.now.values) ≡ end - from + occurrences value (take from self.now.values) }
         ensures at_most { result ≤ end - from }
-        ensures cost { (d : ℕ) → length self.now.values < 2 ^ d → steps.new ≤ steps.old + (2 * d + 130) }
+        ensures cost { (d : ℕ) → length self.now.values < 2 ^ d → steps.new ≤ steps.old + (2 * d + 128) }
     {
         let before = self.count_below(value, from, steps);
         let upto = self.count_below(value, end, steps);

@@ -2,11 +2,13 @@
 #![tactic(auto)]
 
 mod access_index;
+mod finding;
 mod groups;
 mod history;
-mod key;
 mod past;
 mod room;
+mod runs;
+mod scalar_order;
 mod tape;
 
 pub use access_index::{AccessIndex, Entry};

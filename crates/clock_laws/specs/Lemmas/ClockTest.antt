@@ -18,37 +18,12 @@ use Rattle.mem_axioms.specs.declared.types.Kind.{Kind}
 use Rattle.mem_axioms.specs.declared.types.Kind.TheVariants.{Access, Fence, NewStack, NewThread, Leave, Enter, Wake, Woken}
 use Rattle.mem_axioms.specs.Lemmas.Numbers.{any-from, any-some, event-below, event-kept, event-cases, event-newest, event-exists}
 use Rattle.mem_axioms.specs.Lemmas.Steps.{Step, newest-step, step-newest, before-older}
-use Rattle.clock_laws.specs.NamedWakes.{names_wake}
 use Rattle.clock_laws.specs.Clocks.{Views, gains, knew, knows}
 use Rattle.clock_laws.specs.Lemmas.Stands.{Stands, Upto, stands-none, stands-same, stands-or, stands-new, Gains, before-parts}
 
 -- what a head gives: itself, or a release fence before it
 abbrev pub Frees : ℕ → Event → ℕ → Event → Type 0
 Frees k ek h head = ((k ≡ h) × (releases (order_of head) ≡ true)) ⊎ ((k < h) × (ek.thread ≡ head.thread) × (is_fence ek ≡ true) × (releases (order_of ek) ≡ true))
-
--- a Woken names an earlier Wake
-abbrev pub NamesWake : List Event → Event → Type 0
-NamesWake past e = (w : ℕ) → e.kind ≡ Woken w → (ew : Event) × (event_at past w ≡ Some ew) × (is_wake ew ≡ true)
-
-woken-one : (v w : ℕ) → Woken v ≡ Woken w → v ≡ w
-woken-one v w p = cc
-
-at-number : (past : List Event) (i j : ℕ) (e : Event) → i ≡ j → event_at past i ≡ Some e → event_at past j ≡ Some e
-at-number past i j e p h = rw p at h
-
--- the test of that
-pub names-wake-kind : (past : List Event) (t : ℕ) (k : Kind) → names_wake past (record { thread = t; kind = k }) ≡ true → NamesWake past (record { thread = t; kind = k })
-names-wake-kind past t (Woken w) h v p = let s = any-some (λ i ei. eqb i w && is_wake ei) past h in let b = and_parts (eqb s.0 w) _ s.3 in let z = eqb-true s.0 w b.0 in (s.1, at-number past s.0 v s.1 (z ∙ sym (woken-one v w (sym p))) s.2, b.1)
-names-wake-kind past t (Access m c o p x) h v q = absurd (cc)
-names-wake-kind past t (Fence o) h v q = absurd (cc)
-names-wake-kind past t (NewStack s) h v q = absurd (cc)
-names-wake-kind past t (NewThread s) h v q = absurd (cc)
-names-wake-kind past t (Leave s) h v q = absurd (cc)
-names-wake-kind past t (Enter s) h v q = absurd (cc)
-names-wake-kind past t (Wake c n) h v q = absurd (cc)
-
-pub names-wake : (past : List Event) (e : Event) → names_wake past e ≡ true → NamesWake past e
-names-wake past e h = names-wake-kind past e.thread e.kind h
 
 pub give-below : (log : List Event) (s k : ℕ) → last_to_give_up log s k ≡ true → k < length log
 give-below [] s k h = absurd (false≢true h)
@@ -106,9 +81,17 @@ module _ (rule : Rule) where
     pub taken_by : released_to rule log er k ek ≡ true
     pub rest : Upto rule log k i
 
+  -- event w is a wake, and i is it or happens before it
+  pub record Woke (log : List Event) (w i : ℕ) : Type 0 where
+    pub ew : Event
+    pub there : event_at log w ≡ Some ew
+    pub wake : is_wake ew ≡ true
+    pub rest : Upto rule log w i
+
   pub record Correct (log : List Event) (v : Views) : Type 0 where
     pub of_thread : (t : ℕ) → Stands log (λ i. is_known rule log t i ≡ true) (v.thread t)
     pub of_event : (k : ℕ) (ek : Event) → event_at log k ≡ Some ek → Stands log (Upto rule log k) (v.at k)
+    pub of_woke : (w : ℕ) → Stands log (Woke log w) (v.woke w)
     pub of_left : (s : ℕ) → Stands log (Left log s) (v.left s)
     pub of_released : (c : CellId) (q : ℕ) → q ≤ newest log c → Stands log (Sent log c q) (v.released c q)
     pub of_sequence : (c : CellId) (u : ℕ) → Stands log (SentBy log c (newest log c) u) (v.sequence c u)
@@ -146,9 +129,9 @@ module _ (rule : Rule) where
       ]))
 
   module _ (right : List Event → CellId → ℕ → Scalar → Bool) (past : List Event) where
-    gains-kind : (v : Views) (t : ℕ) (k : Kind) → Correct past v → fits_form_by right past (record { thread = t; kind = k }) ≡ true → NamesWake past (record { thread = t; kind = k })
+    gains-kind : (v : Views) (t : ℕ) (k : Kind) → Correct past v → fits_form_by right past (record { thread = t; kind = k }) ≡ true
         → Stands past (Gains rule past (record { thread = t; kind = k })) (gains v (record { thread = t; kind = k }))
-    gains-kind v t (Access mode c o p x) cor f n = go (acquires o && (loads mode && is_atomic o)) refl
+    gains-kind v t (Access mode c o p x) cor f = go (acquires o && (loads mode && is_atomic o)) refl
       where
         e : Event
         e = record { thread = t; kind = Access mode c o p x }
@@ -179,7 +162,7 @@ module _ (rule : Rule) where
               },
             ))
             (cor.of_released c (position_taken (record { thread = t; kind = Access mode c o p x })) (taken-below right past t mode c o p x f parts2.0)))
-    gains-kind v t (Fence o) cor f n = go (acquires o) refl
+    gains-kind v t (Fence o) cor f = go (acquires o) refl
       where
         e : Event
         e = record { thread = t; kind = Fence o }
@@ -213,29 +196,28 @@ module _ (rule : Rule) where
         go : (b : Bool) → acquires o ≡ b → Stands past (Gains rule past (record { thread = t; kind = Fence o })) (gains v (record { thread = t; kind = Fence o }))
         go false q = rw (q, gains) (stands-none past _ (λ i g. false≢true (sym q ∙ (edge i g).0)))
         go true q = rw (q, gains) (stands-same past (Pending past t) _ _ (λ i ei at. (pend i, gain q i)) (cor.of_pending t))
-    gains-kind v t (NewStack s) cor f n = stands-none past _ (λ i g. false≢true g.edge)
-    gains-kind v t (NewThread s) cor f n = stands-none past _ (λ i g. false≢true g.edge)
-    gains-kind v t (Leave s) cor f n = stands-none past _ (λ i g. false≢true g.edge)
-    gains-kind v t (Enter s) cor f n = stands-same past (Left past s) _ _ (λ i ei at. (
+    gains-kind v t (NewStack s) cor f = stands-none past _ (λ i g. false≢true g.edge)
+    gains-kind v t (NewThread s) cor f = stands-none past _ (λ i g. false≢true g.edge)
+    gains-kind v t (Leave s) cor f = stands-none past _ (λ i g. false≢true g.edge)
+    gains-kind v t (Enter s) cor f = stands-same past (Left past s) _ _ (λ i ei at. (
       λ g. (g.k, elim (or_cases (last_to_give_up past s g.k) false g.edge) [ inl q ↦ q | inr q ↦ absurd (false≢true q) ], g.rest),
       λ l. (let x = event-exists past l.0 (give-below past s l.0 l.1) in
           record { k = l.0; ek = x.0; there = x.1; edge = or_left (last_to_give_up past s l.0) false l.1; rest = l.2 }),
     )) (cor.of_left s)
-    gains-kind v t (Wake s m) cor f n = stands-none past _ (λ i g. false≢true g.edge)
-    gains-kind v t (Woken w) cor f n =
-        let x = n w refl in
-        stands-same past (Upto rule past w) _ _ (λ i ei at. (
-          λ g. (let z = eqb-true g.k w (and_parts (eqb g.k w) (is_wake g.ek) g.edge).0 in rw z at g.rest),
-          λ u. record { k = w; ek = x.0; there = x.1; edge = and_from (eqb w w) (is_wake x.0) (eq-eqb w w refl) x.2; rest = u },
-        )) (cor.of_event w x.0 x.1)
+    gains-kind v t (Wake s m) cor f = stands-none past _ (λ i g. false≢true g.edge)
+    gains-kind v t (Woken w) cor f =
+        stands-same past (Woke past w) _ _ (λ i ei at. (
+          λ g. (let p = and_parts (eqb g.k w) (is_wake g.ek) g.edge in let z = eqb-true g.k w p.0 in record { ew = g.ek; there = (rw z at g.there); wake = p.1; rest = (rw z at g.rest) }),
+          λ x. record { k = w; ek = x.ew; there = x.there; edge = and_from (eqb w w) (is_wake x.ew) (eq-eqb w w refl) x.wake; rest = x.rest },
+        )) (cor.of_woke w)
 
     -- what is known before an event, and after it
-    pub knew-stands : (v : Views) (e : Event) → Correct past v → fits_form_by right past e ≡ true → NamesWake past e → Stands past (λ i. happens_before rule (e ∷ past) i (length past) ≡ true) (knew v e)
-    knew-stands v e cor f n = stands-same past (λ i. (is_known rule past e.thread i ≡ true) ⊎ Gains rule past e i) _ _ (λ i ei at. before-parts rule e past i)
-        (stands-or past _ _ _ _ (cor.of_thread e.thread) (gains-kind v e.thread e.kind cor f n))
+    pub knew-stands : (v : Views) (e : Event) → Correct past v → fits_form_by right past e ≡ true → Stands past (λ i. happens_before rule (e ∷ past) i (length past) ≡ true) (knew v e)
+    knew-stands v e cor f = stands-same past (λ i. (is_known rule past e.thread i ≡ true) ⊎ Gains rule past e i) _ _ (λ i ei at. before-parts rule e past i)
+        (stands-or past _ _ _ _ (cor.of_thread e.thread) (gains-kind v e.thread e.kind cor f))
 
-    pub knows-stands : (v : Views) (e : Event) → Correct past v → fits_form_by right past e ≡ true → NamesWake past e → Stands (e ∷ past) (Upto rule (e ∷ past) (length past)) (knows v (length past) e)
-    knows-stands v e cor f n = stands-new rule e past (knew v e) (knew-stands v e cor f n)
+    pub knows-stands : (v : Views) (e : Event) → Correct past v → fits_form_by right past e ≡ true → Stands (e ∷ past) (Upto rule (e ∷ past) (length past)) (knows v (length past) e)
+    knows-stands v e cor f = stands-new rule e past (knew v e) (knew-stands v e cor f)
 
   module _ (e : Event) (past : List Event) where
     -- with one more event, a thread knows what it knew; and the event and what happens before it, where the event is its own or stores it

@@ -16,7 +16,6 @@ use Rattle.mem_axioms.specs.declared.types.Kind.TheVariants.{Access, Fence, NewS
 use Rattle.mem_axioms.specs.Lemmas.Numbers.{any-from, any-some, event-below, event-kept, event-newest, event-exists}
 use Rattle.mem_axioms.specs.Lemmas.Floors.{last-is}
 use Rattle.clock_laws.specs.Clocks.{Clock, views}
-use Rattle.clock_laws.specs.NamedWakes.{wakes_are_named}
 use Rattle.clock_laws.specs.ViewFloor.{known_access, view_limit, fences_knew, raises_view_floor, view_floor}
 use Rattle.clock_laws.specs.Lemmas.Stands.{Stands, stands-ext}
 use Rattle.clock_laws.specs.Lemmas.Tests.{same-test, known-test}
@@ -45,20 +44,20 @@ no-access-kind t (Woken o) c f a = false≢true a
 pub fence-no-access : (e : Event) (c : CellId) → is_fence e ≡ true → accesses c e ≡ true → ⊥
 fence-no-access e c = no-access-kind e.thread e.kind c
 
-module _ (rule : Rule) (right : List Event → CellId → ℕ → Scalar → Bool) (log : List Event) (form : has_form_by right log ≡ true) (named : wakes_are_named log ≡ true) where
+module _ (rule : Rule) (right : List Event → CellId → ℕ → Scalar → Bool) (log : List Event) (form : has_form_by right log ≡ true) where
   limit-same : (t : ℕ) (o : Order) → view_limit (views rule log) log t o ≡ seq_cst_limit rule log t o
   limit-same t o = go (is_seq_cst o) refl
     where
       go : (b : Bool) → is_seq_cst o ≡ b → view_limit (views rule log) log t o ≡ seq_cst_limit rule log t o
       go true p = rw p refl
-      go false p = rw p (last-same _ _ log (λ a ea at. ap (λ b. is_seq_cst_fence ea && b) (sym (known-test rule right log form named t a ea at))))
+      go false p = rw p (last-same _ _ log (λ a ea at. ap (λ b. is_seq_cst_fence ea && b) (sym (known-test rule right log form t a ea at))))
 
   -- the fences before the limit
   pub fences-stand : (t : ℕ) (o : Order) (y : ℕ) (ey : Event) → event_at log y ≡ Some ey → Stands log (Joined rule log (seq_cst_limit rule log t o)) (fences_knew (views rule log) (seq_cst_limit rule log t o) o)
   fences-stand t o y ey at = go (is_seq_cst o) refl
     where
       fences : CorrectFences rule log (views rule log)
-      fences = fences-correct rule right log form named
+      fences = fences-correct rule right log form
 
       test : ℕ → Event → Bool
       test a ea = is_seq_cst_fence ea && is_known rule log t a
@@ -105,4 +104,4 @@ module _ (rule : Rule) (right : List Event → CellId → ℕ → Scalar → Boo
   pub view_floor-is : (t : ℕ) (c : CellId) (o : Order) → view_floor rule log t c o ≡ floor rule log t c o
   unfolding view_floor floor
   view_floor-is t c o = rw (limit-same t o) (greatest-same (raises_view_floor (views rule log) (seq_cst_limit rule log t o) t c o) (raises_floor rule log (seq_cst_limit rule log t o) t c) log (λ y ey at.
-      rw (third-same t c o y ey at, known-test rule right log form named t y ey at) refl))
+      rw (third-same t c o y ey at, known-test rule right log form t y ey at) refl))

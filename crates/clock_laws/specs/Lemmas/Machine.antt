@@ -5,7 +5,7 @@ use Rattle.std.proofs.lemmas.Bool.{ne_eqb, eq-eqb, eqb-true, cases_eq, or_cases,
 use Rattle.mu_values.specs.declared.scalars.Scalar.{Scalar}
 use Rattle.heap_cells.specs.declared.cells.CellId.{CellId}
 use Rattle.heap_cells.specs.CellLaws.{same_cell-refl}
-use Rattle.mem_axioms.specs.Events.{is_atomic, position_of, position_taken, modifies, is_fence, is_update, order_of, loads}
+use Rattle.mem_axioms.specs.Events.{is_atomic, position_of, position_taken, modifies, is_fence, is_update, order_of, loads, is_wake}
 use Rattle.mem_axioms.specs.Logs.{event_at, newest}
 use Rattle.mem_axioms.specs.Synchronizes.{releases, continues, makes_thread, last_to_give_up, gives_up, heads, released, released_to}
 use Rattle.mem_axioms.specs.Form.{fits_form_by, has_form_by}
@@ -17,10 +17,9 @@ use Rattle.mem_axioms.specs.declared.types.Kind.TheVariants.{Access, Fence, NewS
 use Rattle.mem_axioms.specs.Lemmas.Numbers.{any-from, any-some, event-below, event-kept, event-cases, event-newest}
 use Rattle.mem_axioms.specs.Lemmas.Steps.{before-less}
 use Rattle.mem_axioms.specs.Lemmas.Positions.{fits-next, form-position, newest-changed, newest-same, heads-below}
-use Rattle.clock_laws.specs.NamedWakes.{names_wake, wakes_are_named}
 use Rattle.clock_laws.specs.Clocks.{Views, start, join, knows, gives, pends, after, views}
 use Rattle.clock_laws.specs.Lemmas.Stands.{Stands, Upto, upto-less, upto-older, stands-none, stands-same, stands-or, stands-ext, stands-older}
-use Rattle.clock_laws.specs.Lemmas.ClockTest.{taken-below, Sent, SentBy, Left, Fenced, Pending, Correct, NamesWake, names-wake, released-sent, sent-released, give-below, known-new, known-own, knows-stands}
+use Rattle.clock_laws.specs.Lemmas.ClockTest.{taken-below, Sent, SentBy, Left, Fenced, Pending, Correct, Woke, released-sent, sent-released, give-below, known-new, known-own, knows-stands}
 use Rattle.clock_laws.specs.Lemmas.Sequences.{Own, own-stands, sequenced, older-at, sent-same, sent_by-same, sequence-new, released-new, heads-same}
 
 module _ (rule : Rule) where
@@ -114,9 +113,9 @@ module _ (rule : Rule) where
   pends-kind right past v t (Wake o m) cor f = stands-none past _ (λ i g. false≢true g.taken_by)
   pends-kind right past v t (Woken o) cor f = stands-none past _ (λ i g. false≢true g.taken_by)
 
-  module _ (right : List Event → CellId → ℕ → Scalar → Bool) (e : Event) (past : List Event) (v : Views) (cor : Correct rule past v) (form : has_form_by right past ≡ true) (f : fits_form_by right past e ≡ true) (n : NamesWake past e) where
+  module _ (right : List Event → CellId → ℕ → Scalar → Bool) (e : Event) (past : List Event) (v : Views) (cor : Correct rule past v) (form : has_form_by right past ≡ true) (f : fits_form_by right past e ≡ true) where
     pub own : Stands (e ∷ past) (Upto rule (e ∷ past) (length past)) (knows v (length past) e)
-    own = knows-stands rule right past v e cor f n
+    own = knows-stands rule right past v e cor f
 
     own_gives : Stands (e ∷ past) (Own rule e past) (gives v (length past) e)
     own_gives = own-stands rule e past v own (cor.of_fenced e.thread)
@@ -150,6 +149,34 @@ module _ (rule : Rule) where
         go (inl p) = stands-ext (e ∷ past) _ (knows v (length past) e) _ (λ u. rw (eq-eqb k (length past) p.0) refl) (rw p.0 own)
         go (inr p) = stands-ext (e ∷ past) _ (v.at k) _ (λ u. rw (ne_eqb k (length past) (λ z. (let l = p.0 in omega arith))) refl) (stands-older e past (Upto rule past k) (Upto rule (e ∷ past) k) (v.at k) (λ i l. upto-older rule e past k i p.0)
             (λ u. let l = upto-less rule (e ∷ past) k (length past) u in let m = p.0 in omega arith) (cor.of_event k ek p.1))
+
+    woke_after : (w : ℕ) → Stands (e ∷ past) (Woke rule (e ∷ past) w) ((after rule v (length past) e).woke w)
+    woke_after w = go (is_wake e && eqb w (length past)) refl
+      where
+        go : (b : Bool) → (is_wake e && eqb w (length past)) ≡ b → Stands (e ∷ past) (Woke rule (e ∷ past) w) ((after rule v (length past) e).woke w)
+        go true p =
+            let q = and_parts (is_wake e) (eqb w (length past)) p in
+            let z = eqb-true w (length past) q.1 in
+            stands-ext (e ∷ past) _ (knows v (length past) e) _ (λ u. rw p refl) (stands-same (e ∷ past) (Upto rule (e ∷ past) (length past)) (Woke rule (e ∷ past) w) _ (λ i ei at. (
+              λ x. (rw z at x.rest),
+              λ u. record { ew = e; there = ap (λ (k : ℕ). event_at (e ∷ past) k) z ∙ event-newest e past; wake = q.0; rest = rw z u },
+            )) own)
+        go false p = stands-ext (e ∷ past) _ (v.woke w) _ (λ u. rw p refl) (stands-older e past (Woke rule past w) (Woke rule (e ∷ past) w) (v.woke w) (λ i l. (older i, newer i)) late (cor.of_woke w))
+          where
+            there : (i : ℕ) → (x : Woke rule (e ∷ past) w i) → (w < length past) × (event_at past w ≡ Some x.ew)
+            there i x = elim (event-cases e past w x.ew x.there) [
+              | inl c ↦ absurd (false≢true (sym p ∙ and_from (is_wake e) (eqb w (length past)) (rw c.1 at x.wake) (eq-eqb w (length past) c.0)))
+              | inr c ↦ c
+            ]
+
+            older : (i : ℕ) → Woke rule (e ∷ past) w i → Woke rule past w i
+            older i x = let c = there i x in record { ew = x.ew; there = c.1; wake = x.wake; rest = (upto-older rule e past w i c.0).0 x.rest }
+
+            newer : (i : ℕ) → Woke rule past w i → Woke rule (e ∷ past) w i
+            newer i x = record { ew = x.ew; there = event-kept e past w x.ew x.there; wake = x.wake; rest = (upto-older rule e past w i (event-below past w x.ew x.there)).1 x.rest }
+
+            late : Woke rule (e ∷ past) w (length past) → ⊥
+            late x = let c = there (length past) x in let l = upto-less rule (e ∷ past) w (length past) x.rest in let m = c.0 in omega arith
 
     left_after : (s : ℕ) → Stands (e ∷ past) (Left rule (e ∷ past) s) ((after rule v (length past) e).left s)
     left_after s = go (gives_up s e) refl
@@ -296,12 +323,13 @@ module _ (rule : Rule) where
         )) kept)
 
     correct-after : Correct rule (e ∷ past) (after rule v (length past) e)
-    correct-after = record { of_thread = thread_after; of_event = event_after; of_left = left_after; of_released = released_after; of_sequence = sequence_after; of_fenced = fenced_after; of_pending = pending_after }
+    correct-after = record { of_thread = thread_after; of_event = event_after; of_woke = woke_after; of_left = left_after; of_released = released_after; of_sequence = sequence_after; of_fenced = fenced_after; of_pending = pending_after }
 
   correct-start : Correct rule [] start
   correct-start = record {
     of_thread = λ t. stands-none [] (λ i. is_known rule [] t i ≡ true) (λ i h. (let l = known-less [] t i h in omega arith));
     of_event = λ k ek at. absurd (cc);
+    of_woke = λ w. stands-none [] (Woke rule [] w) (λ i x. (let l = event-below [] w x.ew x.there in omega arith));
     of_left = λ s. stands-none [] (Left rule [] s) (λ i x. false≢true x.1);
     of_released = λ c q l. stands-none [] (Sent rule [] c q) (λ i x. false≢true x.heads_it);
     of_sequence = λ c u. stands-none [] (SentBy rule [] c 0 u) (λ i x. false≢true x.0.heads_it);
@@ -310,9 +338,8 @@ module _ (rule : Rule) where
   }
 
   -- the clocks of a log are right
-  pub views-correct : (right : List Event → CellId → ℕ → Scalar → Bool) (log : List Event) → has_form_by right log ≡ true → wakes_are_named log ≡ true → Correct rule log (views rule log)
-  views-correct right [] h n = correct-start
-  views-correct right (e ∷ past) h n =
+  pub views-correct : (right : List Event → CellId → ℕ → Scalar → Bool) (log : List Event) → has_form_by right log ≡ true → Correct rule log (views rule log)
+  views-correct right [] h = correct-start
+  views-correct right (e ∷ past) h =
       let p = and_parts (fits_form_by right past e) (has_form_by right past) h in
-      let q = and_parts (names_wake past e) (wakes_are_named past) n in
-      correct-after right e past (views rule past) (views-correct right past p.1 q.1) p.1 p.0 (names-wake past e q.0)
+      correct-after right e past (views rule past) (views-correct right past p.1) p.1 p.0

@@ -9,10 +9,9 @@ use Rattle.mem_axioms.specs.Form.{fits_form_by, has_form_by}
 use Rattle.mem_axioms.specs.declared.types.Event.{Event}
 use Rattle.mem_axioms.specs.declared.types.Rule.{Rule}
 use Rattle.mem_axioms.specs.Lemmas.Numbers.{event-below, event-kept, event-cases, event-newest}
-use Rattle.clock_laws.specs.NamedWakes.{names_wake, wakes_are_named}
 use Rattle.clock_laws.specs.Clocks.{Clock, Views, join, knows, after, views}
 use Rattle.clock_laws.specs.Lemmas.Stands.{Stands, Upto, upto-less, upto-older, stands-none, stands-same, stands-or, stands-ext, stands-older}
-use Rattle.clock_laws.specs.Lemmas.ClockTest.{Correct, NamesWake, names-wake}
+use Rattle.clock_laws.specs.Lemmas.ClockTest.{Correct}
 use Rattle.clock_laws.specs.Lemmas.Sequences.{older-at}
 use Rattle.clock_laws.specs.Lemmas.Machine.{own, views-correct}
 
@@ -30,7 +29,7 @@ module _ (rule : Rule) where
     pub of_joined : Stands log (Joined log (length log)) v.joined
     pub of_before : (a : ℕ) (ea : Event) → event_at log a ≡ Some ea → Stands log (Joined log a) (v.before a)
 
-  module _ (right : List Event → CellId → ℕ → Scalar → Bool) (e : Event) (past : List Event) (v : Views) (cor : Correct rule past v) (form : has_form_by right past ≡ true) (f : fits_form_by right past e ≡ true) (n : NamesWake past e) (fen : CorrectFences past v) where
+  module _ (right : List Event → CellId → ℕ → Scalar → Bool) (e : Event) (past : List Event) (v : Views) (cor : Correct rule past v) (form : has_form_by right past ≡ true) (f : fits_form_by right past e ≡ true) (fen : CorrectFences past v) where
     joined_older : (a i : ℕ) → a ≤ length past → (Joined (e ∷ past) a i ↔ Joined past a i)
     joined_older a i l = (
       λ x. (let z = x.less in let k : x.b < length past = omega arith in record { b = x.b; eb = x.eb; at_b = older-at rule e past x.b x.eb x.at_b k; fence = x.fence; less = x.less; rest = (upto-older rule e past x.b i k).0 x.rest }),
@@ -54,7 +53,7 @@ module _ (rule : Rule) where
             | inr y ↦ record { b = length past; eb = e; at_b = event-newest e past; fence = p; less = omega arith; rest = y }
           ],
         ))
-            (stands-or (e ∷ past) _ _ _ _ (kept_joined (length past) v.joined (omega arith) fen.of_joined) (own rule right e past v cor form f n)))
+            (stands-or (e ∷ past) _ _ _ _ (kept_joined (length past) v.joined (omega arith) fen.of_joined) (own rule right e past v cor form f)))
         go false p = stands-ext (e ∷ past) _ v.joined _ (λ u. rw p refl) (stands-same (e ∷ past) (Joined (e ∷ past) (length past)) (Joined (e ∷ past) (suc (length past))) _ (λ i ei at. (
           λ x. elim (cases_eq x.b (length past)) [
             | inl q ↦ (let z : event_at (e ∷ past) (length past) ≡ Some x.eb = rw q at x.at_b in let m = event-newest e past in let same : x.eb ≡ e = cc in absurd (false≢true (sym p ∙ (rw same at x.fence))))
@@ -70,12 +69,10 @@ module _ (rule : Rule) where
       | inr p ↦ (let l = p.0 in stands-ext (e ∷ past) _ (v.before a) _ (λ u. rw (ne_eqb a (length past) (λ z. omega arith)) refl) (kept_joined a (v.before a) (omega arith) (fen.of_before a ea p.1)))
     ]
 
-  pub fences-correct : (right : List Event → CellId → ℕ → Scalar → Bool) (log : List Event) → has_form_by right log ≡ true → wakes_are_named log ≡ true → CorrectFences log (views rule log)
-  fences-correct right [] h n = record { of_joined = stands-none [] (Joined [] 0) (λ i x. (let l = event-below [] x.b x.eb x.at_b in omega arith)); of_before = λ a ea at. absurd (cc) }
-  fences-correct right (e ∷ past) h n =
+  pub fences-correct : (right : List Event → CellId → ℕ → Scalar → Bool) (log : List Event) → has_form_by right log ≡ true → CorrectFences log (views rule log)
+  fences-correct right [] h = record { of_joined = stands-none [] (Joined [] 0) (λ i x. (let l = event-below [] x.b x.eb x.at_b in omega arith)); of_before = λ a ea at. absurd (cc) }
+  fences-correct right (e ∷ past) h =
       let p = and_parts (fits_form_by right past e) (has_form_by right past) h in
-      let q = and_parts (names_wake past e) (wakes_are_named past) n in
-      let c = views-correct rule right past p.1 q.1 in
-      let w = fences-correct right past p.1 q.1 in
-      let k = names-wake past e q.0 in
-      record { of_joined = joined_after right e past (views rule past) c p.1 p.0 k w; of_before = before_after right e past (views rule past) c p.1 p.0 k w }
+      let c = views-correct rule right past p.1 in
+      let w = fences-correct right past p.1 in
+      record { of_joined = joined_after right e past (views rule past) c p.1 p.0 w; of_before = before_after right e past (views rule past) c p.1 p.0 w }

@@ -12,9 +12,8 @@ use Rattle.mem_axioms.specs.declared.types.Event.{Event}
 use Rattle.mem_axioms.specs.declared.types.Rule.{Rule}
 use Rattle.mem_axioms.specs.Lemmas.Steps.{before-less}
 use Rattle.clock_laws.specs.Clocks.{Clock, knew, views}
-use Rattle.clock_laws.specs.NamedWakes.{names_wake, wakes_are_named}
 use Rattle.clock_laws.specs.Lemmas.Stands.{Stands, Upto}
-use Rattle.clock_laws.specs.Lemmas.ClockTest.{names-wake, knew-stands, give-below}
+use Rattle.clock_laws.specs.Lemmas.ClockTest.{knew-stands, give-below}
 use Rattle.clock_laws.specs.Lemmas.Machine.{views-correct}
 
 -- tests that hold together are equal
@@ -30,21 +29,21 @@ stands-test log S K b i ei s at there back = same-test b (ltb i (K ei.thread))
     (λ h. lt-ltb i (K ei.thread) ((s.exact i ei at).0 (there h)))
     (λ h. back ((s.exact i ei at).1 (ltb-true i (K ei.thread) h)))
 
-module _ (rule : Rule) (right : List Event → CellId → ℕ → Scalar → Bool) (log : List Event) (form : has_form_by right log ≡ true) (named : wakes_are_named log ≡ true) where
+module _ (rule : Rule) (right : List Event → CellId → ℕ → Scalar → Bool) (log : List Event) (form : has_form_by right log ≡ true) where
   pub before-test : (i k : ℕ) (ei ek : Event) → event_at log i ≡ Some ei → event_at log k ≡ Some ek → happens_before rule log i k ≡ (ltb i k && ltb i ((views rule log).at k ei.thread))
   before-test i k ei ek at_i at_k = same-test _ _
       (λ h. and_from (ltb i k) _ (lt-ltb i k (before-less rule log i k h).0) (lt-ltb i ((views rule log).at k ei.thread) ((s.exact i ei at_i).0 (inr h))))
       (λ h. let p = and_parts (ltb i k) _ h in let l = ltb-true i k p.0 in elim ((s.exact i ei at_i).1 (ltb-true i ((views rule log).at k ei.thread) p.1)) [ inl q ↦ absurd (omega arith) | inr q ↦ q ])
     where
       s : Stands log (Upto rule log k) ((views rule log).at k)
-      s = (views-correct rule right log form named).of_event k ek at_k
+      s = (views-correct rule right log form).of_event k ek at_k
 
   pub known-test : (t i : ℕ) (ei : Event) → event_at log i ≡ Some ei → is_known rule log t i ≡ ltb i ((views rule log).thread t ei.thread)
-  known-test t i ei at = stands-test log (λ i. is_known rule log t i ≡ true) ((views rule log).thread t) (is_known rule log t i) i ei ((views-correct rule right log form named).of_thread t) at (λ h. h) (λ h. h)
+  known-test t i ei at = stands-test log (λ i. is_known rule log t i ≡ true) ((views rule log).thread t) (is_known rule log t i) i ei ((views-correct rule right log form).of_thread t) at (λ h. h) (λ h. h)
 
-  pub next-test : (e : Event) → fits_form_by right log e ≡ true → names_wake log e ≡ true → (i : ℕ) (ei : Event) → event_at log i ≡ Some ei → happens_before rule (e ∷ log) i (length log) ≡ ltb i (knew (views rule log) e ei.thread)
-  next-test e f n i ei at = stands-test log (λ i. happens_before rule (e ∷ log) i (length log) ≡ true) (knew (views rule log) e) (happens_before rule (e ∷ log) i (length log)) i ei
-      (knew-stands rule right log (views rule log) e (views-correct rule right log form named) f (names-wake log e n)) at (λ h. h) (λ h. h)
+  pub next-test : (e : Event) → fits_form_by right log e ≡ true → (i : ℕ) (ei : Event) → event_at log i ≡ Some ei → happens_before rule (e ∷ log) i (length log) ≡ ltb i (knew (views rule log) e ei.thread)
+  next-test e f i ei at = stands-test log (λ i. happens_before rule (e ∷ log) i (length log) ≡ true) (knew (views rule log) e) (happens_before rule (e ∷ log) i (length log)) i ei
+      (knew-stands rule right log (views rule log) e (views-correct rule right log form) f) at (λ h. h) (λ h. h)
 
 -- a left stack
 pub left-clock : (rule : Rule) (log : List Event) (s k : ℕ) → last_to_give_up log s k ≡ true → (u : ℕ) → (views rule log).left s u ≡ (views rule log).at k u

@@ -1,8 +1,9 @@
 use Rattle.mu_command.proofs.Accepting.{accepted_cause}
 use Rattle.mu_command.proofs.Causes.{read_fault_cause, refused_cause, too_long_cause}
 use Rattle.mu_command.proofs.Completeness.{complete}
+use Rattle.mu_command.proofs.AutoClient.{auto_goes_on}
 use Rattle.mu_command.proofs.Moments.{of_sound}
-use Rattle.mu_command.specs.Central.{HasSoundLog, HasOneOwner, IsNotStuck}
+use Rattle.mu_command.specs.Central.{AutoGoesOn, HasSoundLog, HasOneOwner, IsNotStuck}
 use Rattle.text_programs.specs.Moments.{EndsSoundly}
 use Rattle.text_programs.specs.Offers.{OffersExactly}
 use Rattle.mu_command.proofs.program.mu.Goals as goal
@@ -36,3 +37,9 @@ returns-clause-too_long g c = λ s. too_long_cause _ _ _ _ _ _ _ c.answer.ensure
 
 pub returns-clause-read_fault : goal.returns-clause-read_fault
 returns-clause-read_fault g c = λ s. read_fault_cause _ _ _ _ _ _ _ c.answer.ensures.answered s
+
+pub returns-clause-auto_goes_on : goal.returns-clause-auto_goes_on
+returns-clause-auto_goes_on g c = of_sound AutoGoesOn (λ p c m. auto_goes_on p c m.rule) c.args.words.now (c.runs_are_sound.ensures c.args.words.now)
+
+pub returns-clause-ends : goal.returns-clause-ends
+returns-clause-ends g c = c.runs_have_their_endings.ensures c.args.words.now

@@ -1,4 +1,5 @@
 use Rattle.std.proofs.Common.{ap, sym, ◌∙◌}
+use Rattle.frames.specs.Chains.{chain_of}
 use Rattle.thread_acts.specs.Held.{Held}
 use Rattle.thread_acts.specs.Hand.{hand_made, hand_on, hand_within}
 use Rattle.mu_step.specs.EnteringLaws.{enter_fits, entered_sound}
@@ -12,7 +13,7 @@ pub switch_ending-ended-requires-clause-within : goal.switch_ending-ended-requir
 switch_ending-ended-requires-clause-within g c = hand_within _ _ _ _ _ c.state.invariant.5 (ap (λ (s : Held). s.left) c.state.view_is ∙ c.requires.left)
 
 pub arrive-requires : goal.arrive-requires
-arrive-requires g c = lands_low _ _ _ _ c.args.landing.arrival _ c.state.view_is c.switch_ending-ended.ensures.frames c.requires.lands
+arrive-requires g c = lands_low _ _ _ (chain_of c.switch_ending-ended.new.frames) c.args.landing.arrival _ c.state.view_is c.switch_ending-ended.ensures.frames c.requires.lands
 
 pub log_other-requires-clause-fits : goal.log_other-requires-clause-fits
 log_other-requires-clause-fits g c = enter_fits _ _ _ _ _ _ c.reserve.ensures.same_log (hand_made _ _ _ _ _ c.state.invariant.5 (ap (λ (s : Held). s.left) c.state.view_is ∙ c.requires.left))

@@ -1,5 +1,5 @@
 use Rattle.std.proofs.Common.{ap, sym, ◌∙◌}
-use Rattle.frames.specs.Chains.{Chain}
+use Rattle.frames.specs.Chains.{StoredChain, chain_of}
 use Rattle.thread_acts.specs.Held.{Held}
 use Rattle.thread_acts.specs.Hand.{hand_made, hand_on, hand_within}
 use Rattle.mu_step.specs.EnteringLaws.{leave_fits, enter_fits_then, swapped_sound}
@@ -13,10 +13,10 @@ pub switch-passed-requires-clause-within : goal.switch-passed-requires-clause-wi
 switch-passed-requires-clause-within g c = hand_within _ _ _ _ _ c.state.invariant.5 (ap (λ (s : Held). s.left) c.state.view_is ∙ c.requires.left)
 
 pub switch-passed-requires-clause-waits : goal.switch-passed-requires-clause-waits
-switch-passed-requires-clause-waits g c = ap (λ (f : Chain). f.top.waits) c.exchange_on_top.ensures.frames ∙ sym (c.in_ok-waits.ensures ∙ c.waits.ensures)
+switch-passed-requires-clause-waits g c = ap (λ (f : StoredChain). f.top.waits) c.exchange_on_top.ensures.frames ∙ sym (c.in_ok-waits.ensures ∙ c.waits.ensures)
 
 pub arrive-requires : goal.arrive-requires
-arrive-requires g c = lands_low _ _ _ _ c.args.landing.arrival _ c.state.view_is c.switch-passed.ensures.frames c.requires.lands
+arrive-requires g c = lands_low _ _ _ (chain_of c.switch-passed.new.frames) c.args.landing.arrival _ c.state.view_is c.switch-passed.ensures.frames c.requires.lands
 
 pub log_two-requires-clause-first_fits : goal.log_two-requires-clause-first_fits
 log_two-requires-clause-first_fits g c = leave_fits _ _ _ _ _ _ c.reserve.ensures.same_log (hand_made _ _ _ _ _ c.state.invariant.5 (ap (λ (s : Held). s.left) c.state.view_is ∙ c.requires.left))
@@ -26,7 +26,7 @@ log_two-requires-clause-second_fits g c = enter_fits_then _ _ _ _ _ _ _ c.reserv
 
 pub returns-clause-ok : goal.returns-clause-ok
 returns-clause-ok g c =
-    swaps_so c.args.state.now _ _ _ c.args.landing.arrival _ _ _ _ _ _ _ _ _ _ _ _ c.state.view_is c.requires.left c.exchange_on_top.ensures.frames c.switch-passed.ensures.frames c.switch-passed.ensures.moved c.arrive.ensures.frames c.arrive.ensures.objects
+    swaps_so c.args.state.now _ _ _ c.args.landing.arrival _ _ _ _ _ _ _ _ _ _ _ _ c.state.view_is c.requires.left (ap chain_of c.exchange_on_top.ensures.frames) c.switch-passed.ensures.frames c.switch-passed.ensures.moved c.arrive.ensures.frames c.arrive.ensures.objects
     c.arrive.ensures.left c.reserve.ensures.same_log c.reserve.ensures.same_rule c.log_two.ensures.log c.log_two.ensures.same_rule
 
 pub invariant_of-state-2 : goal.invariant_of-state-2

@@ -1,4 +1,5 @@
 use Rattle.std.proofs.Common.{ap, sym, ◌∙◌, length}
+use Rattle.frames.specs.Chains.{chain_of}
 use Rattle.thread_acts.specs.Held.{Held}
 use Rattle.thread_acts.specs.Hand.{hand_made, hand_on}
 use Rattle.mu_step.specs.StartLaws.{new_enters}
@@ -10,7 +11,7 @@ pub switch_starting-passed-requires-clause-on : goal.switch_starting-passed-requ
 switch_starting-passed-requires-clause-on g c = hand_on _ _ _ _ _ c.state.invariant.5 (ap (λ (s : Held). s.left) c.state.view_is ∙ c.requires.left)
 
 pub arrive-requires : goal.arrive-requires
-arrive-requires g c = lands_low _ _ _ _ c.args.landing.arrival _ c.state.view_is c.switch_starting-passed.ensures.frames c.requires.lands
+arrive-requires g c = lands_low _ _ _ (chain_of c.switch_starting-passed.new.frames) c.args.landing.arrival _ c.state.view_is c.switch_starting-passed.ensures.frames c.requires.lands
 
 pub log_two-requires-clause-first_fits : goal.log_two-requires-clause-first_fits
 log_two-requires-clause-first_fits g c =
@@ -21,7 +22,7 @@ log_two-requires-clause-second_fits g c = new_enters _ _ _ _ _ _
 
 pub returns-clause-ok : goal.returns-clause-ok
 returns-clause-ok g c =
-    begins_so c.args.state.now _ _ _ _ c.args.landing.arrival _ _ _ _ _ _ _ _ _ _ _ _ _ _ _ _ c.state.view_is c.requires.left c.requires.other (c.made-number.ensures ∙ ap (λ (s : Held). length s.seats.threads) c.state.view_is) c.stand.ensures c.switch_starting-passed.ensures.frames c.switch_starting-passed.ensures.started
+    begins_so c.args.state.now _ _ _ _ c.args.landing.arrival _ _ _ _ _ _ _ _ _ _ _ _ _ _ _ _ c.state.view_is c.requires.left c.requires.other (c.made-number.ensures ∙ ap (λ (s : Held). length s.seats.threads) c.state.view_is) (ap chain_of c.stand.ensures) c.switch_starting-passed.ensures.frames c.switch_starting-passed.ensures.started
     c.arrive.ensures.frames c.arrive.ensures.objects c.arrive.ensures.left c.reserve.ensures.same_log c.reserve.ensures.same_rule c.log_two.ensures.log c.log_two.ensures.same_rule c.state.invariant.1 c.in_ok-lines.ensures
 
 pub invariant_of-state-2 : goal.invariant_of-state-2

@@ -1,4 +1,5 @@
 use Rattle.std.proofs.Common.{◌∙◌, ap, sym, subst, arith, length, List}
+use Rattle.frames.specs.Chains.{chain_of}
 use Rattle.mem_axioms.specs.declared.types.Event.{Event}
 use Rattle.mem_axioms.specs.EventFits.{is_thread}
 use Rattle.thread_acts.specs.Held.{Held}
@@ -39,4 +40,4 @@ invariant_of-state-2 g c =
 pub returns-clause-ok : goal.returns-clause-ok
 returns-clause-ok g c =
     waked c.args.code.now c.args.state.now _ c.args.many c.args.cell _ (record { view = c.state.view_is; left = c.requires.left; sound = c.state.invariant.5; alone = c.requires.goes_on; those = c.as_slice-woken.ensures ∙ c.waking-waking.ensures }) c.requires.there _ _ _ _ _ _ _ _ _ _ _ _ _ _ _ _ (c.count-count.ensures.is ∙ ap length (sym c.as_slice-woken.ensures)) c.state.invariant.1 c.top.ensures c.in_ok-tell.ensures c.in_ok-place.ensures c.in_ok-go_on_all.ensures.ok c.wake-gone.ensures.others
-    c.in_ok-go_on_all.ensures.frames c.stand.ensures c.reserve.ensures.same_log c.log_wake.ensures.added c.reserve.ensures.same_rule c.log_wake.ensures.same_rule c.in_ok-lines.ensures
+    c.in_ok-go_on_all.ensures.frames (ap chain_of c.stand.ensures) c.reserve.ensures.same_log c.log_wake.ensures.added c.reserve.ensures.same_rule c.log_wake.ensures.same_rule c.in_ok-lines.ensures

@@ -1,5 +1,5 @@
 use Rattle.std.proofs.Common.{◌∙◌, ap}
-use Rattle.frames.specs.Chains.{frames_of}
+use Rattle.frames.specs.Chains.{frames_in}
 use Rattle.thread_acts.specs.Acting.{objects_end}
 use Rattle.thread_acts.specs.Lists.{frame_next}
 use Rattle.thread_acts.specs.Remembering.{ends_same}
@@ -7,7 +7,7 @@ use Rattle.thread_acts.proofs.objects.end_frames.Goals as goal
 
 pub loop-n-preserved : goal.loop-n-preserved
 loop-n-preserved c = record {
-  ended = frame_next (frames_of c.args.frames.now) c.loop-n.n _ _ _ _ c.frame.ensures c.loop-n.invariant.ended (c.end_objects.ensures.objects ∙ ap (objects_end c.loop-n.heap.objects) c.as_slice.ensures);
+  ended = frame_next (frames_in c.args.frames.now) c.loop-n.n _ _ _ _ c.frame.ensures c.loop-n.invariant.ended (c.end_objects.ensures.objects ∙ ap (objects_end c.loop-n.heap.objects) c.as_slice.ensures);
   same = c.end_objects.ensures.left ∙ c.loop-n.invariant.same;
 }
 

@@ -1,12 +1,12 @@
 use Rattle.std.proofs.Common.{◌≡◌, take}
 use Rattle.std.specs.List.{flat_map}
 use Rattle.frames.specs.Activations.{Activation}
-use Rattle.frames.specs.Chains.{frames_of}
+use Rattle.frames.specs.Chains.{frames_in}
 use Rattle.thread_acts.specs.Acting.{objects_end}
 use Rattle.thread_acts.proofs.objects.end_frames.Given as goal
 
 abbrev pub invariant-loop-n : goal.invariant-loop-n
 invariant-loop-n l = record {
-  ended : l.heap.objects ≡ objects_end l.initial.heap.objects (flat_map (λ (f : Activation). f.objects) (take l.n (frames_of l.frames)));
+  ended : l.heap.objects ≡ objects_end l.initial.heap.objects (flat_map (λ (f : Activation). f.objects) (take l.n (frames_in l.frames)));
   same : l.heap.left ≡ l.initial.heap.left;
 }

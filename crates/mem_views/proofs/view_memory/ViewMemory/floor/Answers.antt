@@ -29,7 +29,7 @@ returns-clause-floor g c =
     let memory = c.args.self.now in
     let log = memory.tape.events in
     floor-found memory.rule (initial_of memory.objects.values) log c.args.thread c.args.cell c.args.order c.in-Some.kept.now c.of-known.result.now c.below-below.result c.fences_before-before.result c.greatest_of_kinds.result c.limit-limit.result
-    memory.log_holds.sound.axioms memory.log_holds.named c.in-Some.ensures.views (λ y ey at. memory.log_holds.small ey.thread (memory.log_holds.threads y ey at))
+    memory.log_holds.sound.axioms c.in-Some.ensures.views (λ y ey at. memory.log_holds.small ey.thread (memory.log_holds.threads y ey at))
     (λ u. c.of-known.ensures u ∙ memory.rows_hold.threads c.args.thread u) c.limit-limit.ensures.limit c.below-below.ensures
     (λ u. c.fences_before-before.ensures u ∙ before-known memory.rule log c.args.thread c.args.order memory.rows c.limit-limit.result memory.rows_hold c.limit-limit.ensures.limit u)
     c.greatest_of_kinds.ensures.found
@@ -58,7 +58,7 @@ returns-then-not-seq_cst-clause-floor g c =
     let zero : c.limit-limit.result ≡ 0 = c.if-limit-eq0.true in
     let relaxed : is_seq_cst c.args.order ≡ false = sym c.if-not-seq_cst.ensures in
     floor-found memory.rule (initial_of memory.objects.values) log c.args.thread c.args.cell c.args.order c.in-Some.kept.now c.of-known.result.now (replicate 64 0) (replicate 64 0) c.found_floor.result c.limit-limit.result
-    memory.log_holds.sound.axioms memory.log_holds.named c.in-Some.ensures.views (λ y ey at. memory.log_holds.small ey.thread (memory.log_holds.threads y ey at))
+    memory.log_holds.sound.axioms c.in-Some.ensures.views (λ y ey at. memory.log_holds.small ey.thread (memory.log_holds.threads y ey at))
     (λ u. c.of-known.ensures u ∙ memory.rows_hold.threads c.args.thread u) c.limit-limit.ensures.limit (λ u l. zeros-at 64 u ∙ sym zero)
     (λ u. zeros-at 64 u ∙ (no-fence (is_seq_cst c.args.order) c.limit-limit.result (slice_index memory.rows.joined u) (table_at memory.rows.before c.limit-limit.result u) relaxed zero
     ∙ before-known memory.rule log c.args.thread c.args.order memory.rows c.limit-limit.result memory.rows_hold c.limit-limit.ensures.limit u))

@@ -1,5 +1,4 @@
 use Rattle.std.proofs.Common.{◌∙◌, refl}
-use Rattle.mem_views.proofs.ThreadsMade.{fits-named}
 use Rattle.mem_views.proofs.Gained.{gains-are}
 use Rattle.mem_views.proofs.view_memory.ViewMemory.known_before.Goals as goal
 
@@ -8,6 +7,5 @@ returns c u =
     let memory = c.args.self.now in
     let log = memory.tape.events in
     let event = c.args.event.now in
-    let named = fits-named memory.rule memory.objects.values log event c.requires.fits in
     c.gain.ensures u
-    ∙ rw (c.of.ensures u, memory.rows_hold.threads event.thread u, gains-are memory.rule log memory.rows c.args.taken.now memory.rows_hold event c.requires.taken named u) refl
+    ∙ rw (c.of.ensures u, memory.rows_hold.threads event.thread u, gains-are memory.rule log memory.rows c.args.taken.now memory.rows_hold event c.requires.taken u) refl

@@ -11,7 +11,7 @@ invariant_of-result-clause-made_holds c = rw (c.new-3.ensures.items, c.new-2.ens
 
 pub invariant_of-result-clause-rows_hold : goal.invariant_of-result-clause-rows_hold
 invariant_of-result-clause-rows_hold c =
-    rw c.new-2.ensures (rows-none c.args.rule c.new-4.result c.new-4.ensures.threads c.new-4.ensures.left c.new-4.ensures.fenced c.new-4.ensures.pending c.new-4.ensures.joined c.new-4.ensures.fences)
+    rw c.new-2.ensures (rows-none c.args.rule c.new-4.result c.new-4.ensures.threads c.new-4.ensures.left c.new-4.ensures.wakes c.new-4.ensures.fenced c.new-4.ensures.pending c.new-4.ensures.joined c.new-4.ensures.fences)
 
 pub invariant_of-result-clause-cells_hold : goal.invariant_of-result-clause-cells_hold
 invariant_of-result-clause-cells_hold c = rw (c.new-2.ensures, c.new-7.ensures.items) (cells-none c.args.rule c.new-5.result c.new-6.result.objects.items c.new-6.ensures.none)

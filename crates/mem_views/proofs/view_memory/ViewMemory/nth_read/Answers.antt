@@ -1,6 +1,6 @@
 use Rattle.std.proofs.Common.{◌∙◌, sym, ap, slice_get, Some, List, ℕ, ◌-◌, arith}
 use Rattle.mem_axioms.specs.Objects.{initial_of}
-use Rattle.mem_views.proofs.Reading.{floor-low, reads-count, reads-nth, reads-differing}
+use Rattle.mem_views.proofs.Reading.{floor-low, options-count, reads-count, reads-nth, reads-differing}
 use Rattle.mem_views.proofs.view_memory.ViewMemory.nth_read.Goals as goal
 
 pub overflow_sub-result : goal.overflow_sub-result
@@ -41,6 +41,10 @@ returns-in-Some-clause-nth g c =
 
 pub returns-in-Some-clause-cost : goal.returns-in-Some-clause-cost
 returns-in-Some-clause-cost g c d l =
+    let memory = c.args.self.now in
+    let floor = c.floor-floor.ensures.floor in
+    let newest = c.newest-newest.ensures.newest in
     let first = c.floor-floor.ensures.cost d l in
     let rest = c.nth_differing.ensures.cost d l in
-    rw c.in-Some.is (omega (arith, first, rest))
+    let count = options-count memory.rule (initial_of memory.objects.values) memory.tape.events c.args.read.thread c.args.read.cell c.args.read.order memory.log_holds.sound.axioms in
+    rw c.in-Some.is (omega (arith, first, rest, floor, newest, count))

@@ -1,4 +1,5 @@
-use Rattle.stacks.specs.Stacks.{Unbound}
+use Rattle.std.proofs.Common.{ℕ, List}
+use Rattle.frames.specs.Activations.{Activation}
 use Rattle.seats.proofs.Seen.{on_stack, holds}
 use Rattle.seats.proofs.Waking.{seat_left}
 use Rattle.seats.proofs.Showing.{shown_sound, shown_same, shown_asked}
@@ -32,4 +33,4 @@ pub returns-clause-asked : goal.returns-clause-asked
 returns-clause-asked g c =
     let k = c.self.inside in
     let on = on_stack k.threads.stacks k.owns.items k.stacks k.waiters.waiters c.args.self.now c.args.thread c.args.stack c.self.view_is c.requires in
-    shown_asked k.threads k.stacks k.owns.items _ k.waiters.waiters c.args.self.now c.args.thread c.args.stack c.args.waits.members (λ (u : Unbound). g.A.Asks.asked c.args.asks.now u c.show.new.asks) c.self.view_is c.self.invariant on.0 on.1 c.show.ensures.asked
+    shown_asked k.threads k.stacks k.owns.items _ k.waiters.waiters c.args.self.now c.args.thread c.args.stack (λ (n : ℕ) (fs : List Activation). g.A.Asks.asked c.args.asks.now n fs c.args.waits.members c.show.new.asks) c.self.view_is c.self.invariant on.0 on.1 c.show.ensures.asked

@@ -1,4 +1,5 @@
-use Rattle.std.proofs.Common.{◌<◌, ◌^◌, subst, sym, ◌∙◌}
+use Rattle.std.proofs.Common.{◌<◌, ◌^◌, subst, sym, ◌∙◌, ap}
+use Rattle.frames.specs.Chains.{chain_of}
 use Rattle.thread_acts.proofs.CellsAsked.{making_full}
 use Rattle.thread_acts.proofs.ObjectViews.{heap_same, full_here, made_there, gave_made, back_cells, back_objects, back_so, refused_there, refused_so}
 use Rattle.thread_acts.proofs.state.State.make.Goals as goal
@@ -21,7 +22,7 @@ take_back-requires-clause-left g c = subst (λ n. n < 2 ^ 32) (sym (back_cells c
 
 pub returns-in-Err-clause-err : goal.returns-in-Err-clause-err
 returns-in-Err-clause-err g c =
-    back_so _ _ _ _ _ _ _ c.self.view_is c.in-Err.ensures.same (back_objects c.args.code.now _ _ _ _ c.in-Ok.ensures.objects c.take_back.ensures.objects) (c.take_back.ensures.left ∙ (back_cells c.args.code.now _ _ _ _ _ c.in-Ok.ensures.objects c.in-Ok.ensures.left c.in-Ok.ensures.enough))
+    back_so _ _ _ _ _ _ _ c.self.view_is (ap chain_of c.in-Err.ensures.same) (back_objects c.args.code.now _ _ _ _ c.in-Ok.ensures.objects c.take_back.ensures.objects) (c.take_back.ensures.left ∙ (back_cells c.args.code.now _ _ _ _ _ c.in-Ok.ensures.objects c.in-Ok.ensures.left c.in-Ok.ensures.enough))
     c.give-given.ensures.log c.give-given.ensures.rule
 
 pub returns-in_default-clause-ok : goal.returns-in_default-clause-ok

@@ -1,4 +1,5 @@
 use Rattle.std.proofs.Common.{◌∙◌, ap}
+use Rattle.frames.specs.Chains.{chain_of}
 use Rattle.thread_acts.specs.Held.{Held}
 use Rattle.thread_acts.specs.Hand.{hand_made}
 use Rattle.thread_acts.specs.StackLaws.{stack_fits}
@@ -28,6 +29,6 @@ returns-clause-ok g c =
       stacks = c.in_ok-add_stack.ensures.ok;
       added = c.commit_other.ensures.added;
       rule_kept = c.commit_other.ensures.same_rule;
-      frames = c.stand.ensures;
+      frames = ap chain_of c.stand.ensures;
     })
     c.args.self.now c.function.result.now c.self.view_is c.requires.left c.requires.there c.function.ensures c.in-Some.is (c.self.invariant.5.within (ap (λ (s : Held). s.left) c.self.view_is ∙ c.requires.left))

@@ -1,0 +1,5 @@
+use Rattle.bundle_facts.proofs.Spelled.{names_spelled}
+use Rattle.bundle_facts.proofs.laws.names_are_spelled.Goals as goal
+
+pub returns : goal.returns
+returns c = names_spelled

@@ -1,0 +1,9 @@
+pub mod Alike
+pub mod Chosen
+pub mod Congruence
+pub mod Ordered
+pub mod ChoiceKept
+pub mod Carried
+pub mod Diamond
+pub mod Made
+pub mod Laws

@@ -1,0 +1,5 @@
+mod Bytes
+mod Fields
+mod Lines
+mod Texts
+mod Renaming

@@ -1,0 +1,5 @@
+use Rattle.log_lines.proofs.Texts.{text_is_read}
+use Rattle.log_lines.proofs.laws.texts_are_read.Goals as goal
+
+pub returns : goal.returns
+returns c = text_is_read

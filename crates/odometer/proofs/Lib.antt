@@ -1,0 +1,3 @@
+pub mod NextLaws
+pub mod TreeLaws
+pub mod FoundLaws

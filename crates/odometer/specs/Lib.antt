@@ -1,0 +1,4 @@
+pub mod Trees
+pub mod Odometer
+pub mod GrownLaws
+pub mod Found

@@ -1,0 +1,33 @@
+// The picks of a run, and those of the next run.
+ghost use Rattle.std.specs.Prelude.{◌≡◌, ◌<◌, All, true, false, Some, None};
+ghost use Rattle.odometer.specs.Odometer.{next, digits, IsPick};
+
+/// A pick of a run: the number of the option that was taken, and how many options there were, at least two.
+#[derive(Clone, Copy, Debug, PartialEq, Eq)]
+pub struct Pick {
+    pub picked: u32,
+    pub options: u32,
+}
+
+/// The last pick that has a further option takes it, and all later picks are dropped; true. False where no pick has a further option:
+/// then every path was made.
+pub fn advance(path: &mut Vec<Pick>) -> bool
+    requires { All IsPick path.old.items }
+    ensures next { result ≡ true → next path.old.items ≡ Some (digits path.new.items) }
+    ensures last { result ≡ false → next path.old.items ≡ None }
+{
+    let mut at = path.len();
+    while at > 0 {
+        at -= 1;
+        let last = path[at];
+        if last.picked + 1 < last.options {
+            path[at] = Pick {
+                picked: last.picked + 1,
+                options: last.options,
+            };
+            path.truncate(at + 1);
+            return true;
+        }
+    }
+    false
+}

@@ -1,0 +1,135 @@
+// The search: runs, one after the other, until no path is left or a number of runs was made.
+ghost use Rattle.std.specs.Prelude.{◌≡◌, ◌<◌, ◌≤◌, ◌^◌, ℕ, List, Option, All, true, false, Some, None, length, IfOk, OnOk, IsSomeAnd};
+ghost use Rattle.odometer.specs.Trees.{Tree, leaf, AllLeaves};
+ghost use Rattle.odometer.specs.Odometer.{path, digits, IsPick};
+ghost use Rattle.odometer.specs.Found.{Shown, IsAmongFound, Keeps, RanOn};
+
+use crate::picks::{Pick, advance};
+use std::alloc::{AllocError, Global};
+use std::collections::BTreeMap;
+
+/// Something that runs by picks, and comes to the same each time that the picks are the same.
+pub trait Play {
+    /// What its runs come to: a tree of picks with a text at each leaf, or None where a run says nothing of what follows it.
+    ghost tree: { Self → Tree (Option (List ℕ)) };
+
+    /// What a schedule shows.
+    ghost shows: { Self → List ℕ → Option (List ℕ) };
+
+    /// Runs it by these numbers; after the last number each pick is 0. Then `made` is the list of its picks, `text` what the run comes to,
+    /// and `schedule` a schedule that shows this text. False where the run comes to nothing. It fails only where memory runs out.
+    fn play(
+        &mut self,
+        numbers: &[u32],
+        made: &mut Vec<Pick>,
+        text: &mut Vec<u8>,
+        schedule: &mut Vec<u32>,
+    ) -> Result<bool, AllocError>
+        ensures same { tree self.new ≡ tree self.old }
+        ensures same_shows { shows self.new ≡ shows self.old }
+        ensures path { OnOk result (made.new.items ≡ path (tree self.old) numbers.now) }
+        ensures text { IfOk result (λ says. says ≡ true → leaf (tree self.old) numbers.now ≡ Some text.new.items) }
+        ensures shown { IfOk result (λ says. says ≡ true → shows self.old schedule.new.items ≡ Some text.new.items) };
+}
+
+/// What a search found: each text with a schedule that shows it, in the order of the texts' bytes, and whether no run comes to anything
+/// else.
+#[derive(Drop)]
+pub struct Searched {
+    pub found: BTreeMap<Vec<u8>, Vec<u32>>,
+    pub complete: bool,
+}
+
+// Writes the numbers of picks.
+fn write_numbers(path: &[Pick], numbers: &mut Vec<u32>) -> Result<(), AllocError>
+    ensures { OnOk result (numbers.new.items ≡ digits path.now) }
+{
+    numbers.clear();
+    for pick in path {
+        numbers.push(pick.picked)?;
+    }
+    Ok(())
+}
+
+// Keeps the text with the schedule, unless the text was found before.
+#[tactic(auto, using(crate::proofs::FoundLaws::keeps_old))]
+fn keep(
+    alloc: Global,
+    found: &mut BTreeMap<Vec<u8>, Vec<u32>>,
+    text: &[u8],
+    numbers: &[u32],
+) -> Result<(), AllocError>
+    ensures { OnOk result (Keeps found.old found.new text.now numbers.now) }
+{
+    if !found.contains_key(text) {
+        let key = text.to_vec(alloc)?;
+        let value = numbers.to_vec(alloc)?;
+        found.insert(key, value)?;
+    }
+    Ok(())
+}
+
+// Makes one run by these numbers and keeps what it comes to. It is true where this run and all earlier ones came to something.
+#[tactic(auto, using(crate::proofs::FoundLaws::run_kept, crate::proofs::FoundLaws::run_silent, crate::proofs::FoundLaws::run_picks))]
+fn run_by<P: Play>(
+    alloc: Global,
+    play: &mut P,
+    numbers: &[u32],
+    made: &mut Vec<Pick>,
+    text: &mut Vec<u8>,
+    schedule: &mut Vec<u32>,
+    found: &mut BTreeMap<Vec<u8>, Vec<u32>>,
+    whole: bool,
+) -> Result<bool, AllocError>
+    ensures same { P.tree play.new ≡ P.tree play.old }
+    ensures same_shows { P.shows play.new ≡ P.shows play.old }
+    ensures path { OnOk result (made.new.items ≡ path (P.tree play.old) numbers.now) }
+    ensures found { IfOk result (λ says. RanOn (P.tree play.old) (P.shows play.old) found.old found.new numbers.now says) }
+    ensures whole { IfOk result (λ says. says ≡ true → whole ≡ true) }
+    ensures picks { OnOk result (All IsPick made.new.items) }
+{
+    let says = play.play(numbers, made, text, schedule)?;
+    if !says {
+        return Ok(false);
+    }
+    keep(alloc, found, text, schedule)?;
+    Ok(whole)
+}
+
+/// Searches through the runs of `play`, at most `runs` of them. Each text that it answers is the one that its schedule shows. The answer
+/// is complete only where every path was made and each came to something; where runs are used up before, or a run came to nothing, it
+/// is not. It fails only where memory runs out, and then nothing was found. Memory grows with the texts, not with the runs.
+pub fn search_all<P: Play>(alloc: Global, play: &mut P, runs: u32) -> Result<Searched, AllocError>
+    ensures shown { IfOk result (λ s. Shown (P.shows play.old) s.found) }
+    ensures complete { IfOk result (λ s. s.complete ≡ true → AllLeaves (IsAmongFound s.found) (P.tree play.old)) }
+{
+    let mut found = BTreeMap::new(alloc);
+    let mut made = Vec::new(alloc);
+    let mut numbers = Vec::new(alloc);
+    let mut text = Vec::new(alloc);
+    let mut schedule = Vec::new(alloc);
+    let mut whole = true;
+    for _run in 0..runs {
+        whole = run_by(
+            alloc,
+            play,
+            &numbers,
+            &mut made,
+            &mut text,
+            &mut schedule,
+            &mut found,
+            whole,
+        )?;
+        if !advance(&mut made) {
+            return Ok(Searched {
+                found,
+                complete: whole,
+            });
+        }
+        write_numbers(&made, &mut numbers)?;
+    }
+    Ok(Searched {
+        found,
+        complete: false,
+    })
+}

@@ -1,0 +1,4 @@
+pub mod Laws
+pub mod Verdicts
+pub mod RunsRead
+pub mod PlainLines

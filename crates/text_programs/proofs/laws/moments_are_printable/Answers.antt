@@ -1,0 +1,5 @@
+use Rattle.text_programs.proofs.Printable.{moments_are_printable}
+use Rattle.text_programs.proofs.laws.moments_are_printable.Goals as goal
+
+pub returns : goal.returns
+returns c = moments_are_printable

@@ -1,0 +1,4 @@
+pub mod Verdicts
+pub mod Laws
+pub mod Searches
+pub mod Examples

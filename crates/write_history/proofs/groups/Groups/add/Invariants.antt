@@ -1,0 +1,4 @@
+use Rattle.write_history.proofs.groups.Groups.add.Given as goal
+
+abbrev pub ghosts-count_of : goal.ghosts-count_of
+ghosts-count_of a = record { name = a.blank.name; parts = a.blank.parts }
