@@ -1,0 +1,143 @@
+"""The words that the program takes, its statuses, and what is wrong with words that it does not take."""
+import difflib
+import os
+import subprocess
+import typing
+
+USAGE, READ_FAULT, REFUSED, SINK_FAULT, STOP, UNDEFINED, HEAP_FULL, THREADS_FULL, ALL_WAITING, BUDGET, MEMORY, TOO_LONG = range(1, 13)
+
+# The options of `run`: what the next word is; None where there is no next word.
+RUN_OPTIONS = {"--entry": "the name of a function, with its `@`", "--hail": "a file with a HAIL script",
+               "--client": "a file with a client script",
+               "--schedule": "a file with a schedule", "--steps": "a number from 0 to 1000000", "--cells": "a number from 0 to 1000000",
+               "--release-sequences": "c11 or rmw", "--auto": None}
+COMMANDS = {"check": "check FILE", "print": "print FILE", "trial": "trial N, with N from 1 to 1000", "run": "run FILE --entry @NAME"}
+MOST = {"--steps": 1_000_000, "--cells": 1_000_000}
+DEFAULT_STEPS, DEFAULT_CELLS = 200_000, 100_000
+FILES = {"hail": "--hail", "client": "--client", "schedule": "--schedule"}
+
+
+class Call(typing.NamedTuple):
+    """A call that the program takes: its command, its bundle's file, and its options with their values."""
+
+    command: str
+    bundle: str
+    options: dict
+
+    @classmethod
+    def of_words(cls, words):
+        """The call that words are, or None where the command has no bundle."""
+        if len(words) < 2 or words[0] not in ("check", "print", "run"):
+            return None
+        options, at = {}, 2
+        while words[0] == "run" and at < len(words):
+            has_value = RUN_OPTIONS.get(words[at]) is not None
+            options[words[at]] = words[at + 1] if has_value and at + 1 < len(words) else ""
+            at += 2 if has_value else 1
+        return cls(words[0], words[1], options)
+
+    def file(self, name):
+        """The path of a file that a refusal names: `bundle`, `hail`, `client` or `schedule`."""
+        return self.bundle if name == "bundle" else self.options.get(FILES[name], "")
+
+    def steps(self):
+        """How many steps the run may make."""
+        return int(self.options.get("--steps", DEFAULT_STEPS))
+
+    def words(self, bundle=None, **changed):
+        """The words of this call, with another bundle or with other options; an option that is None is left out."""
+        options = {**self.options, **{"--" + name.replace("_", "-"): value for name, value in changed.items()}}
+        words = [self.command, bundle or self.bundle]
+        for name, value in options.items():
+            if value is not None:
+                words += [name] if RUN_OPTIONS.get(name) is None else [name, str(value)]
+        return words
+
+
+def as_shell(status):
+    """The status of a program as a shell gives it: 128 and the number of the signal that ended it."""
+    return status if status >= 0 else 128 - status
+
+
+def answer(program, words):
+    """What the program prints, with bytes as characters, and its status."""
+    done = subprocess.run([program, *words], stdin=subprocess.DEVNULL, stdout=subprocess.PIPE, stderr=subprocess.DEVNULL, check=False)
+    return done.stdout.decode("latin-1"), done.returncode
+
+
+def output(program, words):
+    """What the program prints, with bytes as characters."""
+    return answer(program, words)[0]
+
+
+def explain_file(call, fields):
+    """What is wrong with a file that could not be read, or that is too long."""
+    path = call.file(fields[2])
+    if fields[0] == "too":
+        return [f"{path}: the file has {os.path.getsize(path)} bytes; at most 1048576 are read"]
+    try:
+        with open(path, "rb") as file:
+            file.read(1)
+    except OSError as error:
+        return [f"{path}: {error.strerror}",
+                f"  it is the file of the {fields[2]}" + ("" if fields[2] == "bundle" else f", by {FILES[fields[2]]}")]
+    return []
+
+
+def explain_usage(words):
+    """Which word is at fault, and what was expected there."""
+    at, found = usage_fault(words)
+    shown = " ".join(words)
+    lines = [f"usage: mu {shown}"]
+    if at < len(words):
+        lines.append("          " + " " * len(" ".join(words[:at]) + " " * (at > 0)) + "^" * max(1, len(words[at])))
+    return lines + [f"  {text}" for text in found]
+
+
+def near(word, words):
+    """The nearest of some words, as a question, or nothing."""
+    found = difflib.get_close_matches(word, words, 1)
+    return f"; is {found[0]} meant?" if found else ""
+
+
+def usage_fault(words):
+    """The number of the word at fault, which may be behind the last one, and what is said of it."""
+    if not words:
+        return 0, ["expected: a command: " + "; ".join(COMMANDS.values())]
+    if words[0] not in COMMANDS:
+        return 0, [f"`{words[0]}` is no command{near(words[0], COMMANDS)}", "expected: " + "; ".join(COMMANDS.values())]
+    if len(words) == 1:
+        return 1, [f"expected: {COMMANDS[words[0]]}"]
+    if words[0] == "run":
+        return run_fault(words)
+    if words[0] == "trial" and not is_number(words[1], 1, 1000):
+        return 1, ["expected: a number from 1 to 1000, in decimal digits"]
+    return 2, [f"expected: nothing more; the command is {COMMANDS[words[0]]}"]
+
+
+def is_number(word, least, most):
+    """Whether a word is a number that the program takes: one to ten decimal digits."""
+    return word.isascii() and word.isdigit() and len(word) <= 10 and least <= int(word) <= most
+
+
+def run_fault(words):
+    """The word at fault of `run ..`."""
+    seen, at = set(), 2
+    while at < len(words):
+        word = words[at]
+        if word not in RUN_OPTIONS:
+            return at, [f"`{word}` is no option of run{near(word, RUN_OPTIONS)}", "expected: one of " + " ".join(RUN_OPTIONS)]
+        if word in seen:
+            return at, [f"{word} stands twice; each option stands at most once"]
+        seen.add(word)
+        if {"--client", "--auto"} <= seen:
+            return at, ["--client and --auto exclude each other: either a script answers the traps, or zero and NULL do"]
+        if RUN_OPTIONS[word] is not None:
+            at += 1
+            if at == len(words):
+                return at, [f"expected: after {word} {RUN_OPTIONS[word]}"]
+            value = words[at]
+            if word in MOST and not is_number(value, 0, MOST[word]) or word == "--release-sequences" and value not in ("c11", "rmw"):
+                return at, [f"expected: after {word} {RUN_OPTIONS[word]}"]
+        at += 1
+    return len(words), ["expected: --entry @NAME, which names the function that the run begins with"]

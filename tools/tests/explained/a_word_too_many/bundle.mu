@@ -1,0 +1,2 @@
+// check takes one file.
+.funcsig @none = () -> ()

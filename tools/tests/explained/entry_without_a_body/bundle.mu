@@ -1,0 +1,3 @@
+// The entry is only declared.
+.funcsig @none = () -> ()
+.funcdecl @main <@none>

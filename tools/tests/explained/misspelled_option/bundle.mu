@@ -1,0 +1,6 @@
+// There is no --entri.
+.funcsig @none = () -> ()
+.funcdef @main VERSION %v <@none> {
+%e():
+  RET ()
+}

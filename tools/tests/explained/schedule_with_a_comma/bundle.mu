@@ -1,0 +1,6 @@
+// Numbers stand without commas.
+.funcsig @none = () -> ()
+.funcdef @main VERSION %v <@none> {
+%e():
+  RET ()
+}

@@ -1,0 +1,93 @@
+"""What the tests of the tools for runs share."""
+import os
+import pathlib
+import shlex
+import stat
+import subprocess
+import sys
+import tempfile
+
+TOP = pathlib.Path(__file__).resolve().parents[2]
+EXAMPLES = TOP / "examples"
+ENTRY = TOP / "tools" / "main.py"
+SECONDS = 300
+
+
+def tool(program, *words, commands="", folder=None):
+    """Runs a tool, in a folder; returns its output, what it said on standard error, and its status."""
+    done = subprocess.run([sys.executable, str(ENTRY), program, *map(str, words)], input=commands, capture_output=True, text=True, cwd=folder,
+                          timeout=SECONDS, check=False)
+    return done.stdout, done.stderr, done.returncode
+
+
+def run(program, words):
+    """The output and the status of the program."""
+    done = subprocess.run([program, *map(str, words)], stdin=subprocess.DEVNULL, capture_output=True, text=True, timeout=SECONDS, check=False)
+    return done.stdout, done.returncode
+
+
+def words_of(name, folder=EXAMPLES):
+    """The words of an example's run, with the paths of its files."""
+    folder = folder / name
+    return [str(folder / word) if (folder / word).is_file() else word for word in (folder / "words").read_text().split()]
+
+
+def runs(folder=EXAMPLES):
+    """The names of the examples that are runs."""
+    return sorted(it.name for it in folder.iterdir() if (it / "words").is_file() and (it / "words").read_text().startswith("run "))
+
+
+class Failures(list):
+    """What did not hold."""
+
+    def check(self, holds, text):
+        """Keeps the text where something does not hold."""
+        if not holds:
+            self.append(text)
+
+
+class Pretended:
+    """A program that prints a text whatever it is asked, for logs that no quick run makes."""
+
+    def __init__(self, text):
+        self.room = tempfile.TemporaryDirectory(prefix="mu-tests-")
+        folder = pathlib.Path(self.room.name)
+        (folder / "output").write_text(text)
+        self.program = folder / "program"
+        self.program.write_text(f"#!/bin/sh\nexec cat {shlex.quote(str(folder / 'output'))}\n")
+        os.chmod(self.program, stat.S_IRWXU)
+
+    def path(self, name):
+        """A path for a file in its folder."""
+        return pathlib.Path(self.room.name) / name
+
+
+COUNTING = """.typedef @i64 = int<64>
+.funcsig @none = () -> ()
+.const @one <@i64> = 1
+.global @count <@i64>
+.funcdef @add VERSION %v <@none> {
+%again():
+  %n = ATOMICRMW ACQ_REL ADD <@i64> @count @one
+  %m = LOAD RELAXED <@i64> @count
+  BRANCH %again()
+}
+.funcdef @main VERSION %v <@none> {
+%e():
+  %s = COMMINST @uvm.new_stack <[@none]> (@add)
+  %t = NEWTHREAD %s PASS_VALUES<> ()
+  CALL <@none> @add ()
+  RET ()
+}
+"""
+
+
+def counting_log(turns):
+    """A log of two threads that count in turn in a cell, and each read it after that: 4 events a turn."""
+    lines = ["0 t0 stack s1", "1 t0 thread t1", "2 t1 enter s1"]
+    for turn in range(turns):
+        for thread in (0, 1):
+            position = 2 * turn + thread + 1
+            lines.append(f"{len(lines)} t{thread} update ACQ_REL #0+0 {position} {position}")
+            lines.append(f"{len(lines)} t{thread} read RELAXED #0+0 {position} {position}")
+    return "\n".join([*lines, f"budget {6 * turns + 3}"]) + "\n"

@@ -1,0 +1,2 @@
+// There are no floating-point numbers.
+.typedef @d = double

@@ -1,0 +1,10 @@
+// The name of a global is a reference.
+.typedef @i64 = int<64>
+.funcsig @mi = () -> (@i64)
+.const @one <@i64> = 1
+.global @total <@i64>
+.funcdef @main VERSION %v <@mi> {
+%e():
+  %x = ADD <@i64> @total @one
+  RET (%x)
+}

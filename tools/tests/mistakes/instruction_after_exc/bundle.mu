@@ -1,0 +1,19 @@
+// An instruction with EXC ends its block.
+.typedef @i64 = int<64>
+.funcsig @mi = () -> (@i64)
+.funcsig @two = (@i64 @i64) -> (@i64)
+.const @one <@i64> = 1
+.funcdef @add VERSION %v <@two> {
+%e(<@i64> %a <@i64> %b):
+  %c = ADD <@i64> %a %b
+  RET (%c)
+}
+.funcdef @main VERSION %v <@mi> {
+%e():
+  %x = CALL <@two> @add (@one @one) EXC(%next(%x) %failed())
+  RET (%x)
+%next(<@i64> %a):
+  RET (%a)
+%failed() [%exception]:
+  RET (@one)
+}

@@ -1,0 +1,61 @@
+"""How much processor time a tool takes beside the program for a log of 10,000 events: the program is one that prints a log made before.
+
+It is the time of a processor, the best of some calls, beside the time in which Python starts. A processor that is slow just now, since it
+does much else, may take longer: by as much as a loop then takes longer than on one that makes 5 million short texts in a second.
+"""
+import resource
+import subprocess
+import sys
+import time
+
+from tests.helpers import COUNTING, Failures, Pretended, counting_log, tool
+
+MOST_SECONDS = 0.3
+CALLS = 5
+LOOP = 200000
+SECONDS_OF_LOOP = 0.04
+
+
+def processor_time():
+    """The processor time that ended children took so far."""
+    used = resource.getrusage(resource.RUSAGE_CHILDREN)
+    return used.ru_utime + used.ru_stime
+
+
+def best_time(call):
+    """The least processor time of some calls."""
+    taken = []
+    for _ in range(CALLS):
+        begun = processor_time()
+        call()
+        taken.append(processor_time() - begun)
+    return min(taken)
+
+
+def slowness():
+    """How many times longer a loop takes than it should; 1 where it takes less."""
+    taken = []
+    for _ in range(CALLS):
+        begun = time.process_time()
+        [f"{number} t0 write {number}" for number in range(LOOP)]
+        taken.append(time.process_time() - begun)
+    return max(1, min(taken) / SECONDS_OF_LOOP)
+
+
+def main(_program):
+    """The failures; the times are printed."""
+    failures = Failures()
+    pretended = Pretended(counting_log(2500))
+    bundle = pretended.path("bundle.mu")
+    bundle.write_text(COUNTING)
+    start = best_time(lambda: subprocess.run([sys.executable, "-c", "pass"], check=True))
+    print(f"  Python starts in {start:.2f} s")
+    for words in (["--results"], ["--show"], ["--picture", pretended.path("p.svg")], ["--picture", pretended.path("p.dot")],
+                  ["--picture", pretended.path("p.html")]):
+        slow = slowness()
+        seconds = best_time(lambda: tool(str(pretended.program), *words, "run", bundle, "--entry", "@main")) - start
+        slow = max(slow, slowness())
+        name = " ".join([words[0], *(str(word).rsplit(".", 1)[1] for word in words[1:])])
+        print(f"  {name}: {seconds:.2f} s for 10,003 events, on a processor that takes {slow:.1f} times as long as it should")
+        failures.check(seconds <= MOST_SECONDS * slow, f"{name} takes {seconds:.2f} s of a processor, more than {MOST_SECONDS * slow:.2f}")
+    return failures
