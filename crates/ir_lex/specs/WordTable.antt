@@ -58,6 +58,7 @@ words =
     -- words of client scripts
     (codes "frames", symbols.Frames) ∷ (codes "kept", symbols.Kept) ∷ (codes "watch", symbols.Watch) ∷ (codes "unwatch", symbols.Unwatch) ∷ (codes "rebind", symbols.Rebind) ∷
     (codes "exit", symbols.Exit) ∷ (codes "stop", symbols.Stop) ∷ (codes "pass", symbols.Pass) ∷ (codes "throw", symbols.ThrowReply) ∷
+    (codes "pop", symbols.Pop) ∷ (codes "push", symbols.Push) ∷
     []
 
 unfoldable pub directives : List Row

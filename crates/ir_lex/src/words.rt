@@ -196,7 +196,11 @@ static LOWER_I: [Row; 3] = [
 
 static LOWER_K: [Row; 1] = [(b"kept", Symbol::Kept)];
 
-static LOWER_P: [Row; 1] = [(b"pass", Symbol::Pass)];
+static LOWER_P: [Row; 3] = [
+    (b"pass", Symbol::Pass),
+    (b"pop", Symbol::Pop),
+    (b"push", Symbol::Push),
+];
 
 static LOWER_R: [Row; 2] = [(b"ref", Symbol::Ref), (b"rebind", Symbol::Rebind)];
 

@@ -152,6 +152,8 @@ pub fn spelling(symbol: Symbol) -> &'static [u8]
         Symbol::Stop => b"stop",
         Symbol::Pass => b"pass",
         Symbol::ThrowReply => b"throw",
+        Symbol::Pop => b"pop",
+        Symbol::Push => b"push",
         Symbol::DotTypedef => b".typedef",
         Symbol::DotFuncsig => b".funcsig",
         Symbol::DotConst => b".const",

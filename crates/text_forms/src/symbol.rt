@@ -402,6 +402,10 @@ pub enum Symbol {
     Pass,
     /// `throw`, in lower case
     ThrowReply,
+    /// `pop`
+    Pop,
+    /// `push`
+    Push,
 
     // anything else
     /// A directive or a word that no grammar has
