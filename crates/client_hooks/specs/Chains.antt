@@ -1,4 +1,4 @@
--- To believe: which of two clients answers.
+-- Which of two clients answers.
 use Rattle.std.specs.Prelude.{Bool, true, false}
 
 -- what is said of the second where the first is spent, and else of the first

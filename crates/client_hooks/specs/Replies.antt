@@ -1,4 +1,4 @@
--- To believe: which answer of the abstract machine a reply is, and which stack it hands back.
+-- Which answer of the abstract machine a reply is, and which stack it hands back.
 use Rattle.std.specs.Prelude.{◌≡◌, ◌≤◌, ⊤}
 use Rattle.frames.specs.Chains.{frames_in}
 use Rattle.client_hooks.specs.declared.reply.Edit.{Edit}

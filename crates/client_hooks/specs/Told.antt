@@ -1,4 +1,4 @@
--- To believe: where the values of an answer come from.
+-- Where the values of an answer come from.
 use Rattle.std.specs.Prelude.{◌≡◌, ℕ, List, [], ◌∷◌, Option, Some, None, ⊤}
 use Rattle.mu_values.specs.declared.scalars.Scalar.TheVariants.{Func}
 use Rattle.std.specs.List.{Contains}

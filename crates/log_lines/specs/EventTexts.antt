@@ -1,4 +1,4 @@
--- To believe: the line of an event, where functions have these names. The law `run_texts_are_read` of `run_lines` says that a run prints it.
+-- The line of an event, where functions have these names. The law `run_texts_are_read` of `run_lines` says that a run prints it.
 use Rattle.std.specs.Prelude.{ℕ, ◌++◌, codes, decimal}
 use Rattle.mu_values.specs.declared.scalars.Scalar.{Scalar}
 use Rattle.mu_values.specs.declared.scalars.Scalar.TheVariants as scalars

@@ -1,4 +1,4 @@
--- To believe: the fields of an event line that hold numbers: what each of them means, or what is wrong with it.
+-- The fields of an event line that hold numbers: what each of them means, or what is wrong with it.
 use Rattle.std.specs.Prelude.{ℕ, ◌^◌, Bool, false, not, ◌&&◌, ◌||◌, ◌==◌, nat_lt, if◌then◌else◌, List, [], ◌∷◌, length, Result, Ok, Err}
 use Rattle.std.specs.List.{list_all}
 use Rattle.std.specs.Char.{is_digit}

@@ -1,4 +1,4 @@
--- To believe: the fields of an event line that hold words: what happened, and memory orders.
+-- The fields of an event line that hold words: what happened, and memory orders.
 use Rattle.std.specs.Prelude.{Bool, true, false, if◌then◌else◌, List, [], ◌∷◌, map, codes, bytes_eq, Ok, Err}
 use Rattle.mu_base.specs.declared.order.Order.{Order}
 use Rattle.mu_base.specs.declared.order.Order.TheVariants.{NotAtomic, Relaxed, Consume, Acquire, Release, AcqRel, SeqCst}

@@ -1,4 +1,4 @@
--- To believe: which case of the abstract machine a refused push is.
+-- Which case of the abstract machine a refused push is.
 use Rattle.mu_model.specs.declared.endings.Case.{Case}
 use Rattle.mu_model.specs.declared.endings.Case.TheVariants as cases
 use Rattle.mu_osr.specs.declared.pushing.PushFault.{PushFault}

@@ -1,4 +1,4 @@
--- To believe: the texts of names, values and events.
+-- The texts of names, values and events.
 use Rattle.std.specs.Prelude.{ℕ, List, [], ◌∷◌, ◌++◌, Option, Some, None, drop, slice_get, is_some, codes, decimal, zip, if◌then◌else◌}
 use Rattle.demands.specs.Names.{found}
 use Rattle.mu_base.specs.declared.order.Order.{Order}
