@@ -1,6 +1,6 @@
 -- Lemmas on names that are the same.
 use Rattle.std.specs.Prelude.{◌≡◌, suc, Bool, true, false, ◌&&◌, List, [], ◌∷◌, length, refl}
-use Rattle.std.proofs.Common.{ap, absurd}
+use Rattle.std.proofs.Common.{ap}
 use Rattle.ir_lex.specs.declared.name.Name.{Name}
 use Rattle.bundle_join.specs.Alike.{same_name, same_names}
 

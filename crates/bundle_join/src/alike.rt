@@ -76,10 +76,8 @@ fn same_literal(a: &Literal, b: &Literal) -> bool
     match (a, b) {
         (Literal::Number(n), Literal::Number(m)) => same_number(n, m),
         (Literal::Null { .. }, Literal::Null { .. }) => true,
-        (
-            Literal::Members { constants: ns, .. },
-            Literal::Members { constants: ms, .. },
-        ) => same_names(ns.as_slice(), ms.as_slice()),
+        (Literal::Members { constants: ns, .. }, Literal::Members { constants: ms, .. }) =>
+            same_names(ns.as_slice(), ms.as_slice()),
         _ => false,
     }
 }
