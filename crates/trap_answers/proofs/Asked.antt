@@ -12,11 +12,11 @@ set_same (x ∷ xs) (suc n) a h = ap (λ ys. x ∷ ys) (set_same xs n a h)
 
 module _ (s t : Seats) (k i : ℕ) (fs : List Activation) (there : slice_get s.stacks k ≡ Some (Active i fs)) where
   -- a stack whose frames are as before
-  pub seats_same : {Q R : Type 0} → (after : List Activation) × (t ≡ record s { stacks = slice_set s.stacks k (Active i after) }) × (after ≡ fs) × Q × R → t ≡ s
-  seats_same (after, changed, kept, q, r) = changed ∙ ap (λ gs. record s { stacks = slice_set s.stacks k (Active i gs) }) kept ∙ ap (λ ss. record s { stacks = ss }) (set_same s.stacks k (Active i fs) there)
+  pub seats_same : {Q R : Type 0} → (after : List Activation) × (t ≡ record s { stacks = slice_set s.stacks k (Active i after) }) × ((after ≡ fs) × Q × R) → t ≡ s
+  seats_same (after, changed, (kept, q, r)) = changed ∙ ap (λ gs. record s { stacks = slice_set s.stacks k (Active i gs) }) kept ∙ ap (λ ss. record s { stacks = ss }) (set_same s.stacks k (Active i fs) there)
 
-  pub first_told : {Q R : Type 0} → (after : List Activation) × (t ≡ record s { stacks = slice_set s.stacks k (Active i after) }) × (after ≡ fs) × Q × R → Q
-  first_told (after, changed, kept, q, r) = q
+  pub first_told : {Q R : Type 0} → (after : List Activation) × (t ≡ record s { stacks = slice_set s.stacks k (Active i after) }) × ((after ≡ fs) × Q × R) → Q
+  first_told (after, changed, (kept, q, r)) = q
 
-  pub second_told : {Q R : Type 0} → (after : List Activation) × (t ≡ record s { stacks = slice_set s.stacks k (Active i after) }) × (after ≡ fs) × Q × R → R
-  second_told (after, changed, kept, q, r) = r
+  pub second_told : {Q R : Type 0} → (after : List Activation) × (t ≡ record s { stacks = slice_set s.stacks k (Active i after) }) × ((after ≡ fs) × Q × R) → R
+  second_told (after, changed, (kept, q, r)) = r
