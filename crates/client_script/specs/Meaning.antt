@@ -1,5 +1,5 @@
 -- The entries that a script means, as a client has them.
-use Rattle.std.specs.Prelude.{List, map}
+use Rattle.std.specs.Prelude.{None, List, map}
 use Rattle.mu_model.specs.Clients as clients
 use Rattle.mu_model.specs.Clients.{ScriptEntry}
 use Rattle.client_script.specs.declared.tree.Argument.{Argument}
