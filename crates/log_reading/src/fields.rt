@@ -22,6 +22,7 @@ use std::marker::Model;
 pub type LogFault = Fault<LogKind>;
 
 /// A field and its byte offset.
+#[derive(Drop)]
 pub struct Field<'a> {
     pub place: usize,
     pub bytes: &'a [u8],
@@ -43,7 +44,7 @@ impl<'a> Field<'a> {
 }
 
 /// The fields that are left of a line. Each call below reads the next one. Where none is left that is a fault at the line's end.
-#[derive(Clone, Copy)]
+#[derive(Drop)]
 pub struct Fields<'a> {
     // None after the last field.
     rest: Option<&'a [u8]>,
