@@ -1,2 +1,8 @@
-mod Splitting
+pub mod Chains
 pub mod Digits
+pub mod Few
+pub mod Going
+pub mod Meanings
+pub mod NextFields
+pub mod Numbering
+mod Splitting

@@ -1,5 +1,5 @@
 -- What is answered to the text of a log.
-use Rattle.std.specs.Prelude.{◌≡◌, ◌<◌, ℕ, true, List, Option, Some, Result, Ok, Err, ⊥}
+use Rattle.std.specs.Prelude.{◌≡◌, ◌<◌, ℕ, true, List, Option, Some, Result, Ok, Err}
 use Rattle.demands.specs.declared.fault.Fault.{Fault}
 use Rattle.demands.specs.declared.fault.Fault.TheVariants.{Memory, At}
 use Rattle.mem_axioms.specs.Logs.{event_at}
@@ -16,6 +16,10 @@ IsRead (Ok r) (Err (At kind place)) = ⊥
 IsRead (Err fault) (Ok log) = ⊥
 IsRead (Err fault) (Err (At kind place)) = fault ≡ At kind place
 
--- the thread of each event, and each thread that an event makes, is below 64
+-- the thread of an event, and one that the event makes, is below 64
+abbrev pub AreFew : Event → Type 0
+AreFew e = (e.thread < 64) × ((t : ℕ) → makes_thread t e ≡ true → t < 64)
+
+-- so of each event of a log
 abbrev pub HasFewThreads : List Event → Type 0
-HasFewThreads log = (n : ℕ) (e : Event) → event_at log n ≡ Some e → (e.thread < 64) × ((t : ℕ) → makes_thread t e ≡ true → t < 64)
+HasFewThreads log = (n : ℕ) (e : Event) → event_at log n ≡ Some e → AreFew e

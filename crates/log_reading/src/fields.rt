@@ -1,5 +1,5 @@
 // The fields of a line, in order.
-ghost use Rattle.std.specs.Prelude.{◌≡◌, ◌≤◌, ◌-◌, [], ◌∷◌, length, MatchResult};
+ghost use Rattle.std.specs.Prelude.{◌≡◌, ◌<◌, ◌≤◌, ◌-◌, [], ◌∷◌, length, MatchResult, IfOk};
 ghost use Rattle.demands.specs.declared.fault.Fault.TheVariants.{At};
 ghost use Rattle.log_lines.specs.Fields.{parts, number, number_limit, exactly, thread, stack, cell};
 ghost use Rattle.log_lines.specs.Words.{look_up, kind_words, order, is_order_of, is_fence_order};
@@ -108,6 +108,7 @@ impl<'a> Fields<'a> {
     }
 
     /// The number `n`.
+    #[tactic(auto, using(crate::proofs::NextFields::read_next, crate::proofs::NextFields::read_none))]
     pub fn exactly(&mut self, n: u32) -> Result<u32, LogFault>
         ensures { Reads (field self.old.end (exactly n)) self.old self.new result }
     {
@@ -116,6 +117,7 @@ impl<'a> Fields<'a> {
     }
 
     /// A number below 2^32.
+    #[tactic(auto, using(crate::proofs::NextFields::read_next, crate::proofs::NextFields::read_none))]
     pub fn number(&mut self) -> Result<u32, LogFault>
         ensures { Reads (field self.old.end (number number_limit)) self.old self.new result }
     {
@@ -124,14 +126,17 @@ impl<'a> Fields<'a> {
     }
 
     /// A thread.
+    #[tactic(auto, using(crate::proofs::NextFields::read_next, crate::proofs::NextFields::read_none))]
     pub fn thread(&mut self) -> Result<u32, LogFault>
-        ensures { Reads (field self.old.end thread) self.old self.new result }
+        ensures reads { Reads (field self.old.end thread) self.old self.new result }
+        ensures few { IfOk result (λ n. n < 64) }
     {
         let field = self.next()?;
         field.judged(thread(field.bytes))
     }
 
     /// A stack.
+    #[tactic(auto, using(crate::proofs::NextFields::read_next, crate::proofs::NextFields::read_none))]
     pub fn stack(&mut self) -> Result<u32, LogFault>
         ensures { Reads (field self.old.end stack) self.old self.new result }
     {
@@ -140,6 +145,7 @@ impl<'a> Fields<'a> {
     }
 
     /// A cell.
+    #[tactic(auto, using(crate::proofs::NextFields::read_next, crate::proofs::NextFields::read_none))]
     pub fn cell(&mut self) -> Result<CellId, LogFault>
         ensures { Reads (field self.old.end cell) self.old self.new result }
     {
@@ -148,6 +154,7 @@ impl<'a> Fields<'a> {
     }
 
     /// The word that says what happened.
+    #[tactic(auto, using(crate::proofs::NextFields::read_next, crate::proofs::NextFields::read_none))]
     pub fn kind_word(&mut self) -> Result<KindWord, LogFault>
         ensures { Reads (field self.old.end (look_up kind_words)) self.old self.new result }
     {
@@ -156,6 +163,7 @@ impl<'a> Fields<'a> {
     }
 
     /// The order of an access.
+    #[tactic(auto, using(crate::proofs::NextFields::read_next, crate::proofs::NextFields::read_none))]
     pub fn access_order(&mut self, mode: Mode) -> Result<Order, LogFault>
         ensures { Reads (field self.old.end (order (is_order_of mode))) self.old self.new result }
     {
@@ -164,6 +172,7 @@ impl<'a> Fields<'a> {
     }
 
     /// The order of a fence.
+    #[tactic(auto, using(crate::proofs::NextFields::read_next, crate::proofs::NextFields::read_none))]
     pub fn fence_order(&mut self) -> Result<Order, LogFault>
         ensures { Reads (field self.old.end (order is_fence_order)) self.old self.new result }
     {

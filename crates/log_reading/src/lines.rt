@@ -1,8 +1,10 @@
 // Event lines.
-ghost use Rattle.std.specs.Prelude.{◌≡◌, ◌+◌, ◌<◌, ◌^◌, length};
+ghost use Rattle.std.specs.Prelude.{◌≡◌, ℕ, ◌+◌, ◌<◌, ◌^◌, true, length, IfOk};
 ghost use Rattle.log_lines.specs.Lines.{kind_after, event_in};
 ghost use Rattle.log_lines.specs.Texts.{is_printable, first_unprintable, begins_with_digit};
 ghost use Rattle.log_lines.specs.declared.types.KindWord.TheVariants as words;
+ghost use Rattle.mem_axioms.specs.Synchronizes.{makes_thread};
+ghost use Rattle.log_reading.specs.Answers.{AreFew};
 ghost use Rattle.log_reading.specs.Inner.{ReadsKind, IsEvent};
 
 use crate::fields::{Fields, LogFault};
@@ -43,7 +45,8 @@ pub fn first_unprintable(at: usize, line: &[u8]) -> Option<usize>
 // ---- what happened
 
 fn access(names: &mut Names, mode: Mode, fields: &mut Fields<'_>) -> Result<Kind, LogFault>
-    ensures { ReadsKind (kind_after fields.old.end names.old (words.Access mode)) fields.old fields.new names.new result }
+    ensures kind { ReadsKind (kind_after fields.old.end names.old (words.Access mode)) fields.old fields.new names.new result }
+    ensures few { IfOk result (λ k. (t : ℕ) → makes_thread t (record { thread = 0; kind = k }) ≡ true → t < 64) }
 {
     let order = fields.access_order(mode)?;
     let cell = fields.cell()?;
@@ -61,7 +64,8 @@ fn access(names: &mut Names, mode: Mode, fields: &mut Fields<'_>) -> Result<Kind
 }
 
 fn kind_after(names: &mut Names, word: KindWord, fields: &mut Fields<'_>) -> Result<Kind, LogFault>
-    ensures { ReadsKind (kind_after fields.old.end names.old word) fields.old fields.new names.new result }
+    ensures kind { ReadsKind (kind_after fields.old.end names.old word) fields.old fields.new names.new result }
+    ensures few { IfOk result (λ k. (t : ℕ) → makes_thread t (record { thread = 0; kind = k }) ≡ true → t < 64) }
 {
     match word {
         KindWord::Access { mode } => access(names, mode, fields),
@@ -99,7 +103,8 @@ fn kind_after(names: &mut Names, word: KindWord, fields: &mut Fields<'_>) -> Res
 
 /// The event of a line with these fields, after `n` event lines. Its value may use names that were used before; a new one is kept.
 pub fn event(names: &mut Names, n: u32, fields: &mut Fields<'_>) -> Result<Event, LogFault>
-    ensures { IsEvent (event_in fields.old.end n names.old fields.old.fields) names.new result }
+    ensures event { IsEvent (event_in fields.old.end n names.old fields.old.fields) names.new result }
+    ensures few { IfOk result AreFew }
 {
     fields.exactly(n)?;
     let thread = fields.thread()?;

@@ -1,5 +1,5 @@
 // Decimal numbers.
-ghost use Rattle.std.specs.Prelude.{◌≡◌, ◌<◌, ◌≤◌, ◌^◌, true, length, IfSome, IfNone};
+ghost use Rattle.std.specs.Prelude.{◌≡◌, ◌<◌, ◌≤◌, ◌^◌, true, length, IfSome, IfNone, IfOk};
 ghost use Rattle.std.specs.List.{list_all};
 ghost use Rattle.std.specs.Char.{is_digit, digit_value};
 ghost use Rattle.std.specs.Str.Parse.{digits_value};
@@ -80,7 +80,8 @@ fn value_below(limit: u64, digits: &[u8]) -> Option<u32>
 /// A number below the limit.
 pub fn number(limit: u64, field: &[u8]) -> Result<u32, LogKind>
     requires { limit ≤ 2 ^ 32 }
-    ensures { result ≡ number limit field.now }
+    ensures number { result ≡ number limit field.now }
+    ensures below { IfOk result (λ n. n < limit) }
 {
     if !is_numeral(field) {
         return Err(LogKind::Unexpected);

@@ -26,10 +26,13 @@ struct Reading {
 
 impl Model for Reading {
     ghost use Rattle.log_lines.specs.Texts.{ReadLog};
+    ghost use Rattle.log_reading.specs.Answers.{HasFewThreads};
 
     ghost Value = { ReadLog };
 
     ghost view = { λ r. record { log = r.log; names = r.names } };
+
+    ghost invariant = { λ r. HasFewThreads r.log };
 }
 
 impl Reading {

@@ -1,5 +1,5 @@
 // Threads, stacks, objects and cells.
-ghost use Rattle.std.specs.Prelude.{◌≡◌};
+ghost use Rattle.std.specs.Prelude.{◌≡◌, ◌<◌, IfOk};
 ghost use Rattle.log_lines.specs.Fields.{thread, stack, object, cell, cell_in, cell_of, parts};
 
 use crate::numbers::{NUMBERS, THREADS, number};
@@ -9,7 +9,8 @@ use log_lines::LogKind;
 
 /// `tN`.
 pub fn thread(field: &[u8]) -> Result<u32, LogKind>
-    ensures { result ≡ thread field.now }
+    ensures thread { result ≡ thread field.now }
+    ensures few { IfOk result (λ n. n < 64) }
 {
     match field {
         [b't', digits @ ..] => number(THREADS, digits),

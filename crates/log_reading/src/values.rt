@@ -62,7 +62,10 @@ fn thread_value(field: &[u8]) -> Result<Scalar, LogKind>
 }
 
 // The first, or where it has not the form of a field, the other.
-fn or_else(first: Result<Scalar, LogKind>, other: Result<Scalar, LogKind>) -> Result<Scalar, LogKind>
+fn or_else(
+    first: Result<Scalar, LogKind>,
+    other: Result<Scalar, LogKind>,
+) -> Result<Scalar, LogKind>
     ensures { result ≡ or_else first other }
 {
     match first {
