@@ -5,4 +5,4 @@ pub mod Going
 pub mod Meanings
 pub mod NextFields
 pub mod Numbering
-mod Splitting
+pub mod Splitting

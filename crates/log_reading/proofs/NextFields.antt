@@ -4,10 +4,11 @@ use Rattle.std.specs.Prelude.{◌==◌, if◌then◌else◌, Result, Ok, Err, If
 use Rattle.std.specs.Borrow.{Bor}
 use Rattle.demands.specs.declared.fault.Fault.{Fault}
 use Rattle.demands.specs.declared.fault.Fault.TheVariants.{At}
-use Rattle.log_lines.specs.Fields.{Text, Judged, onto_first, parts}
+use Rattle.log_lines.specs.Fields.{Text, Judged, parts}
 use Rattle.log_lines.specs.Lines.{Fields, Read, placed, field, of_field, finished}
 use Rattle.log_lines.specs.declared.types.LogKind.{LogKind}
 use Rattle.log_lines.specs.declared.types.LogKind.TheVariants.{Unexpected}
+use Rattle.log_reading.proofs.Splitting.{parts_some}
 use Rattle.log_reading.specs.Inner.{LineRest, parts_of, fields_left, IsWithin, Reads, at_place}
 
 pub next_fields : (end : ℕ) (bytes part : Text) (rest : Option (Bor Text)) → length bytes ≤ end → parts 32 bytes ≡ part ∷ parts_of 32 rest → IfSome rest (λ r. length part + 1 + length r.now ≡ length bytes)
@@ -23,23 +24,11 @@ next_within end bytes part (Some r) l h = omega (arith, h)
 
 -- ---- no field is left
 
-onto_some : (b : ℕ) (ps : List Text) → 0 < length (onto_first b ps)
-onto_some b [] = omega arith
-onto_some b (p ∷ ps) = omega arith
-
-either_some : (c : Bool) (b : ℕ) (ps : List Text) → 0 < length (if c then [] ∷ ps else onto_first b ps)
-either_some true b ps = omega arith
-either_some false b ps = onto_some b ps
-
-parts_some : (separator : ℕ) (bytes : Text) → 0 < length (parts separator bytes)
-parts_some separator [] = omega arith
-parts_some separator (b ∷ bs) = either_some (b == separator) b (parts separator bs)
-
-some_left : (at : ℕ) (ps : List Text) → 0 < length ps → finished tt (placed at ps) ≡ Err (At Unexpected at)
+some_left : (at : ℕ) (ps : List Text) → 0 < length ps → finished (tt {0}) (placed at ps) ≡ Err (At Unexpected at)
 some_left at [] h = absurd (omega arith)
 some_left at (p ∷ ps) h = refl
 
-pub field_left : (at : ℕ) (bytes : Text) → finished tt (placed at (parts 32 bytes)) ≡ Err (At Unexpected at)
+pub field_left : (at : ℕ) (bytes : Text) → finished (tt {0}) (placed at (parts 32 bytes)) ≡ Err (At Unexpected at)
 field_left at bytes = some_left at (parts 32 bytes) (parts_some 32 bytes)
 
 -- ---- the next field is judged

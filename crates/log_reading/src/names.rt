@@ -1,5 +1,6 @@
 // The names of functions.
 ghost use Rattle.std.specs.Prelude.{◌≡◌, [], true, IfOk, OnOk};
+ghost use Rattle.std.specs.List.{list_all};
 ghost use Rattle.log_lines.specs.Values.{is_name, is_name_byte, place_among, names_with};
 
 use demands::Scope;
@@ -12,12 +13,18 @@ fn is_name_byte(byte: u8) -> bool
     byte.is_ascii_alphanumeric() || byte == b'_' || byte == b'-' || byte == b'.'
 }
 
+fn are_name_bytes(bytes: &[u8]) -> bool
+    ensures { result ≡ list_all is_name_byte bytes.now }
+{
+    bytes.iter().all(|byte| is_name_byte(*byte))
+}
+
 /// Whether a field is a name.
 pub fn is_name(field: &[u8]) -> bool
     ensures { result ≡ is_name field.now }
 {
     match field {
-        [b'@', name @ ..] => !name.is_empty() && name.iter().all(|byte| is_name_byte(*byte)),
+        [b'@', name @ ..] => !name.is_empty() && are_name_bytes(name),
         _ => false,
     }
 }

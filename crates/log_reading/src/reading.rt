@@ -25,6 +25,7 @@ struct Reading {
 }
 
 impl Model for Reading {
+    ghost use Rattle.std.specs.Prelude.{◌<◌, length};
     ghost use Rattle.log_lines.specs.Texts.{ReadLog};
     ghost use Rattle.log_reading.specs.Answers.{HasFewThreads};
 
@@ -32,7 +33,7 @@ impl Model for Reading {
 
     ghost view = { λ r. record { log = r.log; names = r.names } };
 
-    ghost invariant = { λ r. HasFewThreads r.log };
+    ghost invariant = { λ r. HasFewThreads r.log × (length r.log < 4294967295) };
 }
 
 impl Reading {
@@ -82,13 +83,14 @@ impl Reading {
 /// - `BadNumber` at a field whose number is out of range: an event's own number that is not the count of event lines before it, a
 ///   thread from 64 on, a value from 2^128 on, and any other number from 2^32 on.
 ///
-/// `Memory` says that no memory was found, or that there are 2^32 - 2 events or more. What was read is dropped.
+/// `Memory` says that no memory was found, or that there are more than 2^32 - 2 events. What was read is dropped.
 ///
 /// Each line is looked at where it stands in the text. The time is in proportion to the text, but for the names: each costs looks at
 /// as many names as the logarithm of their number.
 pub fn read_log(alloc: Global, text: &[u8]) -> Result<Log, LogFault>
     ensures read { IsRead (text_read text.now) result }
     ensures threads { IfOk result HasFewThreads }
+    ensures count { IfOk result (λ log. length log < 4294967295) }
 {
     let mut reading = Reading::new(alloc);
     let mut rest = Some(text);

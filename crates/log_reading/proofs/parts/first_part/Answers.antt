@@ -3,7 +3,7 @@ use Rattle.log_reading.proofs.Splitting.{after_is, rest_is}
 use Rattle.log_lines.specs.Fields.{parts}
 use Rattle.log_reading.proofs.parts.first_part.Goals as goal
 
-pub returns-then-end-bytes-clause-parts : goal.returns-then-end-bytes
+pub returns-then-end-bytes-clause-parts : goal.returns-then-end-bytes-clause-parts
 returns-then-end-bytes-clause-parts c =
     let bytes = c.args.bytes.now in
     let n = c.len_before-end.result in
