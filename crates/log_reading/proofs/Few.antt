@@ -1,8 +1,7 @@
 -- Threads below 64.
-use Rattle.std.proofs.Common.{◌≡◌, ℕ, ◌<◌, Bool, true, false, List, [], ◌∷◌, length, Option, Some, None, refl, sym, ap, subst}
+use Rattle.std.proofs.Common.{◌≡◌, Bool, true, false, List, ◌∷◌, length, Option, Some, subst}
 use Rattle.std.specs.Prelude.{◌==◌}
 use Rattle.mem_axioms.specs.Logs.{event_at}
-use Rattle.mem_axioms.specs.Synchronizes.{makes_thread}
 use Rattle.mem_axioms.specs.declared.types.Event.{Event}
 use Rattle.log_reading.specs.Answers.{HasFewThreads, AreFew}
 
@@ -12,6 +11,3 @@ first_or_past false o e found few past h = past h
 
 pub few_more : (log : List Event) (e : Event) → HasFewThreads log → AreFew e → HasFewThreads (e ∷ log)
 few_more log e h few n found is = first_or_past (n == length log) (event_at log n) e found few (h n found) is
-
-pub few_none : HasFewThreads []
-few_none n e is = absurd (cc)

@@ -1,26 +1,14 @@
 -- The next field of a line.
-use Rattle.std.proofs.Common.{◌≡◌, ℕ, zero, suc, ◌+◌, ◌-◌, ◌<◌, ◌≤◌, Bool, true, false, List, [], ◌∷◌, length, Option, Some, None, refl, sym, ap, subst, ◌∙◌, arith}
-use Rattle.std.specs.Prelude.{◌==◌, if◌then◌else◌, Result, Ok, Err, IfSome}
-use Rattle.std.specs.Borrow.{Bor}
+use Rattle.std.proofs.Common.{◌≡◌, ℕ, ◌<◌, List, [], ◌∷◌, length, refl, sym, ap, subst, ◌∙◌, arith}
+use Rattle.std.specs.Prelude.{Result, Ok, Err}
 use Rattle.demands.specs.declared.fault.Fault.{Fault}
 use Rattle.demands.specs.declared.fault.Fault.TheVariants.{At}
 use Rattle.log_lines.specs.Fields.{Text, Judged, parts}
-use Rattle.log_lines.specs.Lines.{Fields, Read, placed, field, of_field, finished}
+use Rattle.log_lines.specs.Lines.{placed, field, of_field, finished}
 use Rattle.log_lines.specs.declared.types.LogKind.{LogKind}
 use Rattle.log_lines.specs.declared.types.LogKind.TheVariants.{Unexpected}
 use Rattle.log_reading.proofs.Splitting.{parts_some}
-use Rattle.log_reading.specs.Inner.{LineRest, parts_of, fields_left, IsWithin, Reads, at_place}
-
-pub next_fields : (end : ℕ) (bytes part : Text) (rest : Option (Bor Text)) → length bytes ≤ end → parts 32 bytes ≡ part ∷ parts_of 32 rest → IfSome rest (λ r. length part + 1 + length r.now ≡ length bytes)
-    → placed (end - length bytes) (parts 32 bytes) ≡ (end - length bytes, part) ∷ fields_left end rest
-next_fields end bytes part None l e h = ap (placed (end - length bytes)) e
-next_fields end bytes part (Some r) l e h =
-    let at : end - length bytes + length part + 1 ≡ end - length r.now = omega (arith, h) in
-    ap (placed (end - length bytes)) e ∙ ap (λ at. (end - length bytes, part) ∷ placed at (parts 32 r.now)) at
-
-pub next_within : (end : ℕ) (bytes part : Text) (rest : Option (Bor Text)) → length bytes ≤ end → IfSome rest (λ r. length part + 1 + length r.now ≡ length bytes) → IsWithin end rest
-next_within end bytes part None l h = tt
-next_within end bytes part (Some r) l h = omega (arith, h)
+use Rattle.log_reading.specs.Inner.{LineRest, Reads, at_place}
 
 -- ---- no field is left
 

@@ -1,12 +1,10 @@
 -- The parts of a text.
 use Rattle.std.proofs.Common.{◌≡◌, ℕ, zero, suc, ◌+◌, ◌-◌, ◌<◌, ◌≤◌, Bool, true, false, not, ◌&&◌, List, [], ◌∷◌, length, get_or, take, drop, Option, Some, None, is_some, refl, sym, ap, ◌∙◌, arith, add-one, drop-cons, length-drop}
-use Rattle.std.specs.Prelude.{◌==◌, if◌then◌else◌, Result, Ok, Err}
+use Rattle.std.specs.Prelude.{◌==◌, if◌then◌else◌, Err}
 use Rattle.std.specs.List.{list_all}
 use Rattle.std.specs.Borrow.{Bor}
 use Rattle.std.proofs.lemmas.Bool.Decides.{nat_tests}
-use Rattle.heap_cells.specs.declared.cells.CellId.{CellId}
 use Rattle.log_lines.specs.Fields.{Text, parts, onto_first, cell_in}
-use Rattle.log_lines.specs.declared.types.LogKind.{LogKind}
 use Rattle.log_lines.specs.declared.types.LogKind.TheVariants.{Unexpected}
 use Rattle.log_reading.specs.Inner.{parts_after, parts_of, other_than}
 

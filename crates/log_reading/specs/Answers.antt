@@ -1,5 +1,5 @@
 -- What is answered to the text of a log.
-use Rattle.std.specs.Prelude.{◌≡◌, ◌<◌, ℕ, true, List, Option, Some, Result, Ok, Err}
+use Rattle.std.specs.Prelude.{◌≡◌, ◌<◌, ℕ, true, List, Some, Result, Ok, Err}
 use Rattle.demands.specs.declared.fault.Fault.{Fault}
 use Rattle.demands.specs.declared.fault.Fault.TheVariants.{Memory, At}
 use Rattle.mem_axioms.specs.Logs.{event_at}

@@ -1,4 +1,5 @@
-//! The log of a text, or the text's first fault.
+//! The log of a text, or the text's first fault: `read_log`. It reads lines (`reading`, `lines`), their fields (`fields`), and what a
+//! field means (`numbers`, `references`, `words`, `values`, `names`). Parts of a text stay where they stand in it.
 #![tactic(auto)]
 
 mod fields;

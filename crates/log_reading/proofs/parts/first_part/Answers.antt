@@ -1,4 +1,4 @@
-use Rattle.std.proofs.Common.{◌≡◌, ◌<◌, ap, ◌∙◌, ◌∷◌, List, ℕ, take, length, sym, ◌+◌}
+use Rattle.std.proofs.Common.{ap, ◌∙◌, ◌∷◌, List, ℕ, take, sym, ◌+◌}
 use Rattle.log_reading.proofs.Splitting.{after_is, rest_is}
 use Rattle.log_lines.specs.Fields.{parts}
 use Rattle.log_reading.proofs.parts.first_part.Goals as goal

@@ -1,5 +1,4 @@
-use Rattle.std.proofs.Common.{◌≡◌, ◌≤◌, length, get_or, arith}
-use Rattle.std.proofs.lemmas.Bool.Decides.{nat_tests}
+use Rattle.std.proofs.Common.{arith}
 use Rattle.log_reading.proofs.Splitting.{split_here, split_end}
 use Rattle.log_reading.proofs.parts.len_before.Goals as goal
 

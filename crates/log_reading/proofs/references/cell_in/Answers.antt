@@ -1,4 +1,4 @@
-use Rattle.std.proofs.Common.{◌≡◌, ◌∙◌, sym}
+use Rattle.std.proofs.Common.{◌∙◌, sym}
 use Rattle.log_reading.proofs.Splitting.{three_parts}
 use Rattle.log_reading.proofs.references.cell_in.Goals as goal
 

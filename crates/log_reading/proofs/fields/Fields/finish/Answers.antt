@@ -1,4 +1,4 @@
-use Rattle.std.proofs.Common.{◌≡◌, ◌-◌, ◌∙◌, length, sym, ap}
+use Rattle.std.proofs.Common.{◌-◌, ◌∙◌, length, sym, ap}
 use Rattle.log_lines.specs.Lines.{finished}
 use Rattle.log_reading.specs.Inner.{LineRest, fields_left}
 use Rattle.log_reading.proofs.NextFields.{field_left}

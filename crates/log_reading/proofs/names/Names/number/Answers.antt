@@ -1,4 +1,4 @@
-use Rattle.std.proofs.Common.{◌≡◌, ◌∙◌, List, ℕ, sym, ap, subst}
+use Rattle.std.proofs.Common.{◌≡◌, ◌∙◌, sym, ap, subst}
 use Rattle.log_lines.specs.Values.{Names, place_among, names_with}
 use Rattle.log_reading.specs.Inner.{names_of, AreNumbered}
 use Rattle.log_reading.proofs.Numbering.{found_number, new_number}

@@ -1,4 +1,4 @@
-use Rattle.std.proofs.Common.{◌≡◌, ◌<◌, ◌∷◌, List, length, sym, subst, arith}
+use Rattle.std.proofs.Common.{◌<◌, List, length, sym, subst, arith}
 use Rattle.mem_axioms.specs.declared.types.Event.{Event}
 use Rattle.log_reading.specs.Answers.{HasFewThreads}
 use Rattle.log_reading.proofs.Few.{few_more}
