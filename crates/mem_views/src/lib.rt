@@ -2,15 +2,7 @@
 //! and each call looks at few entries of histories and indexes.
 #![tactic(auto)]
 
-mod cell;
-mod floors;
-mod gains;
-mod indexes;
-mod kept_cells;
-mod look_ups;
 mod places;
-mod racing;
-mod rows;
 mod view_memory;
 
 pub use clocks::Clock;
