@@ -1,4 +1,4 @@
--- To believe: what a checked bundle answers by names and by numbers.
+-- What a checked bundle answers by names and by numbers.
 use Rattle.std.specs.Prelude.{ℕ, Bool, true, false, is_some, if◌then◌else◌, List, [], ◌∷◌, ◌++◌, Option, Some, None, Result, Ok, Err, codes, drop, slice_get, option_map, option_and_then, unwrap_or}
 use Rattle.demands.specs.Names.{found}
 use Rattle.ir_lex.specs.declared.name.Name.{Name}

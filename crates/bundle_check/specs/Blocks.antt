@@ -1,4 +1,4 @@
--- To believe: a block: its demands, and what it is when names are numbers.
+-- A block: its demands, and what it is when names are numbers.
 use Rattle.std.specs.Prelude.{ℕ, suc, false, List, [], ◌∷◌, Option, Some, None, option_map, map, length}
 use Rattle.demands.specs.Demands.{Demands, none, demand, ◌⨾◌}
 use Rattle.ir_lex.specs.declared.name.Name.{Name}

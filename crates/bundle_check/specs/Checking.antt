@@ -1,4 +1,4 @@
--- To believe: what a bundle must meet whose names are all defined, and what it is when names are numbers.
+-- What a bundle must meet whose names are all defined, and what it is when names are numbers.
 use Rattle.std.specs.Prelude.{List}
 use Rattle.demands.specs.Demands.{Demands, ◌⨾◌}
 use Rattle.ir_tree.specs.declared.items.Item.{Item}

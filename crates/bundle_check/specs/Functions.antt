@@ -1,4 +1,4 @@
--- To believe: the functions of a bundle: their demands, in text order, and what they are when names are numbers. Blocks are counted from
+-- The functions of a bundle: their demands, in text order, and what they are when names are numbers. Blocks are counted from
 -- 0 over the whole bundle, in text order.
 use Rattle.std.specs.Prelude.{ℕ, suc, ◌+◌, Bool, true, List, [], ◌∷◌, ◌++◌, Option, Some, None, is_some, not, ◌&&◌, length, slice_get, option_map, option_and_then, if◌then◌else◌}
 use Rattle.demands.specs.Demands.{Demands, none, demand, ◌⨾◌}

@@ -1,4 +1,4 @@
--- To believe: the constants of a bundle and their values. Members may come later in the text than what they are members of.
+-- The constants of a bundle and their values. Members may come later in the text than what they are members of.
 use Rattle.std.specs.Prelude.{List, [], ◌∷◌, length}
 use Rattle.ir_tree.specs.declared.items.Item.{Item}
 use Rattle.ir_tree.specs.declared.items.Item.TheVariants as items

@@ -1,4 +1,4 @@
--- To believe: what scalars the value of a constant has at the leaves of its type.
+-- What scalars the value of a constant has at the leaves of its type.
 use Rattle.std.specs.Prelude.{◌≡◌, ℕ, ◌<◌, ◌^◌, List, [], ◌∷◌, Option, Some, slice_get}
 use Rattle.type_laws.specs.declared.definition.TypeDef.{TypeDef}
 use Rattle.type_laws.specs.declared.definition.TypeDef.TheVariants.{Ref, Iref, FuncRef, StackRef, ThreadRef}

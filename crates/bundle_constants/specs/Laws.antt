@@ -1,4 +1,4 @@
--- To believe: what holds of the values of constants in every bundle whose items meet their demands.
+-- What holds of the values of constants in every bundle whose items meet their demands.
 use Rattle.std.specs.Prelude.{◌≡◌, ℕ, List, Some, None, slice_get}
 use Rattle.demands.specs.Demands.{first_unmet}
 use Rattle.ir_tree.specs.declared.items.Item.{Item}

@@ -1,4 +1,4 @@
--- Inner: the members of literals, and which constants are made. No public contract cites this, so no reader of those needs it.
+-- The members of literals, and which constants are made. No public contract cites this, so no reader of those needs it.
 use Rattle.std.specs.Prelude.{◌≡◌, ℕ, ◌<◌, ◌≤◌, Bool, true, false, List, [], map, length, Option, Some, None, slice_get, slice_index_or}
 use Rattle.std.specs.List.{All, Contains, list_all}
 use Rattle.demands.specs.Demands.{first_unmet}

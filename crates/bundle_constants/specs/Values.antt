@@ -1,4 +1,4 @@
--- To believe: the values of constants, whose members are constants too.
+-- The values of constants, whose members are constants too.
 use Rattle.std.specs.Prelude.{ℕ, zero, suc, List, [], map, slice_index_or}
 use Rattle.type_laws.specs.declared.definition.TypeDef.{TypeDef}
 use Rattle.mu_values.specs.declared.scalars.Scalar.{Scalar}

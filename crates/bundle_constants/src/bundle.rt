@@ -18,7 +18,7 @@ use mu_values::{Made, Value};
 use std::alloc::{AllocError, Global};
 use text_forms::Listing;
 
-/// How many constants there are. Past 2^32 - 1 the answer is want of memory.
+/// How many constants there are. Past 2^32 - 1 the answer is out of memory.
 fn count(constants: &[Constant]) -> Result<u32, AllocError>
     ensures { IfOk result (λ n. n ≡ length constants.now) }
 {
@@ -53,7 +53,7 @@ fn listed(alloc: Global, made: Made, many: u32) -> Result<Listing<Value>, AllocE
 /// in the text: it takes passes over the constants that are not made yet, each in the opposite direction to the one before, and each
 /// makes at least one. So it takes at most two passes where all members come before what they are members of, or all behind. The memory
 /// is that of the scalars, of which a member's are there again in each constant that it is a member of. Past 2^32 - 1 constants the
-/// answer is want of memory.
+/// answer is out of memory.
 pub fn values(alloc: Global, tables: &Tables, items: &[Item]) -> Result<Listing<Value>, AllocError>
     requires globals { tables.now.globals ≡ globals_of items.now }
     requires tables { tables.now ≡ tables_of tables.now.globals items.now }

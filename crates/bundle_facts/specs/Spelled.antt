@@ -1,4 +1,4 @@
--- To believe: in a bundle that is read from a text the names of functions, of their versions and of their blocks are spelled as names.
+-- In a bundle that is read from a text the names of functions, of their versions and of their blocks are spelled as names.
 use Rattle.std.specs.Prelude.{ℕ, List, [], ◌∷◌, Ok}
 use Rattle.ir_lex.specs.declared.token.TokenKind.TheVariants as kinds
 use Rattle.ir_lex.specs.Spellings.{Spells}

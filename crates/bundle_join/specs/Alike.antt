@@ -1,4 +1,4 @@
--- To believe: when two items say the same. They are alike where they are equal save for places: the same names in the same order, and
+-- When two items say the same. They are alike where they are equal save for places: the same names in the same order, and
 -- the same numbers, however a number is spelled. It is asked of types, signatures, constants and declarations of functions.
 use Rattle.std.specs.Prelude.{Bool, true, false, ◌&&◌, not, nat_eq, List, [], ◌∷◌}
 use Rattle.std.specs.Str.{bytes_eq}

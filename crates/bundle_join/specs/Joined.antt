@@ -1,4 +1,4 @@
--- To believe: the joined bundle. The items of the bundles are gone through in order, and each is compared with what the bundles before its
+-- The joined bundle. The items of the bundles are gone through in order, and each is compared with what the bundles before its
 -- own gave: what says the same is left out, what says otherwise is refused, and all else is kept. The items of one bundle are not compared.
 use Rattle.std.specs.Prelude.{◌≡◌, ℕ, suc, Bool, true, false, ◌&&◌, nat_lt, List, [], ◌∷◌, ◌++◌, length, Option, Some, None, Result, Ok, Err, if◌then◌else◌}
 use Rattle.ir_lex.specs.declared.name.Name.{Name}

@@ -1,4 +1,4 @@
--- To believe: bundles whose code is well typed, item by item.
+-- Bundles whose code is well typed, item by item.
 use Rattle.std.specs.Prelude.{◌≡◌, ℕ, suc, ◌+◌, nat_eq, if◌then◌else◌, List, [], ◌∷◌, ◌++◌, Option, Some, None, is_some, length, take, slice_get}
 use Rattle.ir_lex.specs.declared.name.Name.{Name}
 use Rattle.ir_tree.specs.declared.code.BlockHead.{BlockHead}

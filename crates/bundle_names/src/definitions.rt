@@ -15,7 +15,7 @@ use ir_lex::Name;
 use ir_tree::{Const, Funcdecl, Funcdef, Funcsig, GlobalCell, Item, Typedef};
 use std::alloc::Global;
 
-/// One more. Past 2^32 - 1 the answer is want of memory.
+/// One more. Past 2^32 - 1 the answer is out of memory.
 fn next(count: u32) -> Result<u32, NameFault>
     ensures ok { IfOk result (λ n. n ≡ count + 1) }
     ensures err { IsMemory result }

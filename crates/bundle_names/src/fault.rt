@@ -21,7 +21,7 @@ pub enum NameKind {
     WrongKind,
 }
 
-/// Why the names of a bundle are refused: the first that is at fault, or want of memory.
+/// Why the names of a bundle are refused: the first that is at fault, or out of memory.
 pub type NameFault = Fault<NameKind>;
 
 /// The fault of that kind at the name.

@@ -1,4 +1,4 @@
--- To believe: what the items of a bundle say, each sort of item by number.
+-- What the items of a bundle say, each sort of item by number.
 use Rattle.std.specs.Prelude.{ℕ, suc, Bool, false, List, [], ◌∷◌, Option, Some, map, slice_get, nat_eq, unwrap_or, option_and_then, if◌then◌else◌}
 use Rattle.demands.specs.Names.{found}
 use Rattle.ir_lex.specs.declared.name.Name.{Name}

@@ -1,4 +1,4 @@
--- To believe: the graph of the types and signatures of a bundle. Types stand there first, then signatures, each in text order.
+-- The graph of the types and signatures of a bundle. Types stand there first, then signatures, each in text order.
 use Rattle.std.specs.Prelude.{ℕ, ◌+◌, List, [], ◌∷◌, ◌++◌, Option, Some, None, map, length, nat_lt, if◌then◌else◌}
 use Rattle.demands.specs.Demands.{Demands, as_kind}
 use Rattle.demands.specs.Names.{found}

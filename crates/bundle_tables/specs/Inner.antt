@@ -1,4 +1,4 @@
--- Inner: what contracts inside the crate cite; no public one does, so no reader of those needs it.
+-- What contracts inside the crate cite; no public one does, so no reader of those needs it.
 use Rattle.std.specs.List.{All}
 use Rattle.std.specs.Prelude.{ℕ, suc, ◌<◌, List, ◌∷◌, Option, Some, None}
 use Rattle.ir_tree.specs.declared.items.Item.{Item}

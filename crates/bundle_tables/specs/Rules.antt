@@ -1,4 +1,4 @@
--- To believe: what the items of a bundle that are no functions must meet: types, then constants, signatures and globals, each in text order.
+-- What the items of a bundle that are no functions must meet: types, then constants, signatures and globals, each in text order.
 use Rattle.std.specs.Prelude.{ℕ, ◌+◌, List, [], ◌∷◌, Option, Some, None, map, length, nat_le}
 use Rattle.demands.specs.Demands.{Demands, none, demand, ◌⨾◌, as_kind}
 use Rattle.demands.specs.Names.{found}

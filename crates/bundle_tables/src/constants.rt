@@ -35,7 +35,7 @@ fn constant_ids(
 }
 
 /// A literal, with the constants that it names by number. Where nothing has such a name, which the names of a bundle rule out, and
-/// where a place is past 2^32 - 1 the answer is want of memory.
+/// where a place is past 2^32 - 1 the answer is out of memory.
 pub fn literal(
     alloc: Global,
     globals: &Globals,

@@ -19,7 +19,7 @@ use text_forms::Listing;
 /// The most items that a graph is built of.
 const MOST_ITEMS: usize = 500000000;
 
-/// A place. Past 2^32 - 1 the answer is want of memory.
+/// A place. Past 2^32 - 1 the answer is out of memory.
 fn add_place(places: &mut Listing<u32>, place: usize) -> Result<(), AllocError>
     ensures { OnOk result (places.new ≡ places.old ++ place ∷ []) }
 {
@@ -222,7 +222,7 @@ fn add_signatures(
     Ok(())
 }
 
-/// The graph of the types and signatures of a bundle. Past 5 * 10^8 items the answer is want of memory.
+/// The graph of the types and signatures of a bundle. Past 5 * 10^8 items the answer is out of memory.
 pub fn graph(alloc: Global, globals: &Globals, items: &[Item]) -> Result<TypeGraph, AllocError>
     requires { globals.now ≡ globals_of items.now }
     ensures definitions { IfOk result (λ graph. graph.definitions ≡ graph_of globals.now items.now) }

@@ -31,7 +31,7 @@ fn judge_others(alloc: Global, tables: &Tables, items: &[Item]) -> Result<(), Ch
 /// What the items of a bundle say, by number, where those that are no functions meet all demands on them; else the first that they do
 /// not meet: the types in three passes, then the constants, the signatures and the globals, each in text order. `globals` is what the
 /// global names of these items stand for. It takes the time of `mu_types::classes`, and a few hashes for each name. Past 5 * 10^8
-/// items, or where a place is past 2^32 - 1, the answer is want of memory.
+/// items, or where a place is past 2^32 - 1, the answer is out of memory.
 pub fn tables(alloc: Global, items: &[Item], globals: Globals) -> Result<Tables, CheckFault>
     requires { globals ≡ globals_of items.now }
     ensures { Judges (item_demands globals items.now) (tables_of globals items.now) result }

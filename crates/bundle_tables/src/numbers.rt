@@ -48,7 +48,7 @@ pub fn or_zero(number: Option<u32>) -> u32
     }
 }
 
-/// The id of the type with this name. Where nothing has it, which the names of a bundle rule out, the answer is want of memory.
+/// The id of the type with this name. Where nothing has it, which the names of a bundle rule out, the answer is out of memory.
 pub fn type_id(globals: &Globals, name: &Name) -> Result<u32, AllocError>
     ensures same { IfOk result (λ id. id ≡ type_id globals.now name.now) }
     ensures below { IfOk result (λ id. id < globals.now.counts.written) }
@@ -60,7 +60,7 @@ pub fn type_id(globals: &Globals, name: &Name) -> Result<u32, AllocError>
 }
 
 /// The id of the signature with this name: signatures stand behind all types. Where nothing has the name, which the names of a
-/// bundle rule out, and past 2^32 - 1 the answer is want of memory.
+/// bundle rule out, and past 2^32 - 1 the answer is out of memory.
 pub fn signature_id(globals: &Globals, name: &Name) -> Result<u32, AllocError>
     ensures same { IfOk result (λ id. id ≡ signature_id globals.now name.now) }
     ensures below { IfOk result (λ id. id < globals.now.counts.written + globals.now.counts.signatures) }
@@ -73,7 +73,7 @@ pub fn signature_id(globals: &Globals, name: &Name) -> Result<u32, AllocError>
     }
 }
 
-/// The number of the constant with this name. Where nothing has it, which the names of a bundle rule out, the answer is want of memory.
+/// The number of the constant with this name. Where nothing has it, which the names of a bundle rule out, the answer is out of memory.
 pub fn constant_id(globals: &Globals, name: &Name) -> Result<u32, AllocError>
     ensures same { IfOk result (λ id. id ≡ constant_id globals.now name.now) }
     ensures below { IfOk result (λ id. id < globals.now.counts.constants) }

@@ -22,7 +22,7 @@ fn fault_of(fault: TypeFault) -> CheckFault
     }
 }
 
-/// How many types and signatures there are. Past 2^32 - 1 the answer is want of memory.
+/// How many types and signatures there are. Past 2^32 - 1 the answer is out of memory.
 fn written(globals: &Globals) -> Result<u32, AllocError>
     ensures { IfOk result (λ n. n ≡ globals.now.counts.written + globals.now.counts.signatures) }
 {

@@ -1,4 +1,4 @@
--- Inner: what a table of types keeps true of what it holds.
+-- What a table of types keeps true of what it holds.
 -- Contracts inside the crate, and the one that makes a table, cite this.
 use Rattle.std.specs.Prelude.{◌≡◌, ℕ, Some, slice_get}
 use Rattle.type_laws.specs.declared.definition.TypeDef.TheVariants.{Void}

@@ -1,4 +1,4 @@
--- To believe: what holds of the types that every bundle has.
+-- What holds of the types that every bundle has.
 use Rattle.std.specs.Prelude.{◌≡◌, ℕ, List, length, Some, slice_get}
 use Rattle.type_laws.specs.declared.definition.TypeDef.{TypeDef}
 use Rattle.type_laws.specs.declared.definition.TypeDef.TheVariants.{Int, Void, Ref, StackRef, ThreadRef}

@@ -1,4 +1,4 @@
--- To believe: what names stand for in a bundle: types with their classes, signatures, and operands with the classes of their types.
+-- What names stand for in a bundle: types with their classes, signatures, and operands with the classes of their types.
 -- Each is an option: there is nothing where the name is not defined, or defined as something else.
 use Rattle.std.specs.Prelude.{ℕ, List, [], Option, Some, None, slice_get, unwrap_or, option_map, option_and_then}
 use Rattle.demands.specs.Names.{found}

@@ -1,4 +1,4 @@
--- To believe: what the forms of instructions ask of the types that they name, by the types' definitions.
+-- What the forms of instructions ask of the types that they name, by the types' definitions.
 use Rattle.std.specs.Prelude.{ℕ, Bool, true, false, List, Option, Some, None, length, slice_get, is_some, nat_eq, nat_le, if◌then◌else◌, ◌&&◌}
 use Rattle.ir_lex.specs.declared.token.Number.{Number}
 pub use Rattle.type_laws.specs.Scalars.{is_scalar}

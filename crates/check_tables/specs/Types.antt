@@ -1,4 +1,4 @@
--- To believe: types by number. A type or signature that is written has the number by which the graph of a bundle's types knows it; the
+-- Types by number. A type or signature that is written has the number by which the graph of a bundle's types knows it; the
 -- types that are the same have one class, and what has a type is known by the class of that type.
 use Rattle.std.specs.Prelude.{ℕ, Bool, false, List, [], Option, Some, None, length, slice_get, nat_lt, not, unwrap_or, option_map, option_and_then, if◌then◌else◌}
 use Rattle.type_laws.specs.declared.definition.TypeDef.{TypeDef}

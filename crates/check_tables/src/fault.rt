@@ -55,7 +55,7 @@ pub enum CheckKind {
     EntryParameters,
 }
 
-/// Why a bundle is refused: the first demand that is not met, or want of memory.
+/// Why a bundle is refused: the first demand that is not met, or out of memory.
 pub type CheckFault = Fault<CheckKind>;
 
 /// The fault of that kind at that place.

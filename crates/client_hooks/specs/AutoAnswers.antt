@@ -1,4 +1,4 @@
--- To believe: that the answer of a client never ends a run.
+-- That the answer of a client never ends a run.
 use Rattle.std.specs.Prelude.{◌≡◌, ℕ, List, Option, ⊤}
 use Rattle.check_tables.specs.declared.tables.Tables.{Tables}
 use Rattle.mu_model.specs.Clients.{Answer}

@@ -1,4 +1,4 @@
--- To believe: what the handler of a hook has to promise.
+-- What the handler of a hook has to promise.
 use Rattle.std.specs.Prelude.{◌≡◌, []}
 use Rattle.mu_values.specs.Slots.{TypedValues}
 use Rattle.check_tables.specs.declared.tables.Tables.{Tables}

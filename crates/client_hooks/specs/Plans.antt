@@ -1,4 +1,4 @@
--- To believe: which answer of the abstract machine one is without the trapped stack.
+-- Which answer of the abstract machine one is without the trapped stack.
 use Rattle.mu_values.specs.Slots.{TypedValues}
 use Rattle.mu_model.specs.Clients as clients
 use Rattle.mu_model.specs.Clients.{Classed, Answer}

@@ -1,4 +1,4 @@
--- To believe: which answer of the abstract machine a reply is, and which stack it hands back.
+-- Which answer of the abstract machine a reply is, and which stack it hands back.
 use Rattle.std.specs.Prelude.{⊤}
 use Rattle.mu_values.specs.Slots.{TypedValues}
 use Rattle.stacks.specs.Stacks.{Unbound}

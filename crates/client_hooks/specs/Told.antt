@@ -1,4 +1,4 @@
--- To believe: where the values of an answer come from.
+-- Where the values of an answer come from.
 use Rattle.std.specs.Prelude.{◌≡◌, ℕ, List, Some, ⊤}
 use Rattle.std.specs.List.{Contains}
 use Rattle.mu_values.specs.Slots.{TypedValues}

@@ -1,4 +1,4 @@
--- To believe: what a client is asked.
+-- What a client is asked.
 use Rattle.std.specs.Prelude.{ℕ, List, Option}
 use Rattle.check_tables.specs.declared.tables.Tables.{Tables}
 use Rattle.stacks.specs.Stacks.{Unbound}

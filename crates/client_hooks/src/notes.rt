@@ -32,7 +32,7 @@ impl Notes {
         }
     }
 
-    /// Adds a record of where a frame stands, by its number from the top. After a refusal for want of memory the records are as
+    /// Adds a record of where a frame stands, by its number from the top. When out of memory, the records are as
     /// before.
     pub fn add_frame(&mut self, frame: u32, block: u32, at: u32) -> Result<(), AllocError>
         ensures added { OnOk result (self.new ≡ self.old ++ Frame frame block at ∷ []) }
@@ -42,7 +42,7 @@ impl Notes {
         Ok(())
     }
 
-    /// Adds a record of what a frame keeps, by its number from the top. After a refusal for want of memory the records are as before.
+    /// Adds a record of what a frame keeps, by its number from the top. When out of memory, the records are as before.
     pub fn add_kept(&mut self, frame: u32, values: Passed) -> Result<(), AllocError>
         ensures added { OnOk result (self.new ≡ self.old ++ Kept frame values ∷ []) }
         ensures same { OnErr result (self.new ≡ self.old) }
@@ -92,7 +92,7 @@ impl Watches {
         }
     }
 
-    /// Adds a change behind the others. After a refusal for want of memory they are as before.
+    /// Adds a change behind the others. When out of memory, they are as before.
     pub fn add(&mut self, watch: Watch) -> Result<(), AllocError>
         ensures added { OnOk result (self.new ≡ self.old ++ (watch.number, watch.enabled) ∷ []) }
         ensures same { OnErr result (self.new ≡ self.old) }

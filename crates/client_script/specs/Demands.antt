@@ -1,4 +1,4 @@
--- To believe: what the names and numbers of a script have to meet, token by token.
+-- What the names and numbers of a script have to meet, token by token.
 use Rattle.std.specs.Prelude.{List, [], ◌∷◌, if◌then◌else◌}
 use Rattle.text_forms.specs.declared.symbol.Symbol.TheVariants as symbols
 use Rattle.text_forms.specs.Tokens.{Tok, has}

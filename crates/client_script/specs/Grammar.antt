@@ -1,4 +1,4 @@
--- To believe: the text of a script as it is written, over the bundle that its names are of.
+-- The text of a script as it is written, over the bundle that its names are of.
 --
 --   script = entry*
 --   entry  = { action* reply }

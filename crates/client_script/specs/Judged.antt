@@ -1,4 +1,4 @@
--- Inner: which tokens of a text are judged.
+-- Which tokens of a text are judged.
 -- Contracts inside the crate cite this; no public one does, so no reader of those needs it.
 use Rattle.std.specs.Prelude.{ℕ, Bool, true, nat_lt, List, Option, Some, None}
 use Rattle.text_forms.specs.Tokens.{Tok}

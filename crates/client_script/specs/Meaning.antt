@@ -1,4 +1,4 @@
--- To believe: the entries that a script means, as a client has them.
+-- The entries that a script means, as a client has them.
 use Rattle.std.specs.Prelude.{List, map}
 use Rattle.mu_model.specs.Clients as clients
 use Rattle.mu_model.specs.Clients.{ScriptEntry}

@@ -1,4 +1,4 @@
--- To believe: the numbers of a script.
+-- The numbers of a script.
 use Rattle.std.specs.Prelude.{ℕ, Bool, not, nat_lt, ◌^◌, ◌&&◌, if◌then◌else◌}
 use Rattle.ir_lex.specs.declared.token.Number.{Number}
 use Rattle.ir_lex.specs.declared.name.Numeral.{Numeral}

@@ -1,4 +1,4 @@
--- Inner: an answer as it is made, part by part.
+-- An answer as it is made, part by part.
 -- Contracts inside the crate cite this; no public one does, so no reader of those needs it.
 use Rattle.std.specs.Prelude.{◌≡◌, List, ◌++◌, Option, Some, None, Result, Ok, Err, map, flat_map, ⊤}
 use Rattle.mu_values.specs.Slots.{TypedValues}

@@ -1,4 +1,4 @@
--- To believe: which answer a text has, in the words of the grammar.
+-- Which answer a text has, in the words of the grammar.
 use Rattle.std.specs.Prelude.{◌≡◌, ℕ, List, [], ◌∷◌, ◌++◌, Option, Some, None, Result, Ok, Err, ◌↔◌}
 use Rattle.text_forms.specs.declared.fault.Fault.{Fault}
 use Rattle.text_forms.specs.Tokens.{Tok}

@@ -1,4 +1,4 @@
--- To believe: the client that a script is, and the values that it holds.
+-- The client that a script is, and the values that it holds.
 use Rattle.std.specs.Prelude.{false, List, [], ◌∷◌, ◌++◌, flat_map}
 use Rattle.mu_model.specs.Clients.{Classed, With, Pass, Throw, Reply, Resume, Rebind, Exit, Stop, Argument, Told, KeptValue, ScriptEntry, Client}
 

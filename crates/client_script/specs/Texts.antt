@@ -1,4 +1,4 @@
--- To believe: what the text of a script is refused for, and the entries that it means.
+-- What the text of a script is refused for, and the entries that it means.
 use Rattle.std.specs.Prelude.{ℕ, false, nat_lt, List, [], ◌∷◌, Result, Ok, Err, if◌then◌else◌}
 use Rattle.text_forms.specs.declared.fault.Fault.{Fault}
 use Rattle.text_forms.specs.Tokens.{Tok}

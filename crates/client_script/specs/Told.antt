@@ -1,4 +1,4 @@
--- To believe: what the global names of a script stand for.
+-- What the global names of a script stand for.
 use Rattle.std.specs.Prelude.{List, [], Option, Some, None}
 use Rattle.ir_lex.specs.declared.name.Name.{Name}
 use Rattle.ir_tree.specs.declared.items.Item.{Item}

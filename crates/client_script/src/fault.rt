@@ -17,5 +17,5 @@ pub enum ScriptKind {
     Unknown,
 }
 
-/// Why the text of a script is refused: its first fault with its place, or want of memory.
+/// Why the text of a script is refused: its first fault with its place, or out of memory.
 pub type ScriptFault = Fault<ScriptKind>;

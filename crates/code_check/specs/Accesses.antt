@@ -1,4 +1,4 @@
--- To believe: instructions that read or write memory, or order such accesses: for each form its demands from left to right, what it
+-- Instructions that read or write memory, or order such accesses: for each form its demands from left to right, what it
 -- gives, and its code.
 use Rattle.std.specs.Prelude.{ℕ, Bool, true, false, List, [], ◌∷◌, Option, ◌&&◌}
 use Rattle.demands.specs.Demands.{Demands, demand, ◌⨾◌}

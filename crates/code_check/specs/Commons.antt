@@ -1,4 +1,4 @@
--- To believe: instructions under names: for each form its demands from left to right, what it gives, and its code.
+-- Instructions under names: for each form its demands from left to right, what it gives, and its code.
 use Rattle.std.specs.Prelude.{ℕ, List, [], ◌∷◌, Some}
 use Rattle.demands.specs.Demands.{Demands, none, ◌⨾◌}
 use Rattle.ir_tree.specs.declared.common.CommonInst.{CommonInst}

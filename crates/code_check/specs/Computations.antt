@@ -1,4 +1,4 @@
--- To believe: instructions that compute a value from values: for each form its demands from left to right, what it gives, and its code.
+-- Instructions that compute a value from values: for each form its demands from left to right, what it gives, and its code.
 use Rattle.std.specs.Prelude.{ℕ, Bool, false, List, [], ◌∷◌, Option, Some, is_some, ◌&&◌}
 use Rattle.demands.specs.Demands.{Demands, demand, ◌⨾◌}
 use Rattle.ir_lex.specs.declared.name.Name.{Name}

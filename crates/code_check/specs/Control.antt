@@ -1,4 +1,4 @@
--- To believe: instructions that say where the function goes on, or that enter or leave one: for each form its demands from left to
+-- Instructions that say where the function goes on, or that enter or leave one: for each form its demands from left to
 -- right, what it gives, and its code. What EXC and KEEPALIVE ask stands with the instruction.
 use Rattle.std.specs.Prelude.{ℕ, Bool, true, false, List, [], ◌∷◌, Option, Some, None, map, nat_eq, ◌&&◌}
 use Rattle.demands.specs.Demands.{Demands, none, demand, ◌⨾◌}

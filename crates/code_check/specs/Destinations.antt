@@ -1,4 +1,4 @@
--- To believe: destinations, and what a stack is entered with: their demands and their code; and the code of KEEPALIVE.
+-- Destinations, and what a stack is entered with: their demands and their code; and the code of KEEPALIVE.
 use Rattle.std.specs.Prelude.{ℕ, Bool, false, List, [], Option, Some, None, option_map, unwrap_or, not}
 use Rattle.demands.specs.Demands.{Demands, demand, ◌⨾◌}
 use Rattle.demands.specs.Names.{found}

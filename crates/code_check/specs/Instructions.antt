@@ -1,4 +1,4 @@
--- To believe: an instruction in its block: its demands in their order, what it gives, its code, and the variables behind it.
+-- An instruction in its block: its demands in their order, what it gives, its code, and the variables behind it.
 use Rattle.std.specs.Prelude.{ℕ, Bool, true, List, [], ◌∷◌, ◌++◌, Option, Some, None, option_map, is_some, not, nat_eq, length}
 use Rattle.std.specs.Option.{option_map_or}
 use Rattle.demands.specs.Demands.{Demands, none, demand, ◌⨾◌}

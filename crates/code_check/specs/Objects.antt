@@ -1,4 +1,4 @@
--- To believe: instructions that make objects, and those that find places in them: for each form its demands from left to right, what it
+-- Instructions that make objects, and those that find places in them: for each form its demands from left to right, what it
 -- gives, and its code.
 use Rattle.std.specs.Prelude.{ℕ, List, [], ◌∷◌, Option, is_some}
 use Rattle.demands.specs.Demands.{Demands, demand, ◌⨾◌}

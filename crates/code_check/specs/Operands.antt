@@ -1,4 +1,4 @@
--- To believe: operands, lists of arguments, types, and variables that are kept: their demands, and where values come from.
+-- Operands, lists of arguments, types, and variables that are kept: their demands, and where values come from.
 use Rattle.std.specs.Prelude.{ℕ, Bool, true, false, List, [], ◌∷◌, Option, Some, None, is_some, option_map, unwrap_or, map, nat_eq, length}
 use Rattle.demands.specs.Demands.{Demands, none, demand, ◌⨾◌}
 use Rattle.demands.specs.Names.{found}

@@ -1,4 +1,4 @@
--- To believe: instructions that ask the client, enter another stack or start a thread: for each form its demands from left to right,
+-- Instructions that ask the client, enter another stack or start a thread: for each form its demands from left to right,
 -- what it gives, and its code. What EXC, WPEXC and KEEPALIVE ask, and the second destination of a WATCHPOINT, stand with the instruction.
 use Rattle.std.specs.Prelude.{ℕ, ◌^◌, List, [], ◌∷◌, Option, Some, option_map, not, nat_lt, ◌&&◌}
 use Rattle.std.specs.Option.{option_map_or}

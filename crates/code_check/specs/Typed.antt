@@ -1,4 +1,4 @@
--- To believe: well typed code, as a machine needs it, in terms of numbers and classes alone. p are the tables of a bundle, of which only
+-- Well typed code, as a machine needs it, in terms of numbers and classes alone. p are the tables of a bundle, of which only
 -- what is known by number is used; blocks says which numbers are those of blocks of the function, and what each of these takes; returns
 -- are the classes of what the function gives; ks are the classes of a block's variables so far, by number; gs are the classes of what an
 -- instruction gives.

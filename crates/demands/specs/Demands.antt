@@ -51,7 +51,7 @@ as_kind f none = none
 as_kind f (demand place kind met) = demand place (f kind) met
 as_kind f (a ⨾ b) = as_kind f a ⨾ as_kind f b
 
--- what a judging function answers: what was made where all demands are met, else the first fault; want of memory says nothing
+-- what a judging function answers: what was made where all demands are met, else the first fault; out of memory says nothing
 abbrev pub Judges : {K A : Type 0} → Demands K → A → Result A (Fault K) → Type 0
 Judges ds made (Ok x) = (first_unmet ds ≡ None) × (x ≡ made)
 Judges ds made (Err Memory) = Unit {0}
@@ -63,7 +63,7 @@ Meets ds (Ok x) = first_unmet ds ≡ None
 Meets ds (Err Memory) = Unit {0}
 Meets ds (Err (At kind place)) = first_unmet ds ≡ Some (At kind place)
 
--- a refusal is for want of memory
+-- a refusal is out of memory
 abbrev pub IsMemory : {K A : Type 0} → Result A (Fault K) → Type 0
 IsMemory (Ok x) = Unit {0}
 IsMemory (Err Memory) = Unit {0}

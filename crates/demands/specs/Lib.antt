@@ -1,4 +1,5 @@
 pub mod Demands
 pub mod Names
+pub mod Numbered
 pub mod Laws
 pub mod Examples

@@ -2,20 +2,30 @@
 ghost use Rattle.std.specs.Prelude.{◌≡◌, ℕ, List, [], ◌∷◌, ◌++◌, None, is_some, length, map, nat_eq, not, option_copied, IfOk, OnOk, OnErr};
 ghost use Rattle.demands.specs.Names.{found, added};
 
-use indexmap::IndexMap;
 use std::alloc::{AllocError, Global};
+use std::collections::BTreeMap;
 use std::marker::Model;
 
 /// Names of one space with what they stand for. Contracts see a list of pairs, in the order of their definitions.
+///
+/// Names come from files, so their numbers are kept in an order and not by a hash: no choice of names makes a look-up slow.
 #[derive(Drop)]
 pub struct Scope<T: Drop> {
-    names: IndexMap<Vec<u8>, T>,
+    // each name and what it stands for, in the order of the definitions
+    definitions: Vec<(Vec<u8>, T)>,
+    // where in `definitions` each name stands
+    numbers: BTreeMap<Vec<u8>, usize>,
 }
 
 impl<T: Drop> Model for Scope<T> {
+    ghost use Rattle.std.specs.Prelude.{List, ℕ, map};
+    ghost use Rattle.demands.specs.Numbered.{IsNumbered};
+
     ghost Value = { List (List ℕ × T) };
 
-    ghost view = { λ s. map (λ e. (e.0.items, e.1)) s.names.entries };
+    ghost view = { λ s. map (λ e. (e.0.items, e.1)) s.definitions.items };
+
+    ghost invariant = { λ s. IsNumbered s.numbers (map (λ e. (e.0.items, e.1)) s.definitions.items) };
 }
 
 impl<T: Drop> Scope<T> {
@@ -24,7 +34,8 @@ impl<T: Drop> Scope<T> {
         ensures { result ≡ [] }
     {
         Scope {
-            names: IndexMap::new(alloc),
+            definitions: Vec::new(alloc),
+            numbers: BTreeMap::new(alloc),
         }
     }
 
@@ -32,7 +43,7 @@ impl<T: Drop> Scope<T> {
     pub fn len(&self) -> usize
         ensures { result ≡ length self.now }
     {
-        self.names.len()
+        self.definitions.len()
     }
 
     /// Whether there are no names.
@@ -42,11 +53,14 @@ impl<T: Drop> Scope<T> {
         self.len() == 0
     }
 
-    /// What the name stands for. It takes the time of one hash.
+    /// What the name stands for. The number of looks at names grows with the logarithm of how many there are.
     pub fn find(&self, name: &[u8]) -> Option<&T>
         ensures { option_copied result ≡ found self.now name.now }
     {
-        self.names.get(name)
+        match self.numbers.get(name) {
+            Some(number) => Some(&self.definitions[*number].1),
+            None => None,
+        }
     }
 
     fn add(&mut self, alloc: Global, name: &[u8], value: T) -> Result<(), AllocError>
@@ -54,15 +68,18 @@ impl<T: Drop> Scope<T> {
         ensures ok { OnOk result (self.new ≡ self.old ++ (name.now, value) ∷ []) }
         ensures err { OnErr result (self.new ≡ self.old) }
     {
+        let spelling = Vec::from_slice(alloc, name)?;
         let key = Vec::from_slice(alloc, name)?;
-        match self.names.insert(key, value) {
-            Ok(_) => Ok(()),
-            Err(_) => Err(AllocError),
+        self.definitions.reserve(1)?;
+        self.numbers.insert(key, self.definitions.len())?;
+        match self.definitions.push((spelling, value)) {
+            Ok(()) => Ok(()),
+            Err(_) => unreachable!(),
         }
     }
 
     /// Defines the name, unless it is defined already, and answers whether it was new. Where it was not, the value is let go.
-    /// Where no memory is found the names are as before. It takes the time of two hashes.
+    /// Where no memory is found the names are as before. It takes the time of two look-ups.
     pub fn define(&mut self, alloc: Global, name: &[u8], value: T) -> Result<bool, AllocError>
         ensures ok { OnOk result (self.new ≡ added self.old name.now value) }
         ensures fresh { IfOk result (λ fresh. fresh ≡ not (is_some (found self.old name.now))) }

@@ -1,4 +1,4 @@
--- To believe: a frame of a stack, and where an exception goes in it.
+-- A frame of a stack, and where an exception goes in it.
 use Rattle.std.specs.Prelude.{ℕ, Bool, List, Option}
 use Rattle.mu_values.specs.declared.scalars.Scalar.{Scalar}
 use Rattle.mu_values.specs.Slots.{TypedValues}

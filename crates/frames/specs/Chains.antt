@@ -1,4 +1,4 @@
--- To believe: the frames of a stack, and where one goes on.
+-- The frames of a stack, and where one goes on.
 use Rattle.std.specs.Prelude.{ℕ, false, List, [], ◌∷◌, None}
 use Rattle.mu_values.specs.Slots.{TypedValues}
 use Rattle.frames.specs.Activations.{Activation, Value}

@@ -1,4 +1,4 @@
--- To believe: which frame of the abstract machine a frame of the program is. The room that its lists have is left out.
+-- Which frame of the abstract machine a frame of the program is. The room that its lists have is left out.
 use Rattle.std.specs.Prelude.{option_map}
 use Rattle.frames.specs.Activations.{Activation, Goal}
 use Rattle.frames.specs.declared.frame.Handler.{Handler}

@@ -1,4 +1,4 @@
--- To believe: which frame an exception goes to.
+-- Which frame an exception goes to.
 use Rattle.std.specs.Prelude.{ℕ, List, Option, Some, None, is_some, position}
 use Rattle.frames.specs.Activations.{Activation}
 use Rattle.frames.specs.declared.unwound.Unwound.{Unwound}

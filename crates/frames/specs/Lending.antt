@@ -1,4 +1,4 @@
--- To believe: the frames of a stack once its top frame was lent and written.
+-- The frames of a stack once its top frame was lent and written.
 use Rattle.std.specs.Borrow.{Lends, MutBor, Fml}
 use Rattle.frames.specs.declared.frame.Frame.{Frame}
 use Rattle.frames.specs.Chains.{StoredChain}

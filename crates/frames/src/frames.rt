@@ -82,7 +82,7 @@ impl Frames {
         self.below.reserve(1)
     }
 
-    /// Puts a frame on top. It is refused for want of memory alone, also where there would be 2^32 frames; then it changes
+    /// Puts a frame on top. It is refused only when out of memory, also where there would be 2^32 frames; then it changes
     /// nothing and hands the frame back. Where there is room it is not refused, and takes one place of
     /// the room.
     #[tactic(auto, using(crate::proofs::Places::pushed))]
@@ -103,7 +103,7 @@ impl Frames {
     }
 
     /// Puts a frame on top. The one that was there waits for values of these classes then, has no exceptional destination, and keeps
-    /// nothing for a client; the list holds then what it waited for before. It is refused for want of memory alone, also where there
+    /// nothing for a client; the list holds then what it waited for before. It is refused only when out of memory, also where there
     /// would be 2^32 frames; then the frames and the list are as they were, and the frame that was to enter is lost.
     #[inline(always)]
     #[tactic(auto, using(crate::proofs::Places::pushed))]
@@ -129,7 +129,7 @@ impl Frames {
 
     /// The top frame ends, and the one below it, which must be there, stands at that place of its block, with these results behind its
     /// variables, and waits for nothing. The objects of the frame that ended are answered; the list holds its values then, with their
-    /// room. It is refused for want of memory alone; then nothing changes.
+    /// room. It is refused only when out of memory; then nothing changes.
     #[inline(always)]
     #[tactic(auto, using(crate::proofs::Places::pushed))]
     pub fn leave_to(

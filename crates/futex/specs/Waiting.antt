@@ -1,4 +1,4 @@
--- To believe: what contracts see of the threads that wait at cells, and which of them are woken.
+-- What contracts see of the threads that wait at cells, and which of them are woken.
 use Rattle.std.specs.Prelude.{ℕ, Bool, not, ◌==◌, List, Option, Some, None, filter, map, take, option_map, if◌then◌else◌}
 use Rattle.std.specs.List.{list_any}
 use Rattle.heap_cells.specs.declared.cells.CellId.{CellId}

@@ -1,4 +1,4 @@
--- Inner: what calls tell of the definitions, where memory may be wanting.
+-- What calls tell of the definitions, where memory may be wanting.
 -- Contracts inside the crate cite this; no public one does, so no reader of those needs it.
 use Rattle.std.specs.Prelude.{◌≡◌, ℕ, ◌<◌, List, ◌++◌, Result, Ok, Err, length}
 use Rattle.std.specs.List.{All}

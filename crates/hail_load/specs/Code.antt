@@ -1,4 +1,4 @@
--- To believe: what a script sees of a bundle.
+-- What a script sees of a bundle.
 use Rattle.std.specs.Prelude.{ℕ, List}
 use Rattle.demands.specs.Names.{Names}
 use Rattle.type_laws.specs.declared.definition.TypeDef.{TypeDef}

@@ -1,4 +1,4 @@
--- Inner: what cells begin with, kept as fills before the heap is given it.
+-- What cells begin with, kept as fills before the heap is given it.
 -- Contracts inside the crate cite this; no public one does, so no reader of those needs it.
 use Rattle.std.specs.Prelude.{◌≡◌, ℕ, zero, suc, ◌+◌, ◌-◌, ◌^◌, ◌<◌, ◌≤◌, List, [], ◌∷◌, ◌++◌, length, map, Option, Some, None, slice_get, slice_index_or}
 use Rattle.std.specs.List.{sum_by}

@@ -1,4 +1,4 @@
--- To believe: which sources that are no lists fit a type, and the scalars that they are.
+-- Which sources that are no lists fit a type, and the scalars that they are.
 use Rattle.std.specs.Prelude.{ℕ, Bool, true, false, ◌==◌, List, [], ◌∷◌, Option, Some, None, Result, Ok, Err, slice_get, slice_index_or, if◌then◌else◌}
 use Rattle.demands.specs.declared.fault.Fault.{Fault}
 use Rattle.demands.specs.declared.fault.Fault.TheVariants.{At}

@@ -1,4 +1,4 @@
--- Inner: scalars that stand one behind the other, in runs.
+-- Scalars that stand one behind the other, in runs.
 -- Contracts inside the crate cite this; no public one does, so no reader of those needs it.
 use Rattle.std.specs.Prelude.{List, [], ◌∷◌}
 use Rattle.std.specs.List.{flat_map}

@@ -1,4 +1,4 @@
--- To believe: the text of a script as it is written.
+-- The text of a script as it is written.
 --
 --   hail    = command*
 --   command = .new O < G > | .newhybrid O < G > N | .init target = source

@@ -1,4 +1,4 @@
--- To believe: which sources fit a part, lists among them, and the scalars that they are.
+-- Which sources fit a part, lists among them, and the scalars that they are.
 use Rattle.std.specs.Prelude.{ℕ, ◌==◌, List, [], ◌∷◌, ◌++◌, length, Option, Some, None, Result, Ok, Err, if◌then◌else◌}
 use Rattle.demands.specs.declared.fault.Fault.{Fault}
 use Rattle.demands.specs.declared.fault.Fault.TheVariants.{At}

@@ -1,4 +1,4 @@
--- Inner: what is known of the code of a bundle that meets its demands.
+-- What is known of the code of a bundle that meets its demands.
 -- Contracts inside the crate cite this; no public one does, so no reader of those needs it.
 use Rattle.std.specs.Prelude.{◌≡◌, ℕ, ◌<◌, ◌≤◌, List, Some, length, slice_get}
 use Rattle.std.specs.List.{All}

@@ -1,4 +1,4 @@
--- To believe: what loading a script into a heap answers, and what the heap holds then.
+-- What loading a script into a heap answers, and what the heap holds then.
 use Rattle.std.specs.Prelude.{◌≡◌, ℕ, List, [], Some, None, Result, Ok, Err, map, take}
 use Rattle.demands.specs.declared.fault.Fault.{Fault}
 use Rattle.demands.specs.declared.fault.Fault.TheVariants.{Memory, At}

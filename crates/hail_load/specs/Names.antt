@@ -1,4 +1,4 @@
--- To believe: what the names and numbers of a script have to meet, token by token. Which kind of name belongs to a place is told by the
+-- What the names and numbers of a script have to meet, token by token. Which kind of name belongs to a place is told by the
 -- token before it.
 use Rattle.std.specs.Prelude.{Bool, true, false, not, is_some, List, [], ◌∷◌, Option, Some, if◌then◌else◌}
 use Rattle.text_forms.specs.declared.symbol.Symbol.{Symbol}

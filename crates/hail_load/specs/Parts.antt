@@ -1,4 +1,4 @@
--- To believe: the parts that indexes and lists find in an object, and the places that targets name.
+-- The parts that indexes and lists find in an object, and the places that targets name.
 use Rattle.std.specs.Prelude.{ℕ, ◌+◌, ◌*◌, List, [], ◌∷◌, ◌++◌, map, length, take, sum_by, Option, Some, None, Result, Ok, Err, slice_get}
 use Rattle.demands.specs.declared.fault.Fault.{Fault}
 use Rattle.demands.specs.declared.fault.Fault.TheVariants.{At}

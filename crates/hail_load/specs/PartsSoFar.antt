@@ -1,4 +1,4 @@
--- Inner: parts that stand behind each other, as runs of the same part.
+-- Parts that stand behind each other, as runs of the same part.
 -- Contracts inside the crate cite this; no public one does, so no reader of those needs it.
 use Rattle.std.specs.Prelude.{ℕ, ◌+◌, List, [], ◌∷◌, ◌++◌, map, take, sum_by, slice_index}
 use Rattle.type_laws.specs.declared.definition.TypeDef.{TypeDef}

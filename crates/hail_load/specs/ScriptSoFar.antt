@@ -1,4 +1,4 @@
--- Inner: a script as far as it is read.
+-- A script as far as it is read.
 -- Contracts inside the crate cite this; no public one does, so no reader of those needs it.
 use Rattle.std.specs.Prelude.{false, List, [], ◌∷◌, ◌++◌}
 use Rattle.hail_load.specs.declared.tree.Index.{Index}

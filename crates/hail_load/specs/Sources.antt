@@ -1,4 +1,4 @@
--- To believe: targets and sources as they are written.
+-- Targets and sources as they are written.
 --
 --   target = O index* | G index*
 --   index  = [ N ]

@@ -1,4 +1,4 @@
--- To believe: what the text of a script is refused for, and the script that it is.
+-- What the text of a script is refused for, and the script that it is.
 use Rattle.std.specs.Prelude.{ℕ, false, nat_lt, List, [], ◌∷◌, Result, Ok, Err, if◌then◌else◌}
 use Rattle.text_forms.specs.declared.symbol.Symbol.TheVariants as symbols
 use Rattle.text_forms.specs.declared.fault.Fault.{Fault}

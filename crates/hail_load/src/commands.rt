@@ -140,7 +140,7 @@ impl Script {
         }
     }
 
-    /// Adds a line. After a refusal for want of memory lines are lost.
+    /// Adds a line. When out of memory, lines are lost.
     fn add(&mut self, line: Line) -> Result<(), AllocError>
         ensures { OnOk result (self.new ≡ followed self.old line) }
     {

@@ -20,7 +20,7 @@ pub enum HailKind {
     Duplicate,
 }
 
-/// Why the text of a script is refused: its first fault with its place, or want of memory.
+/// Why the text of a script is refused: its first fault with its place, or out of memory.
 pub type HailFault = Fault<HailKind>;
 
 /// What is wrong with a command.
@@ -37,5 +37,5 @@ pub enum LoadKind {
     HeapFull,
 }
 
-/// Why a command is refused: its first fault with its place, or want of memory.
+/// Why a command is refused: its first fault with its place, or out of memory.
 pub type LoadFault = Fault<LoadKind>;

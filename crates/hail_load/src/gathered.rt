@@ -73,7 +73,7 @@ impl<'a> Gathered<'a> {
         self.runs.clear();
     }
 
-    /// Adds a scalar at the end. After a refusal for want of memory they are as before.
+    /// Adds a scalar at the end. When out of memory, they are as before.
     #[tactic(auto, using(std::proofs::lemmas::Grind::common_steps))]
     pub(crate) fn push(&mut self, scalar: Scalar) -> Result<(), AllocError>
         ensures ok { OnOk result (self.new ≡ self.old ++ scalar ∷ []) }
@@ -83,7 +83,7 @@ impl<'a> Gathered<'a> {
         Ok(())
     }
 
-    /// Adds the scalars of a constant at the end, in constant time. After a refusal for want of memory they are as before.
+    /// Adds the scalars of a constant at the end, in constant time. When out of memory, they are as before.
     #[tactic(auto, using(std::proofs::lemmas::Grind::common_steps))]
     pub(crate) fn push_constant(&mut self, scalars: &'a [Scalar]) -> Result<(), AllocError>
         ensures ok { OnOk result (self.new ≡ self.old ++ scalars.now) }
@@ -93,7 +93,7 @@ impl<'a> Gathered<'a> {
         Ok(())
     }
 
-    /// Adds scalars at the end one by one. After a refusal for want of memory some of them may be there.
+    /// Adds scalars at the end one by one. When out of memory, some of them may be there.
     pub(crate) fn push_each(&mut self, scalars: &[Scalar]) -> Result<(), AllocError>
         ensures { OnOk result (self.new ≡ self.old ++ scalars.now) }
     {

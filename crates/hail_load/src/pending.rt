@@ -44,7 +44,7 @@ impl Pending {
         }
     }
 
-    /// Puts a part before the others, so many times over. After a refusal for want of memory they are as before.
+    /// Puts a part before the others, so many times over. When out of memory, they are as before.
     #[tactic(auto, using(crate::proofs::Runs::pushed, crate::proofs::Runs::none_pushed))]
     pub(crate) fn push(&mut self, part: Part, many: u128) -> Result<(), AllocError>
         ensures { OnOk result (self.new ≡ times many (part ∷ []) ++ self.old) }
@@ -55,7 +55,7 @@ impl Pending {
         Ok(())
     }
 
-    /// Takes the first part. After a refusal for want of memory parts are lost.
+    /// Takes the first part. When out of memory, parts are lost.
     #[tactic(auto, using(crate::proofs::Runs::popped, crate::proofs::Runs::last_popped))]
     pub(crate) fn next(&mut self) -> Result<Option<Part>, AllocError>
         ensures some { IfOk result (λ next. IfSome next (λ part. self.old ≡ part ∷ self.new)) }

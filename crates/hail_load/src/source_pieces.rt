@@ -40,7 +40,7 @@ impl Pieces {
         Ok(pieces)
     }
 
-    /// Adds a piece at the end. After a refusal for want of memory the pieces are as before.
+    /// Adds a piece at the end. When out of memory, the pieces are as before.
     pub fn push(&mut self, piece: Piece) -> Result<(), AllocError>
         ensures ok { OnOk result (self.new ≡ self.old ++ piece ∷ []) }
         ensures same { OnErr result (self.new ≡ self.old) }
@@ -49,7 +49,7 @@ impl Pieces {
         Ok(())
     }
 
-    /// Adds more pieces at the end. After a refusal for want of memory the pieces are as before.
+    /// Adds more pieces at the end. When out of memory, the pieces are as before.
     pub fn append(&mut self, more: Pieces) -> Result<(), AllocError>
         ensures ok { OnOk result (self.new ≡ self.old ++ more) }
         ensures same { OnErr result (self.new ≡ self.old) }

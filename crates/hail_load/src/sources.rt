@@ -31,7 +31,7 @@ impl Members {
         }
     }
 
-    /// Adds an element. After a refusal for want of memory elements are lost.
+    /// Adds an element. When out of memory, elements are lost.
     fn add(&mut self, element: Pieces) -> Result<(), AllocError>
         ensures { OnOk result (self.new ≡ followed self.old element) }
     {

@@ -1,4 +1,4 @@
--- To believe: what a script for the heap makes of a bundle that is accepted, and the entries of a client's script, are what a run may
+-- What a script for the heap makes of a bundle that is accepted, and the entries of a client's script, are what a run may
 -- begin with.
 use Rattle.std.specs.Prelude.{◌≡◌, ℕ, List, [], None}
 use Rattle.demands.specs.Demands.{first_unmet}

@@ -1,4 +1,4 @@
--- To believe: how many objects a run begins with, and how many cells each of them has.
+-- How many objects a run begins with, and how many cells each of them has.
 use Rattle.std.specs.Prelude.{◌≡◌, ◌≤◌, ◌+◌, ℕ, suc, List, All, Ok, length}
 use Rattle.ir_tree.specs.declared.items.Item.{Item}
 use Rattle.ir_text.specs.TextAnswers.{IsAnswer}

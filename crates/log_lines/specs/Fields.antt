@@ -1,14 +1,12 @@
--- To believe: the fields of an event line that hold numbers: what each of them means, or what is wrong with it.
+-- The fields of an event line that hold numbers: what each of them means, or what is wrong with it.
 use Rattle.std.specs.Prelude.{ℕ, ◌^◌, Bool, false, not, ◌&&◌, ◌||◌, ◌==◌, nat_lt, if◌then◌else◌, List, [], ◌∷◌, length, Result, Ok, Err}
 use Rattle.std.specs.List.{list_all}
 use Rattle.std.specs.Char.{is_digit}
 use Rattle.std.specs.Str.Parse.{digits_value}
 use Rattle.heap_cells.specs.declared.cells.CellId.{CellId}
+pub use Rattle.log_lines.specs.EventTexts.{Text}
 use Rattle.log_lines.specs.declared.types.LogKind.{LogKind}
 use Rattle.log_lines.specs.declared.types.LogKind.TheVariants.{Unexpected, BadNumber}
-
-abbrev pub Text : Type 0
-Text = List ℕ
 
 -- The parts of a text between the bytes that equal `separator`. There is one part more than there are such bytes.
 abbrev pub onto_first : ℕ → List Text → List Text

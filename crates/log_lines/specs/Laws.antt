@@ -1,4 +1,4 @@
--- To believe: the laws of log texts.
+-- The laws of log texts.
 use Rattle.std.specs.Prelude.{ℕ, suc, ◌<◌, ◌≡◌, true, false, not, ◌==◌, List, [], ◌∷◌, ◌++◌, map, length, Ok}
 use Rattle.std.specs.List.{list_all}
 use Rattle.mem_axioms.specs.declared.types.Event.{Event}

@@ -1,9 +1,9 @@
+pub mod EventTexts
 pub mod Fields
 pub mod Words
 pub mod Values
 pub mod Lines
 pub mod Texts
 pub mod Examples
-pub mod EventTexts
 pub mod Readable
 pub mod Laws

@@ -1,4 +1,4 @@
--- To believe: the event of an event line. The line's fields stand between single spaces, and are judged from left to right.
+-- The event of an event line. The line's fields stand between single spaces, and are judged from left to right.
 use Rattle.std.specs.Prelude.{ℕ, ◌+◌, List, [], ◌∷◌, length, Result, Ok, Err}
 use Rattle.demands.specs.declared.fault.Fault.{Fault}
 use Rattle.demands.specs.declared.fault.Fault.TheVariants.{At}

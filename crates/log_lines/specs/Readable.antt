@@ -1,4 +1,4 @@
--- To believe: which events can be read back from their lines, and what is read there in their place.
+-- Which events can be read back from their lines, and what is read there in their place.
 use Rattle.std.specs.Prelude.{◌<◌, ◌≡◌, true, ◌∷◌}
 use Rattle.mu_values.specs.declared.scalars.Scalar.{Scalar}
 use Rattle.mu_values.specs.declared.scalars.Scalar.TheVariants as scalars

@@ -1,4 +1,4 @@
--- To believe: the log of a text. The text's lines stand between line feeds. A line that begins with a decimal digit is an event line, and
+-- The log of a text. The text's lines stand between line feeds. A line that begins with a decimal digit is an event line, and
 -- every other line is passed over. So a text that ends with a line feed ends with an empty line, which is passed over.
 use Rattle.std.specs.Prelude.{ℕ, ◌+◌, Bool, false, ◌&&◌, nat_le, if◌then◌else◌, List, [], ◌∷◌, length, Result, Ok, Err, Option, Some, None}
 use Rattle.std.specs.Char.{is_ascii_digit}

@@ -1,4 +1,4 @@
--- To believe: the field of an event line that holds a value, which is one scalar. A function is written by its name; its number is how
+-- The field of an event line that holds a value, which is one scalar. A function is written by its name; its number is how
 -- many other names were used first before it.
 use Rattle.std.specs.Prelude.{ℕ, suc, Bool, false, not, ◌&&◌, ◌||◌, ◌==◌, if◌then◌else◌, List, [], ◌∷◌, ◌++◌, length, codes, bytes_eq, Ok, Err}
 use Rattle.std.specs.List.{list_all}

@@ -1,10 +1,11 @@
--- To believe: the fields of an event line that hold words: what happened, and memory orders.
+-- The fields of an event line that hold words: what happened, and memory orders.
 use Rattle.std.specs.Prelude.{Bool, true, false, if◌then◌else◌, List, [], ◌∷◌, map, codes, bytes_eq, Ok, Err}
 use Rattle.mu_base.specs.declared.order.Order.{Order}
 use Rattle.mu_base.specs.declared.order.Order.TheVariants.{NotAtomic, Relaxed, Consume, Acquire, Release, AcqRel, SeqCst}
 use Rattle.mem_axioms.specs.declared.types.Mode.{Mode}
 use Rattle.mem_axioms.specs.declared.types.Mode.TheVariants.{Read, Write, Update}
 use Rattle.log_lines.specs.Fields.{Text, Judged}
+pub use Rattle.log_lines.specs.EventTexts.{order_text}
 use Rattle.log_lines.specs.declared.types.LogKind.TheVariants.{Unexpected}
 use Rattle.log_lines.specs.declared.types.KindWord.{KindWord}
 use Rattle.log_lines.specs.declared.types.KindWord.TheVariants as words
@@ -21,15 +22,6 @@ kind_words =
     ∷ (codes "wake", words.Wake) ∷ (codes "woken", words.Woken) ∷ []
 
 -- ---- orders
-
-abbrev pub order_text : Order → Text
-order_text NotAtomic = codes "NOT_ATOMIC"
-order_text Relaxed = codes "RELAXED"
-order_text Consume = codes "CONSUME"
-order_text Acquire = codes "ACQUIRE"
-order_text Release = codes "RELEASE"
-order_text AcqRel = codes "ACQ_REL"
-order_text SeqCst = codes "SEQ_CST"
 
 abbrev pub order_words : List (Text × Order)
 order_words = map (λ o. (order_text o, o)) (NotAtomic ∷ Relaxed ∷ Consume ∷ Acquire ∷ Release ∷ AcqRel ∷ SeqCst ∷ [])

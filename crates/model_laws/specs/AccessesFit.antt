@@ -1,4 +1,4 @@
--- To believe: what the operands of an access fit, of a wait and of a wake.
+-- What the operands of an access fit, of a wait and of a wake.
 use Rattle.std.specs.Prelude.{◌≡◌, ◌<◌, ℕ, List, [], ◌∷◌, Some, IsSomeAnd, length, slice_get}
 use Rattle.type_laws.specs.declared.definition.TypeDef.{TypeDef}
 use Rattle.mu_values.specs.declared.scalars.Scalar.{Scalar}

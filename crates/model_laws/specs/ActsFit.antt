@@ -1,4 +1,4 @@
--- To believe: what the operands of each act fit, and what the instruction's results are then.
+-- What the operands of each act fit, and what the instruction's results are then.
 use Rattle.std.specs.Prelude.{◌≡◌, ◌<◌, ◌^◌, ℕ, Bool, true, [], ◌∷◌, ◌++◌, Option, Some, IsSomeAnd, IfOk, Result}
 use Rattle.type_laws.specs.Leaves.{times}
 use Rattle.type_laws.specs.declared.definition.TypeDef.{TypeDef}

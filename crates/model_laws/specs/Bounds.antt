@@ -1,4 +1,4 @@
--- To believe: how far a run gets, and how large its parts grow.
+-- How far a run gets, and how large its parts grow.
 use Rattle.std.specs.Prelude.{◌≡◌, ◌≤◌, ◌<◌, ◌+◌, ◌-◌, ◌*◌, ◌^◌, ℕ, suc, List, [], All, Some, length}
 use Rattle.typed_heap.specs.Objects.{HeapObject}
 use Rattle.mu_model.specs.Types.{type_graph, classes_taken}

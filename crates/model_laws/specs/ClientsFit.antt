@@ -1,4 +1,4 @@
--- To believe: clients and answers that fit.
+-- Clients and answers that fit.
 use Rattle.std.specs.Prelude.{◌≡◌, ℕ, All, List, Option, Some, None}
 use Rattle.type_laws.specs.declared.definition.TypeDef.{TypeDef}
 use Rattle.mu_values.specs.Slots.{TypedValues}

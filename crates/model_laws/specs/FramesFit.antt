@@ -1,4 +1,4 @@
--- To believe: well-typed frames and stacks.
+-- Well-typed frames and stacks.
 use Rattle.std.specs.Prelude.{◌≡◌, ℕ, Bool, true, false, List, [], ◌∷◌, Option, Some, None}
 use Rattle.check_tables.specs.declared.tables.Tables.{Tables}
 use Rattle.typed_heap.specs.Fits.{World}

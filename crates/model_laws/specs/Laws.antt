@@ -1,4 +1,4 @@
--- To believe: what holds of every well-typed program: each law is the contract of a function that does nothing.
+-- What holds of every well-typed program: each law is the contract of a function that does nothing.
 use Rattle.std.specs.Prelude.{◌≡◌, ℕ, true, List, [], Some, IsSomeAnd, All, slice_get}
 use Rattle.mu_base.specs.declared.order.Order.{Order}
 use Rattle.mu_values.specs.declared.scalars.Scalar.{Scalar}

@@ -1,4 +1,4 @@
--- To believe: well-typed objects, and a well-typed log.
+-- Well-typed objects, and a well-typed log.
 use Rattle.std.specs.Prelude.{◌≡◌, ℕ, true, false, nat_lt, List, [], ◌∷◌, IsSomeAnd, All, length, map}
 use Rattle.type_laws.specs.declared.definition.TypeDef.{TypeDef}
 use Rattle.typed_heap.specs.Objects.{HeapObject}

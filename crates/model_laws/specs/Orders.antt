@@ -1,4 +1,4 @@
--- To believe: which memory orders the events of a run have. They are the orders that the instructions may be written with.
+-- Which memory orders the events of a run have. They are the orders that the instructions may be written with.
 use Rattle.std.specs.Prelude.{◌≡◌, Bool, true}
 use Rattle.mu_base.specs.declared.order.Order.{Order}
 use Rattle.mem_axioms.specs.declared.types.Mode.{Mode}

@@ -1,4 +1,4 @@
--- To believe: the places of a bundle, and where its instructions may go.
+-- The places of a bundle, and where its instructions may go.
 use Rattle.std.specs.Prelude.{◌≡◌, ℕ, suc, Bool, true, false, List, [], ◌∷◌, ◌++◌, Option, Some, None, slice_get}
 use Rattle.type_laws.specs.declared.definition.TypeDef.{TypeDef}
 use Rattle.type_laws.specs.declared.definition.TypeDef.TheVariants as types

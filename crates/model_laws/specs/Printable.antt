@@ -1,4 +1,4 @@
--- To believe: what a log must meet so that each of its events can be printed as a line of a log's text. The events name stacks that
+-- What a log must meet so that each of its events can be printed as a line of a log's text. The events name stacks that
 -- exist, with orders of their kind, and no object has too many cells.
 use Rattle.std.specs.Prelude.{◌≡◌, ◌≤◌, ◌<◌, ℕ, true, All, Some, length}
 use Rattle.typed_heap.specs.Objects.{HeapObject}

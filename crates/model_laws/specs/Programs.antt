@@ -1,4 +1,4 @@
--- To believe: a well-typed program: with values that fit the variables of a place, the instruction there does what fits.
+-- A well-typed program: with values that fit the variables of a place, the instruction there does what fits.
 use Rattle.std.specs.Prelude.{◌≡◌, ℕ, List, ◌++◌, Option, Some, IsSomeAnd}
 use Rattle.typed_heap.specs.Objects.{leaf_classes, zeros}
 use Rattle.typed_heap.specs.Fits.{World, ScalarsFit}

@@ -1,4 +1,4 @@
--- To believe: well-typed threads: their stacks, their own objects, and their waits.
+-- Well-typed threads: their stacks, their own objects, and their waits.
 use Rattle.std.specs.Prelude.{◌≡◌, ℕ, Bool, false, List, [], ◌∷◌, Option, Some, None, IsSomeAnd, slice_get}
 use Rattle.std.specs.List.{list_any}
 use Rattle.check_tables.specs.declared.tables.Tables.{Tables}

@@ -1,4 +1,4 @@
--- To believe: what there is at a moment of a run, and values that fit their types, one by one.
+-- What there is at a moment of a run, and values that fit their types, one by one.
 use Rattle.std.specs.Prelude.{◌≡◌, ℕ, List, [], ◌∷◌, Option, Some, length, slice_get}
 use Rattle.type_laws.specs.declared.definition.TypeDef.{TypeDef}
 use Rattle.mu_values.specs.declared.scalars.Scalar.TheVariants.{Place}

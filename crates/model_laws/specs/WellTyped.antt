@@ -1,4 +1,4 @@
--- To believe: the well-typed configuration, which holds between two steps, and what comes of a step.
+-- The well-typed configuration, which holds between two steps, and what comes of a step.
 use Rattle.std.specs.Prelude.{◌≤◌, All, length, Option}
 use Rattle.typed_heap.specs.Fits.{World}
 use Rattle.mu_model.specs.Types.{type_graph}

@@ -1,4 +1,4 @@
--- Inner: nothing that a reader believes of a run rests on this. It is what the instructions of checked code do, by number, clause by
+-- Nothing that a reader believes of a run rests on this. It is what the instructions of checked code do, by number, clause by
 -- clause beside what those of the bundle do by name.
 use Rattle.std.specs.Prelude.{ℕ, false, List, Option, Some, map, option_map}
 use Rattle.ir_tree.specs.declared.items.Item.{Item}

@@ -1,4 +1,4 @@
--- Inner: nothing that a reader believes of a run rests on this, as a run is that of the bundle by its names. It is the same bundle as
+-- Nothing that a reader believes of a run rests on this, as a run is that of the bundle by its names. It is the same bundle as
 -- a machine over checked code sees it, by its numbers.
 use Rattle.std.specs.Prelude.{ℕ, List, Option, Some, None, map, slice_get, is_some}
 use Rattle.ir_tree.specs.declared.items.Item.{Item}

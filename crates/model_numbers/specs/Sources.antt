@@ -1,4 +1,4 @@
--- Inner: nothing that a reader believes of a run rests on this. It is what the operands of checked code stand for, by number, with the
+-- Nothing that a reader believes of a run rests on this. It is what the operands of checked code stand for, by number, with the
 -- values of the block's variables.
 use Rattle.std.specs.Prelude.{ℕ, List, Option, Some, map, slice_get}
 use Rattle.ir_tree.specs.declared.items.Item.{Item}

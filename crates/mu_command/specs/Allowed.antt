@@ -1,4 +1,4 @@
--- To believe: which outcomes of fetches the inputs allow.
+-- Which outcomes of fetches the inputs allow.
 use Rattle.std.specs.Prelude.{◌≡◌, ℕ, List, [], Option, None, Some}
 use Rattle.mu_base.specs.Files.{Files}
 use Rattle.mu_base.specs.Outcome.{Outcome, got, Allows}

@@ -1,4 +1,4 @@
--- To believe: what the program answers to its words, and to what the fetches of its files come to.
+-- What the program answers to its words, and to what the fetches of its files come to.
 use Rattle.std.specs.Prelude.{ℕ, List, [], ◌++◌, false, Option, None, Some, Ok, Err, codes}
 use Rattle.mu_base.specs.declared.status.Status.TheVariants.{Usage, ReadFault, TooLong}
 use Rattle.mu_base.specs.Outcome.{Outcome, got, failed, too_long}

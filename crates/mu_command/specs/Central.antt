@@ -1,4 +1,4 @@
--- To believe: the one statement about the program, and the causes of its statuses.
+-- The one statement about the program, and the causes of its statuses.
 use Rattle.std.specs.Prelude.{true, ◌≡◌, ◌≢◌, ◌⊎◌, ℕ, ◌-◌, ◌^◌, ◌<◌, List, [], length, Option, None, Some, Ok, Err, nat_le, if◌then◌else◌}
 use Rattle.mu_base.specs.declared.status.Status.{Status}
 use Rattle.mu_base.specs.declared.status.Status.TheVariants.{Refused}

@@ -1,4 +1,4 @@
--- To believe: what the words of a command line ask for, and the files of that.
+-- What the words of a command line ask for, and the files of that.
 use Rattle.std.specs.Prelude.{ℕ, ◌+◌, ◌-◌, ◌*◌, ◌<◌, ◌≤◌, IfSome, Bool, true, false, nat_eq, nat_le, List, [], ◌∷◌, length, Option, None, Some, codes, bytes_eq, if◌then◌else◌, ◌&&◌, ◌||◌, is_some, drop, slice_index_or}
 use Rattle.std.specs.Option.{unwrap_or, option_map, option_and_then}
 use Rattle.mem_axioms.specs.declared.types.Rule.{Rule}

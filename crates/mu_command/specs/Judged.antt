@@ -1,4 +1,4 @@
--- To believe: the text that the program prints of a run is read as a log, and the verdict on that log is Yes.
+-- The text that the program prints of a run is read as a log, and the verdict on that log is Yes.
 use Rattle.std.specs.Prelude.{◌≡◌, ◌≤◌, ℕ, List, Ok, Some, length}
 use Rattle.mu_base.specs.Outcome.{Outcome, got, failed, too_long}
 use Rattle.ir_tree.specs.declared.items.Item.{Item}

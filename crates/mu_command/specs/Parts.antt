@@ -1,4 +1,4 @@
--- Inner: what the functions that find an answer tell their callers.
+-- What the functions that find an answer tell their callers.
 use Rattle.std.specs.Prelude.{◌≡◌, ℕ, List, Vec, Option, Result, Ok, Err, ⊤}
 use Rattle.std.specs.declared.alloc.Global.{Global}
 use Rattle.mu_base.specs.Outcome.{Outcome, got}
@@ -36,7 +36,7 @@ pub record OfFile {A : Type 0} (seen : Seen) (words : List (List ℕ)) (what : W
   pub allowed : AllowsFile seen words what n outcome
   pub comes : judged what part outcome ≡ is
 
--- the file comes to a result; want of memory says nothing
+-- the file comes to a result; out of memory says nothing
 abbrev pub IsJudged : {A : Type 0} → Seen → List (List ℕ) → What → Option ℕ → (List ℕ → Part A) → Result A Stop → Type 0
 IsJudged seen words what n part (Ok x) = OfFile seen words what n part (Ok x)
 IsJudged seen words what n part (Err (Line text status)) = OfFile seen words what n part (Err (line text.items status))

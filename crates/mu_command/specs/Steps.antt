@@ -1,4 +1,4 @@
--- Inner: what the functions that write a run tell their callers.
+-- What the functions that write a run tell their callers.
 use Rattle.std.specs.Prelude.{◌≡◌, ℕ, suc, ◌+◌, List, [], ◌∷◌, ◌++◌, length, Option, Some, None, reverse, codes}
 use Rattle.std.specs.List.{count_by}
 use Rattle.mu_base.specs.declared.status.Status.{Status}

@@ -1,4 +1,4 @@
--- To believe: what a sink tells after a call, beside an answer.
+-- What a sink tells after a call, beside an answer.
 use Rattle.std.specs.Prelude.{◌≡◌, ◌≢◌, ℕ, ◌+◌, List, [], ◌∷◌, ◌++◌, length, Option, None, Some, ⊤}
 use Rattle.std.specs.List.{concat}
 use Rattle.std.specs.Io.KnownBytes.{Appends}
@@ -40,7 +40,7 @@ pub record WrotePart (pieces : List (List ℕ)) (written new_written marks new_m
 abbrev pub IsWhole : Status → Type 0
 IsWhole status = (status ≢ SinkFault) × (status ≢ Memory)
 
--- After every status a part of the text was written, in its pieces; but for a fault of the sink and want of memory it is
+-- After every status a part of the text was written, in its pieces; but for a fault of the sink and out of memory it is
 -- the whole text, and the status is the one that goes with it.
 pub record Writes (answer : Answer) (written new_written marks new_marks : Option (List ℕ)) (status : Status) : Type 0 where
   pub part : WrotePart answer.pieces written new_written marks new_marks

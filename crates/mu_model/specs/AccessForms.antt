@@ -1,4 +1,4 @@
--- To believe: instructions that read and write memory.
+-- Instructions that read and write memory.
 use Rattle.std.specs.Prelude.{Bool, List, Option, Some, None}
 use Rattle.mu_base.specs.declared.order.Order.{Order}
 use Rattle.mu_base.specs.declared.operators.UpdateOp.{UpdateOp}

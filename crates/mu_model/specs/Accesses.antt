@@ -1,4 +1,4 @@
--- To believe: accesses of memory: what a thread may read, what it logs, and races.
+-- Accesses of memory: what a thread may read, what it logs, and races.
 use Rattle.std.specs.Prelude.{ℕ, suc, List, [], ◌∷◌, Option, Some, None, map, option_map, length, slice_get, nat_eq, ◌&&◌, if◌then◌else◌}
 use Rattle.mu_values.specs.declared.scalars.Scalar.{Scalar}
 use Rattle.mu_values.specs.declared.scalars.Scalar.TheVariants.{Int}

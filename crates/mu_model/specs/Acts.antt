@@ -1,4 +1,4 @@
--- To believe: what an instruction does, once its operands are read, and what the machine asks of a bundle.
+-- What an instruction does, once its operands are read, and what the machine asks of a bundle.
 use Rattle.std.specs.Prelude.{ℕ, Bool, List, Option}
 use Rattle.mu_base.specs.declared.order.Order.{Order}
 use Rattle.mu_values.specs.declared.scalars.Scalar.{Scalar}

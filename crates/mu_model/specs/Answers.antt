@@ -1,4 +1,4 @@
--- To believe: what a client answers.
+-- What a client answers.
 use Rattle.std.specs.Prelude.{ℕ, suc, Bool, true, false, ◌==◌, drop, List, [], ◌∷◌, Option, Some, None, map, slice_get, flat_map, if◌then◌else◌}
 use Rattle.ir_lex.specs.declared.name.Name.{Name}
 use Rattle.ir_tree.specs.declared.items.Item.{Item}

@@ -1,4 +1,4 @@
--- To believe: the small changes of a configuration that acts share.
+-- The small changes of a configuration that acts share.
 use Rattle.std.specs.Prelude.{ℕ, zero, suc, List, [], ◌∷◌, None, fold, length, slice_set, flat_map, option_map}
 use Rattle.typed_heap.specs.Objects.{killed}
 use Rattle.frames.specs.Activations.{Activation}

@@ -1,4 +1,4 @@
--- To believe: the client's entries, and its answers.
+-- The client's entries, and its answers.
 use Rattle.std.specs.Prelude.{ℕ, Bool, List}
 use Rattle.mu_values.specs.Slots.{TypedValues}
 use Rattle.frames.specs.Activations.{Value}

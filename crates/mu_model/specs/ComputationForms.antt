@@ -1,4 +1,4 @@
--- To believe: instructions that compute a value from values. An operand is an option: where it has no value, or none of the kind that
+-- Instructions that compute a value from values. An operand is an option: where it has no value, or none of the kind that
 -- is wanted, there is no act.
 use Rattle.std.specs.Prelude.{ℕ, ◌+◌, Bool, true, false, List, [], ◌∷◌, ◌++◌, Option, Some, None, nat_eq, length, take, drop, slice_get, if◌then◌else◌, ◌&&◌}
 use Rattle.ir_tree.specs.declared.computing.Computation.{Computation}

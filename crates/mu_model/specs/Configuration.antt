@@ -1,4 +1,4 @@
--- To believe: the configuration of a run: what there is between two steps.
+-- The configuration of a run: what there is between two steps.
 use Rattle.std.specs.Prelude.{ℕ, Bool, List, Option}
 use Rattle.mu_values.specs.declared.scalars.Scalar.{Scalar}
 use Rattle.heap_cells.specs.declared.cells.CellId.{CellId}

@@ -1,4 +1,4 @@
--- To believe: instructions that say where the function goes on.
+-- Instructions that say where the function goes on.
 use Rattle.std.specs.Prelude.{ℕ, List, [], ◌∷◌, Option, Some, None, map, nat_eq, if◌then◌else◌}
 use Rattle.ir_tree.specs.declared.flow.ControlFlow.{ControlFlow}
 use Rattle.ir_tree.specs.declared.flow.ControlFlow.TheVariants as flows

@@ -1,4 +1,4 @@
--- To believe: stacks that are entered, left, made and killed, and threads that are started.
+-- Stacks that are entered, left, made and killed, and threads that are started.
 use Rattle.std.specs.Prelude.{ℕ, nat_le, List, [], ◌∷◌, ◌++◌, Option, Some, None, Result, Ok, Err, length, slice_get, bytes_eq, if◌then◌else◌}
 use Rattle.mu_values.specs.declared.scalars.Scalar.{Scalar}
 use Rattle.mu_values.specs.declared.scalars.Scalar.TheVariants as scalars

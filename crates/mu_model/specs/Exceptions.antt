@@ -1,4 +1,4 @@
--- To believe: calls, returns, and exceptions that look for a frame.
+-- Calls, returns, and exceptions that look for a frame.
 use Rattle.std.specs.Prelude.{ℕ, List, [], ◌∷◌, Option, Some, None, Result, Ok, Err, ok_or, option_map}
 use Rattle.mu_values.specs.declared.scalars.Scalar.{Scalar}
 use Rattle.mu_values.specs.Slots.{TypedValues}

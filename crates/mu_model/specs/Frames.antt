@@ -1,4 +1,4 @@
--- To believe: where a frame stands next, and what it waits for.
+-- Where a frame stands next, and what it waits for.
 use Rattle.std.specs.Prelude.{ℕ, suc, Bool, true, List, [], ◌∷◌, ◌++◌, Option, Some, None, if◌then◌else◌}
 use Rattle.mu_values.specs.declared.scalars.Scalar.{Scalar}
 use Rattle.typed_heap.specs.Places.{with_some}

@@ -1,4 +1,4 @@
--- To believe: instructions that make objects, and those that find places in them.
+-- Instructions that make objects, and those that find places in them.
 use Rattle.std.specs.Prelude.{ℕ, List, [], ◌∷◌, Option, Some, None, ℤ}
 use Rattle.ir_tree.specs.declared.allocating.Allocation.{Allocation}
 use Rattle.ir_tree.specs.declared.allocating.Allocation.TheVariants as allocations

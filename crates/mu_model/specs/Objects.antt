@@ -1,4 +1,4 @@
--- To believe: objects that are made, references that are cast, and places that are found.
+-- Objects that are made, references that are cast, and places that are found.
 use Rattle.std.specs.Prelude.{ℕ, ◌+◌, ◌-◌, ◌*◌, ◌==◌, nat_le, List, [], ◌∷◌, ◌++◌, Option, Some, Result, length, slice_get, option_map, if◌then◌else◌}
 use Rattle.type_laws.specs.declared.definition.TypeDef.{TypeDef}
 use Rattle.type_laws.specs.declared.definition.TypeDef.TheVariants.{FuncRef}

@@ -1,4 +1,4 @@
--- To believe: what the names and operands of an instruction stand for, in its block, with the values of the block's variables.
+-- What the names and operands of an instruction stand for, in its block, with the values of the block's variables.
 use Rattle.std.specs.Prelude.{ℕ, ◌^◌, Bool, List, [], ◌∷◌, Option, Some, None, map, option_map, slice_get, nat_eq, nat_le, nat_lt, if◌then◌else◌, ◌&&◌}
 use Rattle.demands.specs.Names.{found}
 use Rattle.ir_lex.specs.declared.name.Name.{Name}

@@ -1,4 +1,4 @@
--- To believe: a bundle as the machine sees it, by its names.
+-- A bundle as the machine sees it, by its names.
 use Rattle.std.specs.Prelude.{ℕ, ◌+◌, List, [], ◌∷◌, ◌++◌, Option, Some, None, map, length, slice_get, is_some}
 use Rattle.demands.specs.Names.{found}
 use Rattle.ir_lex.specs.declared.name.Name.{Name}

@@ -1,4 +1,4 @@
--- To believe: the run of a program, from its first configuration to its ending.
+-- The run of a program, from its first configuration to its ending.
 use Rattle.std.specs.Prelude.{ℕ, zero, suc, ◌-◌, List, [], ◌∷◌, Option, Some, None, map, reverse, length, drop, sum_by}
 use Rattle.type_laws.specs.declared.definition.TypeDef.{TypeDef}
 use Rattle.type_laws.specs.declared.definition.TypeDef.TheVariants.{Iref}

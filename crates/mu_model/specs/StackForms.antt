@@ -1,4 +1,4 @@
--- To believe: instructions that enter stacks, and instructions under names.
+-- Instructions that enter stacks, and instructions under names.
 use Rattle.std.specs.Prelude.{ℕ, Bool, true, false, List, Option, Some, None, option_map}
 use Rattle.ir_tree.specs.declared.operands.NewStackClause.{NewStackClause}
 use Rattle.ir_tree.specs.declared.operands.NewStackClause.TheVariants as clauses

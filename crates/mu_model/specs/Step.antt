@@ -1,4 +1,4 @@
--- To believe: a step of the machine.
+-- A step of the machine.
 use Rattle.std.specs.Prelude.{ℕ, suc, Bool, ◌&&◌, ◌==◌, not, List, [], ◌∷◌, Option, Some, None, length, filter, find, slice_get, if◌then◌else◌}
 use Rattle.std.specs.List.{list_any}
 use Rattle.mu_values.specs.declared.scalars.Scalar.{Scalar}

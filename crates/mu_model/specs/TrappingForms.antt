@@ -1,4 +1,4 @@
--- To believe: instructions that ask the client.
+-- Instructions that ask the client.
 use Rattle.std.specs.Prelude.{ℕ, List, Option, Some}
 use Rattle.ir_tree.specs.declared.trapping.Trapping.{Trapping}
 use Rattle.ir_tree.specs.declared.trapping.Trapping.TheVariants as trappings

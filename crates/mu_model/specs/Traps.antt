@@ -1,4 +1,4 @@
--- To believe: traps, watchpoints, and what comes of the client's answer.
+-- Traps, watchpoints, and what comes of the client's answer.
 use Rattle.std.specs.Prelude.{ℕ, Bool, ◌==◌, not, List, ◌∷◌, Option, Some, None, map, filter, fold, reverse, ◌++◌, if◌then◌else◌}
 use Rattle.std.specs.List.{list_any}
 use Rattle.mu_values.specs.declared.scalars.Scalar.{Scalar}

@@ -1,4 +1,4 @@
--- To believe: what the machine asks of the types and functions of a bundle.
+-- What the machine asks of the types and functions of a bundle.
 use Rattle.std.specs.Prelude.{ℕ, List, Option, slice_get}
 use Rattle.type_laws.specs.declared.definition.TypeDef.{TypeDef}
 use Rattle.mu_values.specs.declared.scalars.Scalar.{Scalar}

@@ -1,4 +1,4 @@
--- To believe: waiting at a cell, and waking.
+-- Waiting at a cell, and waking.
 use Rattle.std.specs.Prelude.{ℕ, ◌-◌, ◌^◌, Bool, not, ◌==◌, List, [], ◌∷◌, ◌++◌, Option, Some, length, filter, take, slice_get, option_map, if◌then◌else◌}
 use Rattle.std.specs.List.{list_any}
 use Rattle.mu_base.specs.declared.order.Order.TheVariants.{Relaxed}

@@ -1,4 +1,4 @@
--- To believe: what popping and pushing are in the abstract machine.
+-- What popping and pushing are in the abstract machine.
 use Rattle.std.specs.Prelude.{ℕ, List, [], ◌∷◌, Option, Some, None, Result, Ok, Err, slice_get, take, drop, bytes_eq, option_map, if◌then◌else◌}
 use Rattle.frames.specs.Activations.{Activation}
 use Rattle.mu_model.specs.declared.endings.Case.{Case}

@@ -1,4 +1,4 @@
--- Inner: no caller reads it. It is the room that the lists of an edit have.
+-- No caller reads it. It is the room that the lists of an edit have.
 use Rattle.std.specs.Prelude.{◌≡◌, ◌≤◌, ℕ, suc, List, length, take}
 use Rattle.std.specs.List.{All}
 use Rattle.frames.specs.Activations.{Activation}

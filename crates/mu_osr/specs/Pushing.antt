@@ -1,4 +1,4 @@
--- To believe: a frame that is pushed, and why none is.
+-- A frame that is pushed, and why none is.
 use Rattle.std.specs.Prelude.{◌≡◌, ◌≢◌, ℕ, true, List, [], ◌∷◌, Option, Some, None, IsSome, IsSomeAnd, slice_get}
 use Rattle.ir_tree.specs.declared.items.Item.{Item}
 use Rattle.bundle_check.specs.declared.code.Function.{Function}

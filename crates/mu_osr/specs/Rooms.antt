@@ -1,4 +1,4 @@
--- To believe: room for an edit of a stack.
+-- Room for an edit of a stack.
 use Rattle.std.specs.Prelude.{ℕ, Bool, List}
 use Rattle.std.specs.List.{flat_map}
 use Rattle.frames.specs.Activations.{Activation}

@@ -1,4 +1,4 @@
--- Inner: nothing that a reader believes of a run rests on this. It is how a thread leaves its stack and enters another one, in parts.
+-- Nothing that a reader believes of a run rests on this. It is how a thread leaves its stack and enters another one, in parts.
 use Rattle.std.specs.Prelude.{◌≡◌, ℕ, suc, ◌<◌, false, List, [], ◌∷◌, ◌++◌, Option, Some, None, Result, Ok, Err, length, reverse, option_map, slice_get, slice_set, take, drop}
 use Rattle.ir_tree.specs.declared.items.Item.{Item}
 use Rattle.mu_values.specs.declared.scalars.Scalar.{Scalar}

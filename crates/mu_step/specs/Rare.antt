@@ -1,4 +1,4 @@
--- Inner: nothing that a reader believes of a run rests on this. It is which acts are on stacks, threads and cells that threads wait at,
+-- Nothing that a reader believes of a run rests on this. It is which acts are on stacks, threads and cells that threads wait at,
 -- and by which the client may be asked.
 use Rattle.std.specs.Prelude.{Bool, true, false}
 use Rattle.step_forms.specs.declared.act.Act.{Act}

@@ -1,4 +1,4 @@
--- To believe: what contracts see of a machine.
+-- What contracts see of a machine.
 use Rattle.std.specs.Prelude.{Bool, true, false, List, []}
 use Rattle.ir_tree.specs.declared.items.Item.{Item}
 use Rattle.mu_model.specs.declared.endings.StepEnd.{StepEnd}

@@ -1,4 +1,4 @@
--- Inner: nothing that a reader believes of a run rests on this. It is what comes of a trap, in parts.
+-- Nothing that a reader believes of a run rests on this. It is what comes of a trap, in parts.
 use Rattle.std.specs.Prelude.{◌≡◌, ℕ, List, Option, fold, reverse, map}
 use Rattle.ir_tree.specs.declared.items.Item.{Item}
 use Rattle.mu_values.specs.Slots.{TypedValues}

@@ -1,4 +1,4 @@
--- Inner: nothing that a reader believes of a run rests on this. It is what becomes of threads that are woken, in parts.
+-- Nothing that a reader believes of a run rests on this. It is what becomes of threads that are woken, in parts.
 use Rattle.std.specs.Prelude.{◌≡◌, ◌≢◌, ℕ, suc, true, List, [], ◌∷◌, Option, Some, None, slice_get, slice_set}
 use Rattle.ir_tree.specs.declared.items.Item.{Item}
 use Rattle.typed_heap.specs.Places.{with_some}

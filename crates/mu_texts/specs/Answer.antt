@@ -1,4 +1,4 @@
--- To believe: what the texts of files come to, and what is written then.
+-- What the texts of files come to, and what is written then.
 use Rattle.std.specs.Prelude.{ℕ, ◌+◌, Bool, true, false, List, [], ◌∷◌, ◌++◌, length, sum_by, Option, None, Some, Result, Ok, Err, codes, decimal}
 use Rattle.std.specs.List.{count_by}
 use Rattle.mu_base.specs.declared.status.Status.{Status}

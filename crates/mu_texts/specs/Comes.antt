@@ -1,4 +1,4 @@
--- Inner: what the functions that read and judge a text tell their callers.
+-- What the functions that read and judge a text tell their callers.
 use Rattle.std.specs.Prelude.{◌≡◌, ℕ, ◌≤◌, List, IsSome, IsSomeAnd, Result, Ok, Err, ⊤}
 use Rattle.mu_texts.specs.declared.what.What.{What}
 use Rattle.mu_texts.specs.declared.stop.Stop.{Stop}
@@ -18,7 +18,7 @@ use Rattle.ir_tree.specs.declared.items.Item.{Item}
 use Rattle.mu_texts.specs.Start.{Started}
 use Rattle.mu_texts.specs.Answer.{Part, ◌>>=◌, line, refused, checked, run_of}
 
--- a result is what the part comes to; an early end is its answer, and want of memory says nothing
+-- a result is what the part comes to; an early end is its answer, and out of memory says nothing
 abbrev pub Comes : {A : Type 0} → Part A → Result A Stop → Type 0
 Comes part (Ok x) = part ≡ Ok x
 Comes part (Err (Line text status)) = part ≡ Err (line text.items status)

@@ -1,4 +1,4 @@
--- To believe: how faults are named in refusals.
+-- How faults are named in refusals.
 use Rattle.std.specs.Prelude.{ℕ, List, codes}
 use Rattle.text_forms.specs.declared.fault.FaultKind.{FaultKind}
 use Rattle.text_forms.specs.declared.fault.FaultKind.TheVariants as kinds

@@ -1,4 +1,4 @@
--- To believe: what contracts see of a run that is to begin.
+-- What contracts see of a run that is to begin.
 use Rattle.std.specs.Prelude.{ℕ}
 use Rattle.mu_model.specs.Run.{Setting}
 

@@ -1,4 +1,4 @@
--- To believe: the names of the files of a job in texts, and their slots.
+-- The names of the files of a job in texts, and their slots.
 use Rattle.std.specs.Prelude.{ℕ, List, codes}
 use Rattle.mu_texts.specs.declared.what.What.{What}
 use Rattle.mu_texts.specs.declared.what.What.TheVariants.{Bundle, Hail, Client, Schedule}

@@ -6,7 +6,7 @@ use mu_base::Status;
 use std::alloc::AllocError;
 use thiserror::Error;
 
-/// An early end: a line that is the answer, or want of memory.
+/// An early end: a line that is the answer, or out of memory.
 #[derive(Debug, Drop, Error)]
 pub enum Stop {
     /// The words of a line, without its line feed, and the status that goes with it.

@@ -1,4 +1,4 @@
--- To believe: the threads once the stack of one was lent and written.
+-- The threads once the stack of one was lent and written.
 use Rattle.std.specs.Prelude.{ℕ, Some}
 use Rattle.std.specs.Borrow.{Lends, MutBor, Fml}
 use Rattle.stacks.specs.Stacks.{Bound}

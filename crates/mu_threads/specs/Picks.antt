@@ -1,4 +1,4 @@
--- To believe: picks. One of n options takes the next number, save where there is but one.
+-- Picks. One of n options takes the next number, save where there is but one.
 use Rattle.std.specs.Prelude.{ℕ, ◌%◌, nat_le, List, [], ◌∷◌, if◌then◌else◌}
 
 -- what is picked, and the numbers that are left; a list that is spent picks option 0

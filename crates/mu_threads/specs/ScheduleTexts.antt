@@ -1,4 +1,4 @@
--- To believe: the text of a schedule, the numbers that it stands for, and what it is refused for.
+-- The text of a schedule, the numbers that it stands for, and what it is refused for.
 use Rattle.std.specs.Prelude.{ℕ, ◌+◌, ◌^◌, Bool, true, false, ◌&&◌, ◌==◌, not, nat_lt, List, [], ◌∷◌, length, filter, map, if◌then◌else◌}
 use Rattle.std.specs.List.{list_all, slice_split}
 use Rattle.std.specs.Char.{is_digit}

@@ -1,4 +1,4 @@
--- To believe: what contracts see of the threads of a run, and which of them may make the next step.
+-- What contracts see of the threads of a run, and which of them may make the next step.
 use Rattle.std.specs.Prelude.{ℕ, ◌+◌, List, [], ◌∷◌, Option, Some, None, slice_get, slice_set}
 use Rattle.stacks.specs.Stacks.{Bound}
 use Rattle.mu_threads.specs.declared.state.ThreadState.{ThreadState}

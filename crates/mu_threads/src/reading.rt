@@ -25,7 +25,7 @@ pub enum ScheduleKind {
     NumberTooLarge,
 }
 
-/// Why a schedule is refused: the first run that is at fault, at its first byte, or want of memory.
+/// Why a schedule is refused: the first run that is at fault, at its first byte, or out of memory.
 pub type ScheduleFault = Fault<ScheduleKind>;
 
 /// Reads a schedule: decimal numbers below 2^32 with blanks or comments between them. A blank is a space, a tab, a carriage return or

@@ -1,4 +1,4 @@
--- Inner: blocks and their lists of members, one move at a time.
+-- Blocks and their lists of members, one move at a time.
 -- Contracts inside the crate cite this; no public one does, so no reader of those needs it.
 use Rattle.std.proofs.Common.{◌≡◌, ℕ, ◌<◌, List, length}
 use Rattle.std.specs.Prelude.{slice_index}

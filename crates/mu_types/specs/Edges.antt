@@ -1,4 +1,4 @@
--- Inner: edges as pairs of a place and a type.
+-- Edges as pairs of a place and a type.
 -- Contracts inside the crate cite this; no public one does, so no reader of those needs it.
 use Rattle.std.proofs.Common.{ℕ}
 use Rattle.mu_types.specs.declared.edges.Edge.{Edge}

@@ -1,4 +1,4 @@
--- To believe: the graph of written types and signatures, and the whole graph, as public contracts see them.
+-- The graph of written types and signatures, and the whole graph, as public contracts see them.
 use Rattle.std.specs.Prelude.{ℕ, List}
 use Rattle.type_laws.specs.declared.definition.TypeDef.{TypeDef}
 

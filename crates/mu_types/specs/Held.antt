@@ -1,4 +1,4 @@
--- Inner: what a finished graph keeps true of its private fields.
+-- What a finished graph keeps true of its private fields.
 -- Contracts inside the crate cite this; no public one does, so no reader of those needs it.
 use Rattle.std.proofs.Common.{◌≡◌, ℕ, ◌+◌, ◌^◌, ◌<◌, List, [], length, map}
 use Rattle.std.specs.Prelude.{slice_index, slice_index_or}

@@ -1,4 +1,4 @@
--- Inner: one number for the constructor, the number and the number of arguments of a definition.
+-- One number for the constructor, the number and the number of arguments of a definition.
 -- Contracts inside the crate cite this; no public one does, so no reader of those needs it.
 use Rattle.std.proofs.Common.{◌≡◌, ℕ, ◌+◌, ◌*◌, ◌%◌, List, length, Some, slice_get}
 use Rattle.std.specs.Prelude.{slice_index}

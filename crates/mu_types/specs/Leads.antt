@@ -1,4 +1,4 @@
--- Inner: what leads into a block, and what is closed under the same type.
+-- What leads into a block, and what is closed under the same type.
 -- Contracts inside the crate cite this; no public one does, so no reader of those needs it.
 use Rattle.std.proofs.Common.{◌≡◌, ℕ, ◌<◌, List, length, Some, true}
 use Rattle.std.specs.Prelude.{slice_index}

@@ -1,4 +1,4 @@
--- Inner: numbers of leaves by depth.
+-- Numbers of leaves by depth.
 -- Contracts inside the crate cite this; no public one does, so no reader of those needs it.
 use Rattle.std.proofs.Common.{◌≡◌, ℕ, List, length, min}
 use Rattle.std.specs.Prelude.{slice_index}

@@ -1,4 +1,4 @@
--- Inner: lists of leaves, by type and by class.
+-- Lists of leaves, by type and by class.
 -- Contracts inside the crate cite this; no public one does, so no reader of those needs it.
 use Rattle.std.proofs.Common.{◌≡◌, ℕ, ◌<◌, Bool, true, List, [], length, map}
 use Rattle.std.specs.Prelude.{slice_index, slice_index_or}

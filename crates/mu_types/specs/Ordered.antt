@@ -1,4 +1,4 @@
--- Inner: values of types that are found in an order in which parts come before their wholes.
+-- Values of types that are found in an order in which parts come before their wholes.
 -- Contracts inside the crate cite this; no public one does, so no reader of those needs it.
 use Rattle.std.proofs.Common.{◌≡◌, ℕ, ◌<◌, List, get_or}
 use Rattle.std.specs.Prelude.{slice_index}

@@ -1,4 +1,4 @@
--- Inner: a partition while it is refined, and what it is refined by.
+-- A partition while it is refined, and what it is refined by.
 -- Contracts inside the crate cite this; no public one does, so no reader of those needs it.
 use Rattle.std.proofs.Common.{◌≡◌, ℕ, ◌<◌, List, length}
 use Rattle.std.specs.Prelude.{Vec}

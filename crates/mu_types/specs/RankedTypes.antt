@@ -1,4 +1,4 @@
--- Inner: types whose leaves are listed by rank, class by class.
+-- Types whose leaves are listed by rank, class by class.
 -- Contracts inside the crate cite this; no public one does, so no reader of those needs it.
 use Rattle.std.proofs.Common.{◌≡◌, ℕ, ◌^◌, ◌<◌, Bool, List, length}
 use Rattle.std.specs.Prelude.{Vec}

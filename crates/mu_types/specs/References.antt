@@ -1,4 +1,4 @@
--- Inner: where the references to a definition stand.
+-- Where the references to a definition stand.
 -- Contracts inside the crate cite this; no public one does, so no reader of those needs it.
 use Rattle.std.proofs.Common.{◌≡◌, ℕ, ◌+◌, ◌<◌, true, false, List, Some, slice_get, get_or}
 use Rattle.std.specs.Prelude.{slice_index}

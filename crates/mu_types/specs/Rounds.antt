@@ -1,4 +1,4 @@
--- Inner: the least that is alike to a depth, and the first that agrees.
+-- The least that is alike to a depth, and the first that agrees.
 -- Contracts inside the crate cite this; no public one does, so no reader of those needs it.
 use Rattle.std.specs.Prelude.{◌≡◌, ℕ, ◌<◌, ◌≤◌, true, false, List, length, slice_index, slice_get}
 use Rattle.type_laws.specs.declared.definition.TypeDef.{TypeDef}

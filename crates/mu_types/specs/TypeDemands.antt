@@ -1,4 +1,4 @@
--- To believe: the demands on written types, in their order.
+-- The demands on written types, in their order.
 use Rattle.std.specs.Prelude.{ℕ, zero, suc, ◌+◌, Bool, true, false, not, ◌&&◌, ◌==◌, nat_le, List, [], length, Option, Some, None, slice_get, slice_index, slice_index_or}
 use Rattle.std.specs.List.{list_any}
 use Rattle.demands.specs.Demands.{Demands, none, demand, ◌⨾◌}

@@ -1,4 +1,4 @@
--- Inner: marks on the types from which a walk leads to a goal.
+-- Marks on the types from which a walk leads to a goal.
 -- Contracts inside the crate cite this; no public one does, so no reader of those needs it.
 use Rattle.std.proofs.Common.{◌≡◌, ℕ, Bool, false, List}
 use Rattle.std.specs.Prelude.{slice_index_or}

@@ -16,6 +16,6 @@ pub enum TypeKind {
     TooManyLeaves,
 }
 
-/// Why a graph of types is refused: the first demand that is not met, or want of memory. The place, as it was given to
+/// Why a graph of types is refused: the first demand that is not met, or out of memory. The place, as it was given to
 /// `TypeGraph::add`, is that of an argument for `WrongArgument`, and of the type's name for the others.
 pub type TypeFault = Fault<TypeKind>;

@@ -1,58 +1,20 @@
 -- The pieces of a run's text together are the text of its lines.
 use Rattle.std.proofs.Common.{◌≡◌, ℕ, suc, List, [], ◌∷◌, ◌++◌, map, refl, sym, ap, ◌∙◌, append_assoc}
 use Rattle.std.specs.Prelude.{flat_map, codes}
-use Rattle.mu_base.specs.declared.order.Order.{Order}
-use Rattle.mu_base.specs.declared.order.Order.TheVariants as orders
-use Rattle.mu_values.specs.declared.scalars.Scalar.{Scalar}
-use Rattle.mu_values.specs.declared.scalars.Scalar.TheVariants as scalars
-use Rattle.mem_axioms.specs.declared.types.Mode.TheVariants as modes
-use Rattle.mem_axioms.specs.declared.types.Kind.{Kind}
-use Rattle.mem_axioms.specs.declared.types.Kind.TheVariants as kinds
 use Rattle.mem_axioms.specs.declared.types.Event.{Event}
 use Rattle.ir_tree.specs.declared.items.Item.{Item}
 use Rattle.mu_model.specs.declared.lines.Line.{Line}
 use Rattle.mu_model.specs.declared.lines.Line.TheVariants as lines
 use Rattle.mu_model.specs.declared.endings.Ending.{Ending}
-use Rattle.run_texts.specs.EventTexts.{Text, kind_text, order_text, scalar_text}
+use Rattle.run_texts.specs.EventTexts.{Text}
 use Rattle.run_texts.specs.Texts.{line_text, note_text, ending_text}
 use Rattle.run_texts.specs.Pieces.{pieces_of, lines_text}
-use Rattle.log_lines.specs.Words.{order_text as log_order_text}
-use Rattle.log_lines.specs.EventTexts.{event_text, kind_text as log_kind_text, scalar_text as log_scalar_text}
+use Rattle.log_lines.specs.EventTexts.{event_text}
 use Rattle.log_lines.specs.Laws.{OtherLine, lines_text as log_lines_text}
 use Rattle.run_lines.specs.Laws.{names_in, log_line, Numbered, all_lines, run_lines, whole}
 
-order_same : (o : Order) → order_text o ≡ log_order_text o
-order_same orders.NotAtomic = refl
-order_same orders.Relaxed = refl
-order_same orders.Consume = refl
-order_same orders.Acquire = refl
-order_same orders.Release = refl
-order_same orders.AcqRel = refl
-order_same orders.SeqCst = refl
-
-scalar_same : (bundle : List Item) (v : Scalar) → scalar_text bundle v ≡ log_scalar_text (names_in bundle) v
-scalar_same bundle (scalars.Int w n) = refl
-scalar_same bundle scalars.Null = refl
-scalar_same bundle (scalars.Object n) = refl
-scalar_same bundle (scalars.Place n at) = refl
-scalar_same bundle (scalars.Func f) = refl
-scalar_same bundle (scalars.Stack k) = refl
-scalar_same bundle (scalars.Thread i) = refl
-
-kind_same : (bundle : List Item) (k : Kind) → kind_text bundle k ≡ log_kind_text (names_in bundle) k
-kind_same bundle (kinds.Access modes.Read c o p v) = rw (order_same o, scalar_same bundle v) refl
-kind_same bundle (kinds.Access modes.Write c o p v) = rw (order_same o, scalar_same bundle v) refl
-kind_same bundle (kinds.Access modes.Update c o p v) = rw (order_same o, scalar_same bundle v) refl
-kind_same bundle (kinds.Fence o) = rw (order_same o) refl
-kind_same bundle (kinds.NewStack k) = refl
-kind_same bundle (kinds.NewThread i) = refl
-kind_same bundle (kinds.Leave k) = refl
-kind_same bundle (kinds.Enter k) = refl
-kind_same bundle (kinds.Wake c n) = refl
-kind_same bundle (kinds.Woken n) = refl
-
 pub event_line : (bundle : List Item) (n : ℕ) (e : Event) → line_text bundle (lines.Event n e) ≡ event_text (names_in bundle) n e ++ codes "\n"
-event_line bundle n e = rw (kind_same bundle e.kind) refl
+event_line bundle n e = refl
 
 shift : (e f l : Text) → e ++ 10 ∷ [] ++ f ++ l ≡ e ++ 10 ∷ (f ++ l)
 shift e f l = append_assoc (e ++ 10 ∷ []) f l ∙ append_assoc e (10 ∷ []) (f ++ l)

@@ -1,4 +1,4 @@
--- To believe: the lines of a run as lines of a log, and that the text of a run is read as its log.
+-- The lines of a run as lines of a log, and that the text of a run is read as its log.
 use Rattle.std.specs.Prelude.{ℕ, ◌<◌, ◌≡◌, List, [], ◌∷◌, ◌++◌, length, map, flat_map, Ok}
 use Rattle.ir_tree.specs.declared.items.Item.{Item}
 use Rattle.mem_axioms.specs.declared.types.Event.{Event}

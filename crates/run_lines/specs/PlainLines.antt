@@ -1,4 +1,4 @@
--- To believe: the lines of a run that are no event lines are passed over when its log is read.
+-- The lines of a run that are no event lines are passed over when its log is read.
 use Rattle.std.specs.Prelude.{◌≡◌, ◌==◌, ℕ, true, false, not, List, Ok}
 use Rattle.std.specs.List.{list_all}
 use Rattle.ir_tree.specs.declared.items.Item.{Item}

@@ -1,4 +1,4 @@
--- To believe: what a run of an accepted text prints is read as its log, and the verdict on it is Yes.
+-- What a run of an accepted text prints is read as its log, and the verdict on it is Yes.
 use Rattle.std.specs.Prelude.{◌≡◌, ◌≤◌, ◌<◌, ℕ, true, List, All, Ok, length}
 use Rattle.ir_tree.specs.declared.items.Item.{Item}
 use Rattle.bundle_check.specs.Checking.{bundle_tables}

@@ -1,4 +1,4 @@
--- To believe: the verdict on a run is Yes.
+-- The verdict on a run is Yes.
 use Rattle.std.specs.Prelude.{ℕ, ◌<◌, ◌≡◌, List, [], length, map, Ok}
 use Rattle.ir_tree.specs.declared.items.Item.{Item}
 use Rattle.mem_axioms.specs.declared.types.Event.{Event}

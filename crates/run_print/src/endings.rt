@@ -134,7 +134,7 @@ fn whole_ending(code: &Checked, ending: &Ending, out: &mut Vec<u8>) -> Result<()
     out.extend_from_slice(b"\n")
 }
 
-/// Appends the line of an ending, its line feed included. It is refused only for want of memory, and then `out` is as it was.
+/// Appends the line of an ending, its line feed included. It is refused only when out of memory, and then `out` is as it was.
 pub fn ending_text(code: &Checked, ending: &Ending, out: &mut Vec<u8>) -> Result<(), AllocError>
     ensures appended { OnOk result (out.new.items ≡ out.old.items ++ ending_text code.now ending.now ++ codes "\n") }
     ensures stays { OnErr result (out.new.items ≡ out.old.items) }

@@ -35,7 +35,7 @@ fn whole_lines(code: &Checked, lines: &[Line], out: &mut Vec<u8>) -> Result<(), 
     Ok(())
 }
 
-/// Appends a line of a run, its line feed included. It is refused only for want of memory, and then `out` is as it was. It takes time
+/// Appends a line of a run, its line feed included. It is refused only when out of memory, and then `out` is as it was. It takes time
 /// in proportion to the line.
 pub fn line_text(code: &Checked, line: &Line, out: &mut Vec<u8>) -> Result<(), AllocError>
     ensures appended { OnOk result (out.new.items ≡ out.old.items ++ line_text code.now line.now) }
@@ -49,7 +49,7 @@ pub fn line_text(code: &Checked, line: &Line, out: &mut Vec<u8>) -> Result<(), A
     appended
 }
 
-/// Appends the lines of one step. It is refused only for want of memory, and then `out` is as it was.
+/// Appends the lines of one step. It is refused only when out of memory, and then `out` is as it was.
 pub fn lines_text(code: &Checked, lines: &[Line], out: &mut Vec<u8>) -> Result<(), AllocError>
     ensures appended { OnOk result (out.new.items ≡ out.old.items ++ lines_text code.now lines.now) }
     ensures stays { OnErr result (out.new.items ≡ out.old.items) }

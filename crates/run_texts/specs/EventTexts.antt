@@ -1,19 +1,14 @@
--- To believe: the texts of names, values and events.
+-- The texts of names, values and events of a run: those of a log, with the names of the bundle's functions.
 use Rattle.std.specs.Prelude.{ℕ, List, [], ◌∷◌, ◌++◌, Option, Some, None, drop, slice_get, is_some, codes, decimal, zip, if◌then◌else◌}
 use Rattle.demands.specs.Names.{found}
-use Rattle.mu_base.specs.declared.order.Order.{Order}
-use Rattle.mu_base.specs.declared.order.Order.TheVariants as orders
 use Rattle.ir_tree.specs.declared.items.Item.{Item}
 use Rattle.ir_tree.specs.declared.items.Item.TheVariants as items
 use Rattle.mu_values.specs.declared.scalars.Scalar.{Scalar}
-use Rattle.mu_values.specs.declared.scalars.Scalar.TheVariants as scalars
 use Rattle.mu_values.specs.Constants.{member_count}
 use Rattle.mu_values.specs.Slots.{TypedValues}
-use Rattle.heap_cells.specs.declared.cells.CellId.{CellId}
-use Rattle.mem_axioms.specs.declared.types.Mode.{Mode}
-use Rattle.mem_axioms.specs.declared.types.Mode.TheVariants as modes
 use Rattle.mem_axioms.specs.declared.types.Kind.{Kind}
-use Rattle.mem_axioms.specs.declared.types.Kind.TheVariants as kinds
+pub use Rattle.log_lines.specs.EventTexts.{Text, cell_text, thread_text, order_text, mode_text}
+use Rattle.log_lines.specs.EventTexts.{scalar_text as named_scalar, kind_text as named_kind}
 use Rattle.bundle_names.specs.Globals.{globals_of}
 use Rattle.bundle_tables.specs.Entries.{is_function}
 use Rattle.bundle_check.specs.Checking.{bundle_tables}
@@ -21,9 +16,6 @@ use Rattle.mu_model.specs.Types.{class_definition}
 use Rattle.mu_model.specs.Clients.{Classed}
 use Rattle.mu_model.specs.Operands.{Scope}
 use Rattle.mu_model.specs.Programs.{scopes_of}
-
-abbrev pub Text : Type 0
-Text = List ℕ
 
 -- ---- names
 
@@ -43,20 +35,8 @@ place_text bundle block at = full_name (slice_get (scopes_of bundle) block) ++ c
 
 -- ---- values
 
-abbrev pub cell_text : CellId → Text
-cell_text c = codes "#" ++ decimal c.object ++ codes "+" ++ decimal c.at
-
-abbrev pub thread_text : ℕ → Text
-thread_text i = codes "t" ++ decimal i
-
 abbrev pub scalar_text : List Item → Scalar → Text
-scalar_text bundle (scalars.Int w n) = decimal n
-scalar_text bundle scalars.Null = codes "NULL"
-scalar_text bundle (scalars.Object n) = codes "#" ++ decimal n
-scalar_text bundle (scalars.Place n at) = codes "#" ++ decimal n ++ codes "+" ++ decimal at
-scalar_text bundle (scalars.Func f) = function_text bundle bundle f
-scalar_text bundle (scalars.Stack k) = codes "s" ++ decimal k
-scalar_text bundle (scalars.Thread i) = thread_text i
+scalar_text bundle v = named_scalar (function_text bundle bundle) v
 
 -- with a space before each
 abbrev pub spaced : {A : Type 0} → (A → Text) → List A → Text
@@ -74,27 +54,5 @@ values_text bundle vs = spaced (value_text bundle) (zip vs.types vs.values)
 
 -- ---- events
 
-abbrev pub order_text : Order → Text
-order_text orders.NotAtomic = codes "NOT_ATOMIC"
-order_text orders.Relaxed = codes "RELAXED"
-order_text orders.Consume = codes "CONSUME"
-order_text orders.Acquire = codes "ACQUIRE"
-order_text orders.Release = codes "RELEASE"
-order_text orders.AcqRel = codes "ACQ_REL"
-order_text orders.SeqCst = codes "SEQ_CST"
-
-abbrev pub mode_text : Mode → Text
-mode_text modes.Read = codes "read "
-mode_text modes.Write = codes "write "
-mode_text modes.Update = codes "update "
-
 abbrev pub kind_text : List Item → Kind → Text
-kind_text bundle (kinds.Access mode cell order position value) =
-    mode_text mode ++ order_text order ++ codes " " ++ cell_text cell ++ codes " " ++ decimal position ++ codes " " ++ scalar_text bundle value
-kind_text bundle (kinds.Fence order) = codes "fence " ++ order_text order
-kind_text bundle (kinds.NewStack k) = codes "stack s" ++ decimal k
-kind_text bundle (kinds.NewThread i) = codes "thread t" ++ decimal i
-kind_text bundle (kinds.Leave k) = codes "leave s" ++ decimal k
-kind_text bundle (kinds.Enter k) = codes "enter s" ++ decimal k
-kind_text bundle (kinds.Wake cell many) = codes "wake " ++ cell_text cell ++ codes " " ++ decimal many
-kind_text bundle (kinds.Woken n) = codes "woken " ++ decimal n
+kind_text bundle k = named_kind (function_text bundle bundle) k

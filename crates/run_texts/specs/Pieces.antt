@@ -1,4 +1,4 @@
--- To believe: the text of a run in the pieces that are put one by one.
+-- The text of a run in the pieces that are put one by one.
 use Rattle.std.specs.Prelude.{List, [], ◌∷◌, ◌++◌, Bool, true, false, map, filter, flat_map, codes}
 use Rattle.ir_tree.specs.declared.items.Item.{Item}
 use Rattle.mu_model.specs.declared.lines.Line.{Line}

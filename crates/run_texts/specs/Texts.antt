@@ -1,4 +1,4 @@
--- To believe: the text of a run: a line for each event and each record, and a last one for the ending.
+-- The text of a run: a line for each event and each record, and a last one for the ending.
 use Rattle.std.specs.Prelude.{List, [], ◌++◌, Option, Some, None, codes, decimal}
 use Rattle.mu_base.specs.declared.status.Status.{Status}
 use Rattle.mu_base.specs.declared.status.Status.TheVariants as statuses

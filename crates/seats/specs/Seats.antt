@@ -1,4 +1,4 @@
--- To believe: threads on their stacks, and those that wait, in the words of the machine.
+-- Threads on their stacks, and those that wait, in the words of the machine.
 use Rattle.std.specs.Prelude.{◌≡◌, ℕ, not, List, [], ◌∷◌, Option, Some, None, filter, find, map, take, slice_get, option_map, IsSome, IsSomeAnd, if◌then◌else◌}
 use Rattle.heap_cells.specs.declared.cells.CellId.{CellId}
 use Rattle.typed_heap.specs.Places.{with_some}

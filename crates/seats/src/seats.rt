@@ -55,7 +55,7 @@ impl Model for Seats {
 
 impl Seats {
     /// Thread 0 on stack 0, which has these frames, and with NULL as its own object. It makes all room that later calls need for
-    /// threads. It is refused for want of memory alone.
+    /// threads. It is refused only when out of memory.
     pub fn new(alloc: Global, frames: Frames) -> Result<Seats, AllocError>
         ensures { IfOk result (λ s. s ≡ record { threads = Some (record { stack = 0; own = scalars.Null }) ∷ []; stacks = Active 0 (frames_in frames) ∷ []; waiters = [] }) }
     {
@@ -86,7 +86,7 @@ impl Seats {
         self.threads.nth_runnable(n)
     }
 
-    /// The threads that are left, in rising number. It is refused for want of memory alone.
+    /// The threads that are left, in rising number. It is refused only when out of memory.
     pub fn left(&self, alloc: Global) -> Result<Listing<u32>, AllocError>
         ensures { IfOk result (λ l. l ≡ threads_from 0 self.now.threads) }
     {
@@ -153,7 +153,7 @@ impl Seats {
         self.stacks.ready(id)
     }
 
-    /// Makes a stack under the next number, ready for what its top frame waits for. It is refused for want of memory alone, also
+    /// Makes a stack under the next number, ready for what its top frame waits for. It is refused only when out of memory, also
     /// where there would be 2^32 stacks; then nothing changes, and the frames are dropped.
     pub fn make(&mut self, frames: Frames, waits: Types) -> Result<u32, AllocError>
         requires { waits.members ≡ frames.top.waits }
@@ -263,7 +263,7 @@ impl Seats {
         passed
     }
 
-    /// From now on a thread that goes on waits at a cell, with a limit or without. It is refused for want of memory alone; then
+    /// From now on a thread that goes on waits at a cell, with a limit or without. It is refused only when out of memory; then
     /// nothing changes.
     pub fn wait(&mut self, thread: u32, cell: CellId, timed: bool) -> Result<(), AllocError>
         requires there { IsSome (seat_of self.old thread) }

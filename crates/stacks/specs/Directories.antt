@@ -1,4 +1,4 @@
--- To believe: what contracts see of a directory, which is a list of entries, one for each stack by its number.
+-- What contracts see of a directory, which is a list of entries, one for each stack by its number.
 use Rattle.std.specs.Prelude.{ℕ, List, Option, Some, None}
 use Rattle.frames.specs.Chains.{StoredChain}
 use Rattle.stacks.specs.declared.state.StackState.{StackState}

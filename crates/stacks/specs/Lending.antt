@@ -1,4 +1,4 @@
--- To believe: a bound stack once its frames were lent and written.
+-- A bound stack once its frames were lent and written.
 use Rattle.std.specs.Borrow.{Lends, MutBor, Fml}
 use Rattle.frames.specs.Chains.{StoredChain}
 use Rattle.frames.specs.contracts.frames.Frames.{the_row as frames_row}

@@ -1,4 +1,4 @@
--- To believe: what contracts see of a stack that is owned.
+-- What contracts see of a stack that is owned.
 use Rattle.std.specs.Prelude.{ℕ, List, Option}
 use Rattle.frames.specs.Chains.{StoredChain}
 use Rattle.stacks.specs.declared.entered.Entered.{Entered}

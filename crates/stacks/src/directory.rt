@@ -63,7 +63,7 @@ impl Directory {
     }
 
     /// Makes a stack under the next number, ready for values of these types. It makes the room as well that each later `put_back`
-    /// of the stack fills. It is refused for want of memory alone, also where there would be 2^32 stacks; then the frames come
+    /// of the stack fills. It is refused only when out of memory, also where there would be 2^32 stacks; then the frames come
     /// back, and the stacks are as they were.
     pub fn make(&mut self, frames: Frames, waits: Types) -> Result<u32, (Frames, AllocError)>
         ensures number { IfOk result (λ number. number ≡ length self.old) }

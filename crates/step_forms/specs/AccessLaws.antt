@@ -1,4 +1,4 @@
--- Inner: what is there where an access of a cell is.
+-- What is there where an access of a cell is.
 use Rattle.std.specs.Prelude.{◌≡◌, ℕ, Bool, Option, Some, None, IsSome, refl}
 use Rattle.std.proofs.Common.{◌⊎◌, inl, inr}
 use Rattle.mu_base.specs.declared.order.Order.{Order}

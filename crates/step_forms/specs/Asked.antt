@@ -1,4 +1,4 @@
--- Inner: nothing that a reader believes of a run rests on this. It is which act of the abstract machine an act of the program is, with
+-- Nothing that a reader believes of a run rests on this. It is which act of the abstract machine an act of the program is, with
 -- the lists in its room.
 use Rattle.std.specs.Prelude.{ℕ, List, [], ◌∷◌}
 use Rattle.frames.specs.Activations.{Value}

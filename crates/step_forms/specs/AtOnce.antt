@@ -1,4 +1,4 @@
--- Inner: nothing that a reader believes of a run rests on this. It is which act of the abstract machine a decision is that was made at once.
+-- Nothing that a reader believes of a run rests on this. It is which act of the abstract machine a decision is that was made at once.
 use Rattle.std.specs.Prelude.{◌≡◌, ℕ, List, [], ◌∷◌, Option, Some, None, IfSome}
 use Rattle.mu_values.specs.declared.scalars.Scalar.{Scalar}
 use Rattle.frames.specs.Activations.{Value}

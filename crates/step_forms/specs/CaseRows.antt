@@ -1,4 +1,4 @@
--- Inner: nothing that a reader believes of a run rests on this. It is what is kept beside the cases of a SWITCH.
+-- Nothing that a reader believes of a run rests on this. It is what is kept beside the cases of a SWITCH.
 use Rattle.std.specs.Prelude.{◌≡◌, ◌≢◌, ℕ, zero, suc, ◌%◌, ◌^◌, ◌≤◌, ◌==◌, false, List, [], ◌∷◌, ◌++◌, Option, Some, None, IsSome, map, length, slice_get, slice_set, refl, ⊤}
 use Rattle.std.proofs.Common.{sym, ap, arith, subst, ◌⊎◌, inl, inr}
 use Rattle.std.proofs.lemmas.Bool.Decides.{eqb_tells}

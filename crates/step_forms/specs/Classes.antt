@@ -1,4 +1,4 @@
--- Inner: nothing that a reader believes of a run rests on this. It is where the classes that an act names, or asks a client for values
+-- Nothing that a reader believes of a run rests on this. It is where the classes that an act names, or asks a client for values
 -- of, are those of types of the graph.
 use Rattle.std.specs.Prelude.{◌≡◌, ℕ, ◌<◌, List, Some, length, slice_get}
 use Rattle.std.specs.List.{All}

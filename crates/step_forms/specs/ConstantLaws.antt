@@ -1,4 +1,4 @@
--- Inner: the list of the values of a bundle's constants is no longer than that of their classes.
+-- The list of the values of a bundle's constants is no longer than that of their classes.
 use Rattle.std.specs.Prelude.{◌≡◌, ℕ, zero, suc, ◌<◌, ◌≤◌, List, [], ◌∷◌, IsSome, length, slice_get, refl}
 use Rattle.std.proofs.Common.{arith, ap, subst, sym, ◌∙◌}
 use Rattle.std.proofs.lemmas.List.{length-map}

@@ -1,4 +1,4 @@
--- Inner: what is there where an act is. An instruction that has an act has its operands.
+-- What is there where an act is. An instruction that has an act has its operands.
 use Rattle.std.specs.Prelude.{◌≡◌, ℕ, ◌+◌, ◌-◌, ◌<◌, ◌≤◌, ◌^◌, ◌++◌, Bool, true, false, List, [], ◌∷◌, Option, Some, None, IsSome, map, option_map, option_and_then, length, slice_get, refl, nat_eq, if◌then◌else◌}
 use Rattle.std.proofs.Common.{zero, suc, sym, arith, take, get_or, subst, ◌⊎◌, inl, inr, ◌↔◌}
 use Rattle.std.proofs.lemmas.Bool.Decides.{nat_tests}

@@ -1,4 +1,4 @@
--- Inner: lists of operands, as a loop reads them.
+-- Lists of operands, as a loop reads them.
 use Rattle.std.specs.Prelude.{◌≡◌, ℕ, ◌+◌, ◌++◌, List, [], ◌∷◌, Option, Some, None, IsSome, IsSomeAnd, map, slice_get, refl}
 use Rattle.std.proofs.Common.{take, get_or}
 use Rattle.std.proofs.lemmas.List.{take_more}

@@ -1,4 +1,4 @@
--- Inner: nothing that a reader believes of a run rests on this. It is the value that was read of an operand.
+-- Nothing that a reader believes of a run rests on this. It is the value that was read of an operand.
 use Rattle.std.specs.Prelude.{List, [], ◌∷◌}
 use Rattle.mu_values.specs.declared.scalars.Scalar.{Scalar}
 use Rattle.step_forms.specs.declared.operands.Reading.{Reading}

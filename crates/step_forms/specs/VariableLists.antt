@@ -1,4 +1,4 @@
--- Inner: nothing that a reader believes of a run rests on this. It is the list of a block's variables while the results of an
+-- Nothing that a reader believes of a run rests on this. It is the list of a block's variables while the results of an
 -- instruction stand behind them.
 use Rattle.std.specs.Prelude.{List, ◌++◌, Option, Some, None}
 use Rattle.mu_values.specs.Slots.{RoomyValues}

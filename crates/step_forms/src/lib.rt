@@ -1,5 +1,5 @@
-//! What the instructions of checked code do, once their operands are read: one function for each form, from the values of a block's
-//! variables to an act. Nothing is changed here but the room that is lent for lists.
+//! The first half of a step: from an instruction to its act. There is one function for each form: from the values of a block's variables
+//! it makes what the instruction is to do. Nothing is changed here but the room that is lent for lists.
 #![tactic(auto)]
 
 mod access;

@@ -1,4 +1,4 @@
--- To believe: what holds of every text that is read and accepted.
+-- What holds of every text that is read and accepted.
 use Rattle.std.specs.Prelude.{◌≡◌, ◌≢◌, ℕ, List, [], None, Some, Ok, IsSome}
 use Rattle.demands.specs.Demands.{first_unmet}
 use Rattle.ir_tree.specs.declared.items.Item.{Item}

@@ -1,4 +1,4 @@
--- To believe: the lines of different steps do not mix.
+-- The lines of different steps do not mix.
 use Rattle.std.specs.Prelude.{◌≡◌, ℕ, List, [], ◌∷◌, refl}
 use Rattle.mu_model.specs.declared.lines.Line.{Line}
 use Rattle.mu_model.specs.Configuration.{Configuration}

@@ -1,4 +1,4 @@
--- To believe: the moments of a run, and what holds at each of them and at its ending.
+-- The moments of a run, and what holds at each of them and at its ending.
 use Rattle.std.specs.Prelude.{◌≡◌, ◌≢◌, ◌≤◌, ◌<◌, ◌+◌, ◌^◌, ℕ, true, List, [], ◌∷◌, Ok, Some, length, slice_get}
 use Rattle.mu_base.specs.declared.order.Order.{Order}
 use Rattle.ir_tree.specs.declared.items.Item.{Item}

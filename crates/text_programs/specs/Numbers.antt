@@ -1,4 +1,4 @@
--- To believe: the event lines of a run are numbered.
+-- The event lines of a run are numbered.
 use Rattle.std.specs.Prelude.{◌≡◌, ℕ, suc, List, [], ◌∷◌, ◌++◌, flat_map, refl}
 use Rattle.mem_axioms.specs.declared.types.Event.{Event}
 use Rattle.mu_model.specs.declared.lines.Line.{Line}

@@ -1,4 +1,4 @@
--- To believe: what an access is offered: exactly what the axioms of memory and its comparison let it take.
+-- What an access is offered: exactly what the axioms of memory and its comparison let it take.
 use Rattle.std.specs.Prelude.{◌≡◌, ◌↔◌, ℕ, suc, Bool, true, false, List, ◌∷◌, Some, None, Ok, ◌==◌, find, slice_get, if◌then◌else◌}
 use Rattle.mu_base.specs.declared.order.Order.TheVariants.{Relaxed}
 use Rattle.mu_values.specs.declared.scalars.Scalar.{Scalar}

@@ -1,4 +1,4 @@
--- To believe: at each moment of a run the events of its log can be printed.
+-- At each moment of a run the events of its log can be printed.
 use Rattle.std.specs.Prelude.{◌≡◌, ◌≤◌, ◌<◌, ◌+◌, ◌^◌, ℕ, Some, All, length}
 use Rattle.mu_model.specs.Acts.{Program}
 use Rattle.mu_model.specs.Configuration.{Configuration}

@@ -1,4 +1,4 @@
--- To believe: the log of a run, by the lines that it writes.
+-- The log of a run, by the lines that it writes.
 use Rattle.std.specs.Prelude.{◌≡◌, ℕ, List, [], ◌∷◌, Some, reverse}
 use Rattle.mem_axioms.specs.declared.types.Event.{Event}
 use Rattle.mu_model.specs.declared.lines.Line.{Line}

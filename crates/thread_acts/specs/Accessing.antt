@@ -1,4 +1,4 @@
--- Inner: nothing that a reader believes of a run rests on this. It is what an access of one thread does, in parts.
+-- Nothing that a reader believes of a run rests on this. It is what an access of one thread does, in parts.
 use Rattle.std.specs.Prelude.{ℕ, List, [], ◌∷◌, Option, Some, None, length}
 use Rattle.ir_tree.specs.declared.items.Item.{Item}
 use Rattle.heap_cells.specs.declared.cells.CellId.{CellId}

@@ -1,4 +1,4 @@
--- Inner: nothing that a reader believes of a run rests on this. It is the step of the thread in hand, by the numbers of the code, in parts.
+-- Nothing that a reader believes of a run rests on this. It is the step of the thread in hand, by the numbers of the code, in parts.
 use Rattle.std.specs.Prelude.{ℕ, suc, Bool, true, false, List, [], ◌∷◌, Option, Some, None, Result, Ok, Err, fold, find, flat_map, slice_set}
 use Rattle.ir_tree.specs.declared.items.Item.{Item}
 use Rattle.mu_values.specs.declared.scalars.Scalar.{Scalar}

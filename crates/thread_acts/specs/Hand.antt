@@ -1,4 +1,4 @@
--- Inner: nothing that a reader believes of a run rests on this. It is the thread in hand, and how it is put down and taken up.
+-- Nothing that a reader believes of a run rests on this. It is the thread in hand, and how it is put down and taken up.
 use Rattle.std.specs.Prelude.{◌≡◌, ◌≢◌, ℕ, zero, suc, ◌+◌, ◌<◌, ◌≤◌, ◌==◌, nat_lt, Bool, true, false, List, [], ◌∷◌, Option, Some, None, Result, Ok, Err, IfOk, IsSome, IsSomeAnd, drop, find, filter, length, not, slice_get, slice_set, if◌then◌else◌, refl}
 use Rattle.std.proofs.Common.{sym, ◌∙◌, ap, subst, arith, add-one, inl, inr}
 use Rattle.std.proofs.lemmas.Bool.Decides.{nat_tests, eqb_tells, leb_tells}

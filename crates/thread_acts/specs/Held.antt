@@ -1,4 +1,4 @@
--- Inner: nothing that a reader believes of a run rests on this. It is what a machine keeps of a configuration, where the frames of one
+-- Nothing that a reader believes of a run rests on this. It is what a machine keeps of a configuration, where the frames of one
 -- thread may be in hand.
 use Rattle.std.specs.Prelude.{ℕ, Bool, false, List, [], drop, slice_set, if◌then◌else◌}
 use Rattle.typed_heap.specs.Objects.{HeapObject}

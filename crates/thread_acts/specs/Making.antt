@@ -1,4 +1,4 @@
--- Inner: nothing that a reader believes of a run rests on this. It is what acts over objects leave.
+-- Nothing that a reader believes of a run rests on this. It is what acts over objects leave.
 use Rattle.std.specs.Prelude.{◌≡◌, ℕ, ◌-◌, ◌<◌, List, [], ◌∷◌, ◌++◌, Result, length}
 use Rattle.ir_tree.specs.declared.items.Item.{Item}
 use Rattle.type_laws.specs.declared.definition.TypeDef.{TypeDef}

@@ -1,4 +1,4 @@
--- To believe: what a step answers, where memory is found.
+-- What a step answers, where memory is found.
 use Rattle.std.specs.Prelude.{◌≡◌, ⊤, reverse}
 use Rattle.mu_model.specs.declared.endings.StepEnd.{StepEnd}
 use Rattle.mu_model.specs.declared.endings.StepEnd.TheVariants.{Went, Ended}

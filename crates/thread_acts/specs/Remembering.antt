@@ -1,4 +1,4 @@
--- Inner: nothing that a reader believes of a run rests on this. It is what a memory is to know of the objects of a heap.
+-- Nothing that a reader believes of a run rests on this. It is what a memory is to know of the objects of a heap.
 use Rattle.std.specs.Prelude.{◌≡◌, ℕ, zero, suc, ◌+◌, ◌<◌, List, [], ◌∷◌, ◌++◌, Option, Some, None, IsSomeAnd, Result, Ok, Err, OnOk, map, fold, length, slice_get, take, refl}
 use Rattle.std.proofs.Common.{sym, ◌∙◌, ap, arith, add-one}
 use Rattle.mu_values.specs.declared.scalars.Scalar.{Scalar}

@@ -1,4 +1,4 @@
--- Inner: nothing that a reader believes of a run rests on this. It is the first configuration of a run, by the numbers of the code.
+-- Nothing that a reader believes of a run rests on this. It is the first configuration of a run, by the numbers of the code.
 use Rattle.std.specs.Prelude.{◌≡◌, ℕ, zero, suc, ◌+◌, ◌-◌, ◌<◌, ◌==◌, ◌||◌, false, nat_lt, List, [], ◌∷◌, ◌++◌, Option, Some, None, IsSome, IsSomeAnd, length, map, take, slice_get, slice_index_or, refl}
 use Rattle.std.proofs.Common.{sym, ◌∙◌, ap, subst, arith, add-one, inl, inr}
 use Rattle.std.proofs.lemmas.Bool.Decides.{nat_tests, eqb_tells}

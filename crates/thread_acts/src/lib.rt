@@ -1,4 +1,5 @@
-//! The state of a run, and what the thread in hand does by itself: each act that moves no thread, as the abstract machine does it.
+//! The second half of a step, for acts that move no thread: the state of a run, and what the thread in hand does by itself. Each act changes
+//! the state as the abstract machine's act changes its configuration.
 #![tactic(auto)]
 
 pub mod accessing;

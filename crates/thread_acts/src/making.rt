@@ -204,7 +204,7 @@ fn give<M: Memory>(
 
 impl<M: Memory, C: Determined> State<M, C> {
     /// The thread's instruction is refused so many cells, where so many are left. A number that a fault of the heap does not tell
-    /// exactly is want of memory.
+    /// exactly is out of memory.
     fn refuse_cells(
         &mut self,
         code: &Checked,

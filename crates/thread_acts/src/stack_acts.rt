@@ -62,7 +62,7 @@ fn waiting_frame(alloc: Global, block: u32, waits: Types) -> Frame
     }
 }
 
-/// There is one stack more, ready for the parameters of a function with that first block. It is refused for want of memory alone; then
+/// There is one stack more, ready for the parameters of a function with that first block. It is refused only when out of memory; then
 /// nothing changes.
 fn add_stack(
     alloc: Global,

@@ -1,4 +1,4 @@
--- Inner: an answer that can be entered with an exception has one scalar.
+-- An answer that can be entered with an exception has one scalar.
 use Rattle.std.specs.Prelude.{◌≡◌, ℕ, ◌==◌, Bool, true, false, List, [], ◌∷◌, Option, Some, None, IsSome, refl, if◌then◌else◌}
 use Rattle.std.proofs.Common.{arith, subst}
 use Rattle.std.proofs.lemmas.Bool.Decides.{nat_tests}

@@ -1,4 +1,4 @@
--- Inner: watchpoints in the order in which they were enabled, and changes one after the other.
+-- Watchpoints in the order in which they were enabled, and changes one after the other.
 use Rattle.std.specs.Prelude.{◌≡◌, ℕ, ◌+◌, ◌<◌, ◌==◌, Bool, true, false, not, cond, ◌||◌, List, [], ◌∷◌, ◌++◌, map, filter, fold, reverse, length}
 use Rattle.std.specs.List.{list_any}
 use Rattle.std.proofs.Common.{zero, suc, take, get_or, refl, ap, sym, ◌∙◌, arith, add-one}

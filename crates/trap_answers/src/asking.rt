@@ -48,7 +48,7 @@ impl<'a, C: Determined> Asks for Asking<'a, C> {
 }
 
 /// Asks a client for its answer to a trap of a thread, whose stack waits for values of the types that are asked. The client sees the
-/// stack, and hands it back; nothing changes. None is misuse. It is refused for want of memory alone.
+/// stack, and hands it back; nothing changes. None is misuse. It is refused only when out of memory.
 pub fn ask<C: Determined>(
     alloc: Global,
     client: &C,

@@ -8,7 +8,7 @@ use mu_model::{Line, Lines, Note};
 use std::alloc::{AllocError, Global};
 
 /// The lines of a trap: the event that the stack is left, which has that number, the record of the trap, and what an answer records.
-/// They are refused for want of memory alone.
+/// They are refused only when out of memory.
 pub fn trap_lines(
     alloc: Global,
     number: u32,

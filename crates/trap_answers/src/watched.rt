@@ -39,7 +39,7 @@ impl Watched {
         self.numbers.as_slice().contains(&number)
     }
 
-    /// A watchpoint is enabled from now on, or not. It is refused for want of memory alone.
+    /// A watchpoint is enabled from now on, or not. It is refused only when out of memory.
     fn set(&mut self, change: Watch) -> Result<(), AllocError>
         ensures { OnOk result (self.new ≡ watch self.old (change.number, change.enabled)) }
     {
@@ -51,7 +51,7 @@ impl Watched {
         Ok(())
     }
 
-    /// What is enabled after these changes, one after the other. It is refused for want of memory alone.
+    /// What is enabled after these changes, one after the other. It is refused only when out of memory.
     #[tactic(auto, using(crate::specs::Watching::watch_more))]
     pub fn after(&self, alloc: Global, changes: &Watches) -> Result<Watched, AllocError>
         ensures { IfOk result (λ w. w ≡ fold watch self.now changes.now) }

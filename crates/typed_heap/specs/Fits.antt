@@ -1,4 +1,4 @@
--- To believe: which values fit a type, among the objects, functions, stacks and threads that there are.
+-- Which values fit a type, among the objects, functions, stacks and threads that there are.
 use Rattle.std.specs.Prelude.{◌≡◌, ℕ, ◌/◌, ◌<◌, ◌^◌, Bool, true, false, ◌&&◌, ◌||◌, ◌==◌, nat_lt, List, [], ◌∷◌, Option, Some, None, IsSomeAnd, length, drop, map, slice_get, bytes_eq}
 use Rattle.type_laws.specs.declared.definition.TypeDef.{TypeDef}
 use Rattle.type_laws.specs.declared.definition.TypeDef.TheVariants as types

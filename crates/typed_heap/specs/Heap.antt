@@ -1,4 +1,4 @@
--- To believe: what contracts see of a heap, and what its calls ask of types.
+-- What contracts see of a heap, and what its calls ask of types.
 use Rattle.std.specs.Prelude.{◌≡◌, ℕ, ◌-◌, ◌^◌, ◌<◌, min, List, ◌++◌, length, Option, None, Some, slice_get}
 use Rattle.type_laws.specs.declared.definition.TypeDef.{TypeDef}
 use Rattle.type_laws.specs.Leaves.{times}

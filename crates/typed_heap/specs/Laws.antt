@@ -1,4 +1,4 @@
--- To believe: what laws say of objects and of worlds that grow.
+-- What laws say of objects and of worlds that grow.
 use Rattle.std.specs.Prelude.{◌≡◌, ℕ, ◌≤◌, List, Some, slice_get, IsSomeAnd}
 use Rattle.type_laws.specs.declared.definition.TypeDef.{TypeDef}
 use Rattle.typed_heap.specs.Objects.{HeapObject}

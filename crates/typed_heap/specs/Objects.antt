@@ -1,4 +1,4 @@
--- To believe: the objects of a heap, and what their cells begin with.
+-- The objects of a heap, and what their cells begin with.
 use Rattle.std.specs.Prelude.{ℕ, ◌+◌, Bool, true, false, List, [], ◌++◌, length, take, drop, Option, Some, None, map, slice_get, slice_set}
 use Rattle.type_laws.specs.declared.definition.TypeDef.{TypeDef}
 use Rattle.type_laws.specs.Leaves.{leaves}

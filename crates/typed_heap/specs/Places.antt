@@ -1,4 +1,4 @@
--- To believe: casts of references, places that are found from others, and cells that may be accessed.
+-- Casts of references, places that are found from others, and cells that may be accessed.
 use Rattle.std.specs.Prelude.{ℕ, Bool, true, false, ◌&&◌, not, nat_le, List, Option, Some, None, Result, Ok, Err, option_and_then, length, take, slice_get, sum_by, ℤ, pos, ◌+ℤ◌, ◌*ℤ◌, nat_abs, int_lt, if◌then◌else◌}
 use Rattle.type_laws.specs.declared.definition.TypeDef.{TypeDef}
 use Rattle.type_laws.specs.declared.definition.TypeDef.TheVariants.{Ref, Iref}

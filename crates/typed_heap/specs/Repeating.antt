@@ -1,4 +1,4 @@
--- Inner: leaves that repeat, so that few of them tell all.
+-- Leaves that repeat, so that few of them tell all.
 -- Contracts inside the crate cite this; no public one does, so no reader of those needs it.
 use Rattle.std.specs.Prelude.{◌≡◌, ◌⊎◌, ℕ, ◌+◌, ◌%◌, ◌<◌, ◌≤◌, min, List, [], ◌∷◌, length, slice_index, slice_range}
 use Rattle.typed_heap.specs.declared.objects.Extent.{Extent}

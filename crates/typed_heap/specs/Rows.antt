@@ -1,4 +1,4 @@
--- Inner: the objects of a heap as they stand in rows of cells.
+-- The objects of a heap as they stand in rows of cells.
 -- Contracts inside the crate cite this; no public one does, so no reader of those needs it.
 use Rattle.std.specs.Prelude.{◌≡◌, ℕ, zero, suc, ◌-◌, ◌^◌, ◌<◌, ◌≤◌, List, [], ◌∷◌, map, length, Option, Some, None, slice_get, slice_index_or, slice_range}
 use Rattle.std.specs.List.{All}

@@ -1,4 +1,4 @@
--- To believe: what holds of every bundle that meets its demands. HaveBlocks asks that each function that is defined has a block, as a text
+-- What holds of every bundle that meets its demands. HaveBlocks asks that each function that is defined has a block, as a text
 -- that is read has it.
 use Rattle.std.specs.Prelude.{◌≡◌, ◌≢◌, ℕ, List, [], None, Some, All}
 use Rattle.demands.specs.Demands.{first_unmet}

@@ -1,4 +1,4 @@
--- To believe: the places of a bundle, by its names: the types of the variables before each instruction, and of its results.
+-- The places of a bundle, by its names: the types of the variables before each instruction, and of its results.
 use Rattle.std.specs.Prelude.{ℕ, List, [], ◌++◌, Bool, Option, Some, None, length, take, slice_get, is_some, not, nat_lt, ◌||◌, if◌then◌else◌}
 use Rattle.ir_tree.specs.declared.code.Op.{Op}
 use Rattle.ir_tree.specs.declared.code.Inst.{Inst}

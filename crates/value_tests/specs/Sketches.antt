@@ -1,4 +1,4 @@
--- Inner: what a graph that is being drawn keeps true, and how many definitions a finished one has.
+-- What a graph that is being drawn keeps true, and how many definitions a finished one has.
 use Rattle.std.specs.Prelude.{◌≡◌, ℕ, ◌+◌, ◌*◌, ◌<◌, ◌≤◌, List, length}
 use Rattle.std.specs.List.{All}
 use Rattle.type_laws.specs.declared.definition.TypeDef.{TypeDef}

@@ -1,4 +1,4 @@
--- To believe: the laws of verdicts.
+-- The laws of verdicts.
 use Rattle.std.specs.Prelude.{◌≡◌, ◌↔◌, ℕ, ◌≤◌, Bool, true, false, ◌&&◌, List, ◌∷◌, length, Option, Some, nat_le, option_map, option_and_then}
 use Rattle.mu_base.specs.declared.order.Order.{Order}
 use Rattle.mu_values.specs.declared.scalars.Scalar.{Scalar}

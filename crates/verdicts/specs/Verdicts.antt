@@ -1,4 +1,4 @@
--- To believe: the verdict on a log whose initial scalars are not known. It says what fails first at the least event where anything fails:
+-- The verdict on a log whose initial scalars are not known. It says what fails first at the least event where anything fails:
 -- the form of a log, axiom 1, axiom 3, or the absence of races. Axiom 2 cannot fail, since an update has one position.
 use Rattle.std.specs.Prelude.{ℕ, suc, Bool, true, false, ◌&&◌, ◌==◌, nat_le, List, [], ◌∷◌, length, Option, Some, None, option_map, option_and_then}
 use Rattle.mem_axioms.specs.Events.{order_of, is_seq_cst}

@@ -1,12 +1,15 @@
-use Rattle.std.proofs.Common.{◌≡◌, ◌∙◌, ap, map, None, refl}
+use Rattle.std.proofs.Common.{◌≡◌, ◌∙◌, List, [], ◌∷◌, ◌++◌, ℕ, Some, None, map, length, sym, ap, subst}
+use Rattle.std.specs.BTreeMap.{Updates}
 use Rattle.demands.specs.Names.{found}
-use Rattle.demands.proofs.Entries.{names_pushed, entry_of}
+use Rattle.demands.specs.Numbered.{IsNumbered}
+use Rattle.demands.proofs.Numbering.{seen, length_seen, name_cmp, one_more_numbered, seen_more}
 use Rattle.demands.proofs.scope.Scope.add.Goals as goal
 
-pub returns-in-Ok-clause-ok : goal.returns-in-Ok-clause-ok
-returns-in-Ok-clause-ok g c =
-    let same : c.in_ok-key.key.items ≡ c.args.name.now = c.in_ok-key.ensures.items in
-    let absent : found (map (entry_of (λ k. k.items)) c.self.inside.names.entries) c.in_ok-key.key.items ≡ None = rw (same, c.self.view_is) c.requires in
-    ap (map (entry_of (λ k. k.items))) c.in-Ok.ensures.entries
-    ∙ names_pushed (λ k. k.items) c.in_ok-key.key c.args.value c.self.inside.names.entries absent
-    ∙ rw (same, c.self.view_is) refl
+pub invariant_of-self-2 : goal.invariant_of-self-2
+invariant_of-self-2 g c =
+    let old = c.self.inside.definitions.items in
+    let absent : found (seen old) c.args.name.now ≡ None = ap (λ m. found m c.args.name.now) c.self.view_is ∙ c.requires in
+    let next : c.len.result ≡ length (seen old) =
+    c.len.ensures ∙ c.reserve.new.self.ok.0 ∙ ap length c.in_ok-reserve.ensures.items ∙ sym (length_seen old) in
+    seen_more old c.push.new.self.items c.in_ok-spelling.spelling c.args.name.now c.args.value (c.in-Ok.ensures.items ∙ ap (λ l. l ++ (c.in_ok-spelling.spelling, c.args.value) ∷ []) c.in_ok-reserve.ensures.items) c.in_ok-spelling.ensures.items c.insert.new.self
+    (one_more_numbered c.self.inside.numbers c.insert.new.self (seen old) c.in_ok-key.key c.args.name.now c.args.value c.in_ok-key.ensures.items absent c.self.invariant (subst (λ n. Updates name_cmp c.self.inside.numbers c.insert.new.self c.in_ok-key.key (Some n)) next c.in_ok-insert.ensures.updates))
