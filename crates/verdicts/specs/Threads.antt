@@ -1,4 +1,4 @@
--- To believe: the threads of the events that are judged.
+-- The threads of the events that are judged.
 use Rattle.std.specs.Prelude.{◌≡◌, ℕ, ◌<◌, true, List, Some}
 use Rattle.mem_axioms.specs.Logs.{event_at}
 use Rattle.mem_axioms.specs.Synchronizes.{makes_thread}

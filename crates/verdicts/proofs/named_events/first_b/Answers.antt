@@ -2,7 +2,8 @@ use Rattle.std.proofs.Common.{sym, ap, ◌∙◌, arith}
 use Rattle.mem_axioms.specs.Events.{is_seq_cst, order_of}
 use Rattle.mem_axioms.specs.PassedOver.{has_seq_cst_from}
 use Rattle.verdicts.specs.Searches.{passed_by}
-use Rattle.verdicts.proofs.Searched.{event_there, found, none_found, none_more, three_hold, first_of_three, second_of_three, third_fails}
+use Rattle.verdicts.specs.Newer.{event_there}
+use Rattle.verdicts.proofs.Searched.{found, none_found, none_more, three_hold, first_of_three, second_of_three, third_fails}
 use Rattle.verdicts.proofs.named_events.first_b.Goals as goal
 use Rattle.verdicts.proofs.named_events.first_b.Goals.{else-seq_cst-via-then-seq_cst+then-has_passed+else-has_from, else-seq_cst-via-then-seq_cst+else-has_passed, else-seq_cst-via-else-seq_cst}
 
