@@ -13,9 +13,9 @@ use Rattle.mem_axioms.specs.Reads.{below}
 use Rattle.mem_axioms.specs.declared.types.Event.{Event}
 use Rattle.write_history.specs.Occurrences.{occurrences}
 use Rattle.mem_views.specs.Differing.{differs_from}
-use Rattle.mem_views.specs.Holding.{values_of}
+use Rattle.view_parts.specs.Holding.{values_of}
 use Rattle.mem_views.proofs.Reading.{below-under}
-use Rattle.mem_views.proofs.ValuesKept.{values-at, values-length}
+use Rattle.view_parts.specs.Lemmas.ValuesKept.{values-at, values-length}
 
 abbrev pub one_if : Bool → ℕ
 one_if b = cond b 1 0

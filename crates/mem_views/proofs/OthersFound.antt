@@ -15,9 +15,9 @@ use Rattle.mem_axioms.specs.Reads.{below}
 use Rattle.mem_axioms.specs.declared.types.Event.{Event}
 use Rattle.write_history.specs.Occurrences.{occurrences, IsOther}
 use Rattle.mem_views.specs.Differing.{differs_from}
-use Rattle.mem_views.specs.Holding.{values_of}
+use Rattle.view_parts.specs.Holding.{values_of}
 use Rattle.mem_views.proofs.Reading.{below-floor}
-use Rattle.mem_views.proofs.ValuesKept.{values-at, values-length}
+use Rattle.view_parts.specs.Lemmas.ValuesKept.{values-at, values-length}
 use Rattle.mem_views.proofs.Counted.{one_if, one-more, one-further, below-rises, nth-passing, counted-later, got}
 
 -- one for a test that fails

@@ -19,9 +19,9 @@ use Rattle.mem_axioms.specs.Lemmas.Downward.{below-same}
 use Rattle.mem_axioms.specs.Lemmas.Offers.{may_take, reads-below}
 use Rattle.mem_axioms.specs.Lemmas.Options.{floor-option, floor-below, options-number, options-nth}
 use Rattle.mem_views.specs.Differing.{differs_from}
-use Rattle.mem_views.specs.Holding.{CellHolds}
-use Rattle.mem_views.specs.declared.cell.CellViews.{CellViews}
-use Rattle.mem_views.proofs.ValuesKept.{values-at, values-length}
+use Rattle.view_parts.specs.Holding.{CellHolds}
+use Rattle.view_parts.specs.declared.cell.CellViews.{CellViews}
+use Rattle.view_parts.specs.Lemmas.ValuesKept.{values-at, values-length}
 
 -- no event makes position 0
 pub value-initial : (initial : CellId → Scalar) (log : List Event) (c : CellId) → has_form initial log ≡ true → value_at initial log c 0 ≡ initial c

@@ -9,10 +9,10 @@ use Rattle.mem_axioms.specs.declared.types.Event.{Event}
 use Rattle.mem_axioms.specs.declared.types.Room.{Room}
 use Rattle.mem_axioms.specs.declared.types.Kind.{Kind}
 use Rattle.mem_axioms.specs.declared.types.Kind.TheVariants.{Access, Fence, NewStack, NewThread, Leave, Enter, Wake, Woken}
-use Rattle.mem_views.specs.CellRooms.{CellRoomAt}
-use Rattle.mem_views.specs.Roominess.{CellFits}
-use Rattle.mem_views.specs.declared.cell.CellViews.{CellViews}
-use Rattle.mem_views.proofs.CellsKept.{cell-room-less}
+use Rattle.view_parts.specs.CellRooms.{CellRoomAt}
+use Rattle.view_parts.specs.Roominess.{CellFits}
+use Rattle.view_parts.specs.declared.cell.CellViews.{CellViews}
+use Rattle.view_parts.specs.Lemmas.CellsKept.{cell-room-less}
 
 room-kind : (room : Room) (t : ℕ) (k : Kind) (cell : CellId) → HasRoom room (record { thread = t; kind = k }) → accesses cell (record { thread = t; kind = k }) ≡ true → (room.thread ≡ t) × (room.cell ≡ Some cell)
 room-kind room t (Access mode of o p x) cell h a = (h.1.0, h.1.1 ∙ ap Some (same_cell-true of cell a))
@@ -42,13 +42,13 @@ cases-kind t (Woken o) = inl (λ c. refl)
 access-cases : (e : Event) → ((c : CellId) → accesses c e ≡ false) ⊎ ((cell : CellId) × (accesses cell e ≡ true))
 access-cases e = cases-kind e.thread e.kind
 
-pub room-at : (room : Room) (e : Event) (cell : CellId) (numbers : List (List ℕ)) (kept : List CellViews) → CellFits room numbers kept → HasRoom room e → e.thread < 64 → accesses cell e ≡ true → CellRoomAt (room.events - 1 + 1) e.thread numbers kept cell
+pub room-at : (room : Room) (e : Event) (cell : CellId) (numbers : CellId → ℕ) (kept : List CellViews) → CellFits room numbers kept → HasRoom room e → e.thread < 64 → accesses cell e ≡ true → CellRoomAt (room.events - 1 + 1) e.thread numbers kept cell
 room-at room e cell numbers kept f h s a =
     let r = room-of room e cell h a in
     let n : room.events - 1 + 1 ≡ room.events = (let z = h.0 in omega (arith, z)) in
     rw (n, sym r.0) (f cell r.1 (let q = r.0 in omega (arith, q, s)))
 
-pub fits-less : (room : Room) (e : Event) (numbers : List (List ℕ)) (old new : List CellViews) → CellFits room numbers old → HasRoom room e → (((c : CellId) → accesses c e ≡ false) → new ≡ old)
+pub fits-less : (room : Room) (e : Event) (numbers : CellId → ℕ) (old new : List CellViews) → CellFits room numbers old → HasRoom room e → (((c : CellId) → accesses c e ≡ false) → new ≡ old)
     → ((count : ℕ) (cell : CellId) → accesses cell e ≡ true → CellRoomAt (count + 1) e.thread numbers old cell → CellRoomAt count e.thread numbers new cell) → CellFits (one_less room) numbers new
 fits-less room e numbers old new f h same less cell q t = go (access-cases e)
   where

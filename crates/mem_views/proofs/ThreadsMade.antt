@@ -19,14 +19,15 @@ use Rattle.mem_axioms.specs.Lemmas.Numbers.{event-cases}
 use Rattle.mem_axioms.specs.Lemmas.Growing.{cells-more, sound-more, sound-none, cells-none}
 use Rattle.mem_axioms.specs.Lemmas.Widening.{cells-wider, sound-wider}
 use Rattle.mem_views.specs.Threads.{threads_of}
-use Rattle.mem_views.specs.Holding.{LogHolds, MadeHolds, CellHolds}
-use Rattle.mem_views.specs.Families.{is_any, is_not_atomic, is_not_atomic_modification, has_seq_cst_order}
+use Rattle.mem_views.specs.Holding.{LogHolds, MadeHolds}
+use Rattle.view_parts.specs.Holding.{CellHolds}
+use Rattle.view_parts.specs.Families.{is_any, is_not_atomic, is_not_atomic_modification, has_seq_cst_order}
 use Rattle.mem_axioms.specs.Events.{is_modification, position_of}
 use Rattle.write_history.specs.Rooms.{Accesses}
-use Rattle.mem_views.specs.Indexed.{accesses_at, entries_by, entries_of, by_thread}
-use Rattle.mem_views.specs.Looks.{IsMade, AllMade}
-use Rattle.mem_views.specs.declared.cell.CellViews.{CellViews}
-use Rattle.mem_views.proofs.Entries.{entries-none}
+use Rattle.view_parts.specs.Indexed.{accesses_at, entries_by, entries_of, by_thread}
+use Rattle.view_parts.specs.Looks.{IsMade, AllMade}
+use Rattle.view_parts.specs.declared.cell.CellViews.{CellViews}
+use Rattle.view_parts.specs.Lemmas.Entries.{entries-none}
 
 or_left : (a b : Bool) → a ≡ true → (a || b) ≡ true
 or_left true b h = refl

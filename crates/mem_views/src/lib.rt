@@ -28,15 +28,7 @@
 //! laws of `clock_laws` say that clocks decide happens-before, and that this floor is the floor of the axioms.
 #![tactic(auto)]
 
-mod cell;
-mod floors;
-mod gains;
-mod indexes;
-mod kept_cells;
-mod look_ups;
 mod places;
-mod racing;
-mod rows;
 mod view_memory;
 
 pub use clocks::Clock;

@@ -1,12 +1,14 @@
 // The place of each cell that was touched.
-ghost use Rattle.std.specs.Prelude.{◌≡◌, ℕ, ◌+◌, ◌<◌, ◌≤◌, ◌==◌, ◌&&◌, if◌then◌else◌, length, slice_index, slice_index_or, slice_get, vec_len, vec_capacity, Some, [], OnErr, IfOk, OnOk, MatchOption};
+ghost use Rattle.std.specs.Prelude.{◌≡◌, ℕ, ◌+◌, ◌<◌, ◌≤◌, ◌==◌, ◌&&◌, if◌then◌else◌, length, slice_index, slice_index_or, vec_len, vec_capacity, [], OnOk, OnErr, MatchOption};
 ghost use Rattle.heap_cells.specs.declared.cells.CellId.{CellId};
 ghost use Rattle.heap_cells.specs.SameCell.{same_cell};
-ghost use Rattle.mem_views.specs.Placing.{number_at, place_in, Owned};
+ghost use Rattle.view_parts.specs.Placing.{Owned};
+ghost use Rattle.mem_views.specs.Placing.{number_at, place_in};
 
 use heap_cells::CellId;
 use std::alloc::{AllocError, Global};
 use std::marker::Model;
+use view_parts::CellPlaces;
 
 /// A number for each of some offsets, made as they are needed; 0 for the others.
 #[derive(Drop)]
@@ -119,14 +121,14 @@ fn set_number(objects: &mut Vec<Numbers>, object: usize, offset: usize, number: 
     objects[object].set(offset, number);
 }
 
-/// The places of the cells that were touched: 0 and so on, in the order in which they were touched.
+/// The places of the cells that were touched, in a table by object and offset.
 #[derive(Drop)]
 pub struct Places {
     /// Of each cell one more than its place, and 0 for one that was not touched.
     pub objects: Vec<Numbers>,
     /// The cell at each place.
     pub owners: Vec<CellId>,
-    ghost owned: { Owned objects.items owners.items },
+    ghost owned: { Owned (place_in objects.items) owners.items },
 }
 
 impl Places {
@@ -141,19 +143,8 @@ impl Places {
         }
     }
 
-    /// The place of a cell, if it was touched.
-    pub fn find(&self, cell: CellId) -> Option<usize>
-        ensures { MatchOption result (place_in self.now.objects.items cell ≡ 0) (λ place. place_in self.now.objects.items cell ≡ place + 1) }
-    {
-        let number = number_of(&self.objects, cell);
-        if number == 0 {
-            return None;
-        }
-        Some(number - 1)
-    }
-
     /// Makes room for the number of a cell.
-    pub fn make_room(&mut self, alloc: Global, cell: CellId) -> Result<(), AllocError>
+    fn make_room(&mut self, alloc: Global, cell: CellId) -> Result<(), AllocError>
         ensures same { (c : CellId) → place_in self.new.objects.items c ≡ place_in self.old.objects.items c }
         ensures owners { self.new.owners.items ≡ self.old.owners.items }
         ensures object { OnOk result (cell.object < length self.new.objects.items) }
@@ -170,7 +161,7 @@ impl Places {
     }
 
     /// Gives the next place to a cell that has none.
-    pub fn touch(&mut self, cell: CellId)
+    fn give_next(&mut self, cell: CellId)
         requires object { cell.object < length self.old.objects.items }
         requires offset { cell.at < length (slice_index_or self.old.objects.items cell.object []) }
         requires room { vec_len self.old.owners < vec_capacity self.old.owners }
@@ -186,4 +177,26 @@ impl Places {
             place + 1,
         );
     }
+}
+
+impl CellPlaces for Places {
+    ghost number = { λ places. place_in places.objects.items };
+
+    ghost owners = { λ places. places.owners.items };
+
+    fn find(&self, cell: CellId) -> Option<usize> {
+        let number = number_of(&self.objects, cell);
+        if number == 0 {
+            return None;
+        }
+        Some(number - 1)
+    }
+
+    fn touch(&mut self, alloc: Global, cell: CellId) -> Result<(), AllocError> {
+        self.make_room(alloc, cell)?;
+        self.give_next(cell);
+        Ok(())
+    }
+
+    ghost owned = { λ places. places.owned };
 }

@@ -17,22 +17,17 @@ ghost use Rattle.mem_axioms.specs.declared.types.Kind.TheVariants.{NewThread};
 ghost use Rattle.clock_laws.specs.Clocks.{views, knew, knows, pends};
 ghost use Rattle.clock_laws.specs.ViewFloor.{view_limit};
 ghost use Rattle.clocks.specs.Knowing.{known_by};
-ghost use Rattle.mem_views.specs.Holding.{values_of, LogHolds, MadeHolds, RowsHold, CellHolds, ClocksHold, CellsHold, IsUntouched};
+ghost use Rattle.mem_views.specs.Holding.{LogHolds, MadeHolds};
+ghost use Rattle.mem_views.specs.Placing.{place_in};
+ghost use Rattle.view_parts.specs.Holding.{values_of, RowsHold, CellHolds, ClocksHold, CellsHold, IsUntouched};
 ghost use Rattle.write_history.specs.Occurrences.{occurrences};
-ghost use Rattle.mem_views.specs.RowsAdded.{RowsRoom};
-ghost use Rattle.mem_views.specs.Roominess.{CellFits};
-ghost use Rattle.mem_views.specs.Answers.{IsKnown};
+ghost use Rattle.view_parts.specs.RowsAdded.{RowsRoom};
+ghost use Rattle.view_parts.specs.Roominess.{CellFits};
+ghost use Rattle.view_parts.specs.Answers.{IsKnown};
 ghost use Rattle.mem_views.specs.Bounds.{search_bound, failure_options};
 ghost use Rattle.mem_views.specs.Differing.{differs_from, floor_bound, count_bound, looks_bound};
 
-use crate::cell::{CellViews, NextEvent};
-use crate::floors::{fences_before, found_floor, greatest_of_kinds, last_fence};
-use crate::gains::{gain, given_by, taken_from};
-use crate::kept_cells;
-use crate::look_ups::greater;
 use crate::places::Places;
-use crate::racing::first_racing;
-use crate::rows::Rows;
 use clocks::{Clock, ClockList};
 use heap_cells::CellId;
 use mem_axioms::event_facts::{cell_of, is_same_scalar, seq_cst};
@@ -41,6 +36,11 @@ use mu_base::{Order, Steps};
 use mu_values::{Scalar, Slots, Value};
 use std::alloc::{AllocError, Global};
 use std::sync::ledger::Ledger;
+use view_parts::floors::{fences_before, found_floor, greatest_of_kinds, last_fence};
+use view_parts::gains::{gain, given_by, taken_from};
+use view_parts::look_ups::greater;
+use view_parts::racing::first_racing;
+use view_parts::{CellPlaces, CellViews, NextEvent, Rows, kept_cells};
 use write_history::Tape;
 
 /// A memory that keeps clocks, the values of each touched cell, and its accesses by thread, in place of whole logs. What it
@@ -69,13 +69,13 @@ pub struct ViewMemory {
     ghost log_holds: { LogHolds rule objects.values tape.events },
     ghost made_holds: { MadeHolds made.items tape.events },
     ghost rows_hold: { RowsHold rule tape.events rows },
-    ghost cells_hold: { CellsHold rule tape.events clocks places.objects.items kept.items },
+    ghost cells_hold: { CellsHold rule tape.events clocks (place_in places.objects.items) kept.items },
     ghost tape_fits: { room.events ≤ tape.spare },
     ghost made_fits: { vec_len made + room.events ≤ vec_capacity made },
     ghost made_some: { 0 < room.events → 0 < length made.items },
     ghost rows_fit: { RowsRoom room.events rows },
     ghost clocks_fit: { room.events + room.events ≤ clocks.spare },
-    ghost cell_fits: { CellFits room places.objects.items kept.items },
+    ghost cell_fits: { CellFits room (place_in places.objects.items) kept.items },
 }
 
 /// Where a read may take so many positions or fewer, each is looked at for another value. More are searched.

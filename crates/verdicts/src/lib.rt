@@ -12,6 +12,6 @@ pub use judging::judge;
 pub use laws::{
     pair_is_of_the_read, reads_break_below_the_floor, values_do_not_matter, yes_is_exact,
 };
-pub use named_events::{Knows, older, pair};
+pub use named_events::{Knows, older, pair, passes_over};
 pub use past::{Pair, Past};
 pub use types::Verdict;

@@ -1,6 +1,6 @@
 // The events that a verdict names.
 ghost use Rattle.std.specs.Prelude.{true, MatchOption, ◌≡◌, ◌++◌, ◌<◌, ◌≤◌, ℕ, Bool, List, ◌∷◌, length, Some, None};
-ghost use Rattle.mem_axioms.specs.Events.{is_read};
+ghost use Rattle.mem_axioms.specs.Events.{is_read, is_seq_cst, order_of};
 ghost use Rattle.mem_axioms.specs.Logs.{event_at, least_event};
 ghost use Rattle.mem_axioms.specs.Axioms.{reads_older};
 ghost use Rattle.mem_axioms.specs.HappensBefore.{happens_before};
@@ -29,9 +29,11 @@ pub trait Knows {
         requires { event_at (log self.now) number ≡ Some earlier.now }
         ensures { result ≡ happens_before (rule self.now) (event self.now ∷ log self.now) number (length (log self.now)) };
 
-    /// Whether the earlier event is an access of a position above the one that the event reads, or a fence that such an access happens before.
+    /// Whether the earlier event, which is SEQ_CST, is an access of a position above the one that the event reads, or a fence that such an
+    /// access happens before.
     fn has_passed(&self, number: u32, earlier: &Event) -> bool
-        requires { event_at (log self.now) number ≡ Some earlier.now }
+        requires there { event_at (log self.now) number ≡ Some earlier.now }
+        requires seq_cst { is_seq_cst (order_of earlier.now) ≡ true }
         ensures { result ≡ passed_by (rule self.now) (log self.now) (event self.now) number earlier.now };
 
     /// Whether the event is SEQ_CST, or a SEQ_CST fence from that number on happens before it.
@@ -52,8 +54,8 @@ fn is_read(event: &Event) -> bool
     )
 }
 
-// Whether the event reads a position below that of the earlier one.
-fn passes_over(event: &Event, earlier: &Event) -> bool
+/// Whether the event reads a position below that of the earlier one.
+pub fn passes_over(event: &Event, earlier: &Event) -> bool
     ensures { result ≡ reads_older event.now earlier.now }
 {
     match earlier.kind {

@@ -4,7 +4,8 @@ use Rattle.mem_axioms.specs.HappensBefore.{happens_before}
 use Rattle.mem_axioms.specs.declared.types.Event.{Event}
 use Rattle.mem_axioms.specs.Lemmas.Numbers.{event-kept}
 use Rattle.verdicts.specs.Searches.{comes_from}
-use Rattle.verdicts.proofs.Searched.{event_there, found, none_more, here, nowhere, three_hold, first_of_three, second_of_three, third_fails, a_fails, a_holds, read_holds, read_fails}
+use Rattle.verdicts.specs.Newer.{event_there}
+use Rattle.verdicts.proofs.Searched.{found, none_more, here, nowhere, three_hold, first_of_three, second_of_three, third_fails, a_fails, a_holds, read_holds, read_fails}
 use Rattle.verdicts.proofs.named_events.first_a.Goals as goal
 use Rattle.verdicts.proofs.named_events.first_a.Goals.{else-seq_cst-via-then-seq_cst+then-fence+else-knows, else-seq_cst-via-then-seq_cst+else-fence, else-seq_cst-via-else-seq_cst}
 

@@ -1,13 +1,17 @@
-use Rattle.std.proofs.Common.{ap, ◌∙◌, arith}
+use Rattle.std.proofs.Common.{sym, ap, ◌∙◌, arith}
 use Rattle.mem_axioms.specs.Events.{is_seq_cst, order_of}
 use Rattle.mem_axioms.specs.PassedOver.{has_seq_cst_from}
 use Rattle.verdicts.specs.Searches.{passed_by}
-use Rattle.verdicts.proofs.Searched.{event_there, found, none_found, none_more, three_hold, first_of_three, second_of_three, third_fails}
+use Rattle.verdicts.specs.Newer.{event_there}
+use Rattle.verdicts.proofs.Searched.{found, none_found, none_more, three_hold, first_of_three, second_of_three, third_fails}
 use Rattle.verdicts.proofs.named_events.first_b.Goals as goal
 use Rattle.verdicts.proofs.named_events.first_b.Goals.{else-seq_cst-via-then-seq_cst+then-has_passed+else-has_from, else-seq_cst-via-then-seq_cst+else-has_passed, else-seq_cst-via-else-seq_cst}
 
-pub has_passed-requires : goal.has_passed-requires
-has_passed-requires g c = let l = c.loop-b-test.true in let n = c.requires.number in event_there _ _ _ _ c.requires.part (omega arith) c.event-earlier.ensures
+pub has_passed-requires-clause-there : goal.has_passed-requires-clause-there
+has_passed-requires-clause-there g c = let l = c.loop-b-test.true in let n = c.requires.number in event_there _ _ _ _ c.requires.part (omega arith) c.event-earlier.ensures
+
+pub has_passed-requires-clause-seq_cst : goal.has_passed-requires-clause-seq_cst
+has_passed-requires-clause-seq_cst g c = sym (c.seq_cst.ensures ∙ ap is_seq_cst c.order_in.ensures) ∙ c.if-seq_cst.true
 
 pub returns-then-has_from : goal.returns-then-has_from
 returns-then-has_from g c =

@@ -1,6 +1,7 @@
 use Rattle.std.proofs.Common.{ap, ◌∙◌, arith}
 use Rattle.mem_axioms.specs.Axioms.{reads_older}
-use Rattle.verdicts.proofs.Searched.{event_there, found, none_found, none_more, both_hold, first_fails, second_fails}
+use Rattle.verdicts.specs.Newer.{event_there}
+use Rattle.verdicts.proofs.Searched.{found, none_found, none_more, both_hold, first_fails, second_fails}
 use Rattle.verdicts.proofs.named_events.older.Goals as goal
 use Rattle.verdicts.proofs.named_events.older.Goals.{else-passes_over-via-then-passes_over+else-knows, else-passes_over-via-else-passes_over}
 

@@ -1,11 +1,12 @@
 use Rattle.std.proofs.Common.{◌≡◌, ◌+◌, ◌-◌, arith}
-use Rattle.mem_views.proofs.Gained.{gives-are}
-use Rattle.mem_views.proofs.RowsKept.{rows-more, rows-below}
+use Rattle.view_parts.specs.Lemmas.Gained.{gives-are}
+use Rattle.view_parts.specs.Lemmas.RowsKept.{rows-more, rows-below}
 use Rattle.mem_views.proofs.ThreadsMade.{log-more, made-more, child-small}
-use Rattle.mem_views.proofs.CellsKept.{can-add}
-use Rattle.mem_views.proofs.ValuesKept.{next-position}
+use Rattle.view_parts.specs.Lemmas.CellsKept.{can-add}
+use Rattle.mem_views.proofs.Fitting.{next-position}
 use Rattle.mem_views.proofs.Reading.{newest-few}
 use Rattle.mem_views.proofs.Roomy.{room-at, fits-less, made-longer}
+use Rattle.mem_views.specs.Placing.{place_in}
 use Rattle.mem_views.proofs.view_memory.ViewMemory.add.Goals as goal
 
 pub add-requires-clause-child : goal.add-requires-clause-child
@@ -23,8 +24,8 @@ add_access-requires-clause-can c cell a =
     let memory = c.args.self.now in
     let few = newest-few memory.tape.events cell in
     let count = c.requires.count in
-    let room = room-at memory.room c.args.event cell memory.places.objects.items memory.kept.items memory.cell_fits c.requires.room (memory.log_holds.small c.args.event.thread c.requires.fits.thread) a in
-    rw memory.counted (can-add memory.rule memory.tape.events c.args.event memory.clocks memory.places.objects.items memory.places.owners.items memory.kept.items cell (memory.room.events - 1) memory.places.owned memory.placed memory.cells_hold (omega (arith, few, count)) (next-position memory.rule memory.objects.values memory.tape.events c.args.event cell c.requires.fits a) room)
+    let room = room-at memory.room c.args.event cell (place_in memory.places.objects.items) memory.kept.items memory.cell_fits c.requires.room (memory.log_holds.small c.args.event.thread c.requires.fits.thread) a in
+    rw memory.counted (can-add memory.rule memory.tape.events c.args.event memory.clocks (place_in memory.places.objects.items) memory.places.owners.items memory.kept.items cell (memory.room.events - 1) memory.places.owned memory.placed memory.cells_hold (omega (arith, few, count)) (next-position memory.rule memory.objects.values memory.tape.events c.args.event cell c.requires.fits a) room)
 
 pub invariant_of-self-clause-log_holds : goal.invariant_of-self-clause-log_holds
 invariant_of-self-clause-log_holds c =
@@ -60,4 +61,4 @@ invariant_of-self-clause-rows_fit c =
 pub invariant_of-self-clause-cell_fits : goal.invariant_of-self-clause-cell_fits
 invariant_of-self-clause-cell_fits c =
     let memory = c.args.self.now in
-    fits-less memory.room c.args.event memory.places.objects.items memory.kept.items c.add_access.new.kept.items memory.cell_fits c.requires.room c.add_access.ensures.same c.add_access.ensures.room
+    fits-less memory.room c.args.event (place_in memory.places.objects.items) memory.kept.items c.add_access.new.kept.items memory.cell_fits c.requires.room c.add_access.ensures.same c.add_access.ensures.room

@@ -1,6 +1,6 @@
 use Rattle.std.proofs.Common.{arith}
 use Rattle.mem_axioms.specs.Objects.{initial_of}
-use Rattle.mem_views.proofs.FloorFound.{form-of}
+use Rattle.view_parts.specs.Lemmas.FloorFound.{form-of}
 use Rattle.mem_views.proofs.Counted.{counted-all}
 use Rattle.mem_views.proofs.view_memory.ViewMemory.count_differing.Goals as goal
 

@@ -1,5 +1,5 @@
 use Rattle.std.proofs.Common.{◌≡◌, suc, arith}
-use Rattle.mem_views.proofs.ValuesKept.{untouched-newest}
+use Rattle.view_parts.specs.Lemmas.ValuesKept.{untouched-newest}
 use Rattle.mem_views.proofs.Reading.{history-newest, newest-few}
 use Rattle.mem_views.proofs.view_memory.ViewMemory.count_later.Goals as goal
 

@@ -1,5 +1,5 @@
 use Rattle.std.proofs.Common.{◌∙◌, refl}
-use Rattle.mem_views.proofs.Gained.{gains-are}
+use Rattle.view_parts.specs.Lemmas.Gained.{gains-are}
 use Rattle.mem_views.proofs.view_memory.ViewMemory.known_before.Goals as goal
 
 pub returns : goal.returns

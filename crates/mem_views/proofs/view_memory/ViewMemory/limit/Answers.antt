@@ -1,8 +1,8 @@
 use Rattle.std.proofs.Common.{◌∙◌, sym}
-use Rattle.mem_views.specs.Holding.{fence_by}
-use Rattle.mem_views.proofs.RowsKept.{rows-few}
+use Rattle.view_parts.specs.Holding.{fence_by}
+use Rattle.view_parts.specs.Lemmas.RowsKept.{rows-few}
 use Rattle.mem_views.proofs.ThreadsMade.{made-small, entries-made}
-use Rattle.mem_views.proofs.FloorFound.{fence-parts, limit-found, limit-is}
+use Rattle.view_parts.specs.Lemmas.FloorFound.{fence-parts, limit-found, limit-is}
 use Rattle.mem_views.proofs.view_memory.ViewMemory.limit.Goals as goal
 
 pub last_fence-requires-clause-few : goal.last_fence-requires-clause-few

@@ -3,9 +3,9 @@ use Rattle.mem_axioms.specs.Logs.{newest}
 use Rattle.mem_axioms.specs.Objects.{initial_of}
 use Rattle.write_history.specs.Occurrences.{occurrences}
 use Rattle.mem_views.specs.Differing.{differs_from}
-use Rattle.mem_views.specs.Holding.{values_of}
-use Rattle.mem_views.proofs.FloorFound.{form-of}
-use Rattle.mem_views.proofs.ValuesKept.{untouched-newest}
+use Rattle.view_parts.specs.Holding.{values_of}
+use Rattle.view_parts.specs.Lemmas.FloorFound.{form-of}
+use Rattle.view_parts.specs.Lemmas.ValuesKept.{untouched-newest}
 use Rattle.mem_views.proofs.Reading.{history-newest, newest-few}
 use Rattle.mem_views.proofs.Counted.{below-few}
 use Rattle.mem_views.proofs.OthersFound.{nth-only, count-few, count-all, nth-later, nth-first}

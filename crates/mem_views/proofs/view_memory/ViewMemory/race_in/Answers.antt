@@ -1,10 +1,12 @@
 use Rattle.std.proofs.Common.{Some, None, length, arith}
+use Rattle.mem_axioms.specs.Form.{is_value_at}
 use Rattle.mem_axioms.specs.Objects.{initial_of}
 use Rattle.mem_axioms.specs.Races.{race}
 use Rattle.mem_views.proofs.Budget.{one-within}
-use Rattle.mem_views.proofs.CellKept.{cell-few}
+use Rattle.view_parts.specs.Lemmas.CellKept.{cell-few}
 use Rattle.mem_views.proofs.ThreadsMade.{made-small, made-few, cell-made}
-use Rattle.mem_views.proofs.RaceFound.{race-facts, race-found, one-lower, one-positive, none-lower}
+use Rattle.view_parts.specs.Lemmas.RaceFound.{race-found, one-lower, one-positive, none-lower}
+use Rattle.mem_views.proofs.Fitting.{race-facts}
 use Rattle.mem_views.proofs.view_memory.ViewMemory.race_in.Goals as goal
 
 pub first_racing-requires-clause-few : goal.first_racing-requires-clause-few
@@ -23,7 +25,7 @@ overflow_sub-result g c =
     let log = memory.tape.events in
     let objects = memory.objects.values in
     let facts = race-facts memory.rule objects log c.args.cell c.args.event.now c.args.kept.now c.args.known.now memory.log_holds c.requires.holds c.requires.fits c.requires.access c.requires.known in
-    one-positive (race memory.rule log c.args.event.now) c.in-Some.first (race-found memory.rule (initial_of objects) log c.args.cell c.args.event.now c.args.kept.now c.args.known.now facts (Some c.in-Some.first) c.in-Some.ensures.found)
+    one-positive (race memory.rule log c.args.event.now) c.in-Some.first (race-found memory.rule (is_value_at (initial_of objects)) log c.args.cell c.args.event.now c.args.kept.now c.args.known.now facts (Some c.in-Some.first) c.in-Some.ensures.found)
 
 pub returns-in-Some-clause-race : goal.returns-in-Some-clause-race
 returns-in-Some-clause-race g c =
@@ -31,7 +33,7 @@ returns-in-Some-clause-race g c =
     let log = memory.tape.events in
     let objects = memory.objects.values in
     let facts = race-facts memory.rule objects log c.args.cell c.args.event.now c.args.kept.now c.args.known.now memory.log_holds c.requires.holds c.requires.fits c.requires.access c.requires.known in
-    one-lower (race memory.rule log c.args.event.now) c.in-Some.first (race-found memory.rule (initial_of objects) log c.args.cell c.args.event.now c.args.kept.now c.args.known.now facts (Some c.in-Some.first) c.in-Some.ensures.found)
+    one-lower (race memory.rule log c.args.event.now) c.in-Some.first (race-found memory.rule (is_value_at (initial_of objects)) log c.args.cell c.args.event.now c.args.kept.now c.args.known.now facts (Some c.in-Some.first) c.in-Some.ensures.found)
 
 pub returns-in-None-clause-race : goal.returns-in-None-clause-race
 returns-in-None-clause-race g c =
@@ -39,7 +41,7 @@ returns-in-None-clause-race g c =
     let log = memory.tape.events in
     let objects = memory.objects.values in
     let facts = race-facts memory.rule objects log c.args.cell c.args.event.now c.args.kept.now c.args.known.now memory.log_holds c.requires.holds c.requires.fits c.requires.access c.requires.known in
-    none-lower (race memory.rule log c.args.event.now) (race-found memory.rule (initial_of objects) log c.args.cell c.args.event.now c.args.kept.now c.args.known.now facts None c.in-None.ensures.found)
+    none-lower (race memory.rule log c.args.event.now) (race-found memory.rule (is_value_at (initial_of objects)) log c.args.cell c.args.event.now c.args.kept.now c.args.known.now facts None c.in-None.ensures.found)
 
 pub returns-in-Some-clause-cost : goal.returns-in-Some-clause-cost
 returns-in-Some-clause-cost g c d l =

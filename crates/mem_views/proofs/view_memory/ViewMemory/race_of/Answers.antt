@@ -1,4 +1,4 @@
-use Rattle.mem_views.proofs.RaceFound.{other-no-race, untouched-no-race}
+use Rattle.view_parts.specs.Lemmas.RaceFound.{other-no-race, untouched-no-race}
 use Rattle.mem_views.proofs.view_memory.ViewMemory.race_of.Goals as goal
 
 pub returns-in_default-clause-race : goal.returns-in_default-clause-race

@@ -1,6 +1,6 @@
 use Rattle.std.proofs.Common.{sym}
 use Rattle.clock_laws.specs.Clocks.{views}
-use Rattle.mem_views.proofs.Gained.{none-taken, untaken-are}
+use Rattle.view_parts.specs.Lemmas.Gained.{none-taken, untaken-are}
 use Rattle.mem_views.proofs.view_memory.ViewMemory.taken.Goals as goal
 
 pub returns-in_err-cell : goal.returns-in_err-cell

@@ -1,0 +1,4 @@
+pub mod Keyed
+pub mod OnlyValues
+pub mod Listed
+pub mod Passed

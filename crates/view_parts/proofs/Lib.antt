@@ -1,0 +1,3 @@
+pub mod GoingOn
+pub mod Releasing
+pub mod Searching

@@ -1,0 +1,54 @@
+-- A clock that knows nothing finds nothing, so that without fences the accesses that a thread knows make the floor.
+use Rattle.std.proofs.Common.{◌≡◌, ℕ, ◌≤◌, Bool, true, false, cond, ◌&&◌, eqb, List, [], ◌∷◌, length, refl, ap, ◌∙◌, arith}
+use Rattle.std.specs.Prelude.{◌+◌, ◌*◌, unwrap_or, replicate}
+use Rattle.std.proofs.lemmas.Bool.{le-ltb}
+use Rattle.heap_cells.specs.declared.cells.CellId.{CellId}
+use Rattle.mem_axioms.specs.Events.{position_of}
+use Rattle.mem_axioms.specs.declared.types.Event.{Event}
+use Rattle.mem_axioms.specs.declared.types.Rule.{Rule}
+use Rattle.write_history.specs.Rooms.{Accesses}
+use Rattle.write_history.specs.declared.access_index.Entry.{Entry}
+use Rattle.write_history.specs.Indexes.{last_position}
+use Rattle.view_parts.specs.Families.{is_any, has_seq_cst_order}
+use Rattle.view_parts.specs.Indexed.{accesses_at, entries_by, by_thread}
+use Rattle.view_parts.specs.LookUps.{position_known}
+use Rattle.view_parts.specs.FloorLooks.{IsFound, FoundFloor}
+use Rattle.view_parts.specs.Holding.{CellHolds}
+use Rattle.view_parts.specs.declared.cell.CellViews.{CellViews}
+use Rattle.view_parts.specs.Lemmas.Entries.{last_below, entries-floor}
+use Rattle.clocks.specs.Zeros.{zeros-at}
+
+none-below : (position : ℕ → Event → ℕ) (test : Event → Bool) (log : List Event) → last_below position test 0 log ≡ 0
+none-below position test [] = refl
+none-below position test (e ∷ past) = rw (last_below, le-ltb (length past) 0 (omega arith)) (go (test e) (none-below position test past))
+  where
+    go : (b : Bool) → last_below position test 0 past ≡ 0 → cond (b && false) (position (length past) e) (last_below position test 0 past) ≡ 0
+    go true h = h
+    go false h = h
+
+none-found : (position : ℕ → Event → ℕ) (test : ℕ → Event → Bool) (log : List Event) (indexes : List Accesses) → ((u : ℕ) → accesses_at indexes u ≡ entries_by position (test u) log) → IsFound indexes (replicate 64 0) 0
+none-found position test log indexes h = record { above = λ u. (let z = none u in omega (arith, z)); least = λ p l. omega arith }
+  where
+    none : (u : ℕ) → position_known indexes (replicate 64 0) u ≡ 0
+    none u =
+        ap (λ (known : ℕ). unwrap_or (last_position known (accesses_at indexes u)) 0) (zeros-at 64 u)
+        ∙ (ap (λ (entries : List Entry). unwrap_or (last_position 0 entries) 0) (h u)
+        ∙ (entries-floor position (test u) 0 log ∙ none-below position (test u) log))
+
+pub known-found : (rule : Rule) (log : List Event) (cell : CellId) (kept : CellViews) (known : List ℕ) (found : ℕ) → CellHolds log cell kept → IsFound kept.all.items known found
+    → FoundFloor kept known (replicate 64 0) (replicate 64 0) found
+known-found rule log cell kept known found h f = record {
+  first = found;
+  second = 0;
+  third = 0;
+  of_first = f;
+  of_second = none-found (λ n e. position_of e) (λ u. by_thread has_seq_cst_order cell u) log kept.seq_cst.items h.seq_cst;
+  of_third = none-found (λ n e. position_of e) (λ u. by_thread is_any cell u) log kept.all.items h.all;
+  is = omega arith;
+}
+
+pub one-of-three : (a b x : ℕ) → b ≤ a + x → b ≤ a + 3 * x
+one-of-three a b x l = omega (arith, l)
+
+pub no-fence : (ordered : Bool) (limit joined before : ℕ) → ordered ≡ false → limit ≡ 0 → 0 ≡ cond ordered joined (cond (eqb limit 0) 0 before)
+no-fence ordered limit joined before o l = rw (o, l) refl

@@ -1,0 +1,78 @@
+// The floor of a load, by look-ups.
+ghost use Rattle.std.specs.Prelude.{◌≡◌, ℕ, ◌+◌, ◌*◌, ◌^◌, ◌<◌, ◌≤◌, ◌==◌, if◌then◌else◌, All, length, slice_index};
+ghost use Rattle.mem_axioms.specs.Events.{is_seq_cst};
+ghost use Rattle.clocks.specs.Tables.{table_at};
+ghost use Rattle.view_parts.specs.Looks.{IsMade, IsFew, AllMade, AllFew};
+ghost use Rattle.view_parts.specs.FloorLooks.{IsFound, FoundFloor};
+
+use crate::cell::CellViews;
+use crate::look_ups::{floor_over, greater};
+use crate::rows::Rows;
+use clocks::Clock;
+use mem_axioms::event_facts::seq_cst;
+use mu_base::{Order, Steps};
+use std::sync::ledger::Ledger;
+use write_history::AccessIndex;
+
+/// The greatest position that a clock knows, or 0.
+pub fn found_floor<L: Ledger>(
+    indexes: &[AccessIndex],
+    threads: &[u32],
+    clock: &Clock,
+    steps: &mut Steps<L>,
+) -> u32
+    requires few { All (λ t. t < 64) threads.now }
+    requires made { IsMade threads.now indexes.now }
+    ensures found { IsFound indexes.now clock.now result }
+    ensures cost { (d : ℕ) → IsFew d indexes.now → steps.new ≤ steps.old + length threads.now * (d + 1) }
+{
+    floor_over(indexes, threads, clock, steps)
+}
+
+/// The number of the last SEQ_CST fence that a clock knows, or 0.
+pub fn last_fence<L: Ledger>(
+    rows: &Rows,
+    threads: &[u32],
+    clock: &Clock,
+    steps: &mut Steps<L>,
+) -> u32
+    requires few { All (λ t. t < 64) threads.now }
+    requires made { IsMade threads.now rows.now.fences.items }
+    ensures found { IsFound rows.now.fences.items clock.now result }
+    ensures cost { (d : ℕ) → IsFew d rows.now.fences.items → steps.new ≤ steps.old + length threads.now * (d + 1) }
+{
+    found_floor(&rows.fences, threads, clock, steps)
+}
+
+/// What the SEQ_CST fences before a number knew: all of them at a SEQ_CST load, else those before the fence of that number.
+pub fn fences_before(rows: &Rows, order: Order, limit: u32) -> Clock
+    ensures { (u : ℕ) → slice_index result u ≡ (if is_seq_cst order then slice_index rows.now.joined u else if limit == 0 then 0 else table_at rows.now.before limit u) }
+{
+    if seq_cst(order) {
+        return rows.joined;
+    }
+    if limit == 0 {
+        return Clock::new();
+    }
+    rows.before.of(limit).unwrap_or(Clock::new())
+}
+
+/// The greatest of the positions of three kinds, or 0.
+pub fn greatest_of_kinds<L: Ledger>(
+    kept: &CellViews,
+    threads: &[u32],
+    known: &Clock,
+    below: &Clock,
+    before: &Clock,
+    steps: &mut Steps<L>,
+) -> u32
+    requires few { All (λ t. t < 64) threads.now }
+    requires made { AllMade threads.now kept.now }
+    ensures found { FoundFloor kept.now known.now below.now before.now result }
+    ensures cost { (d : ℕ) → AllFew d kept.now → steps.new ≤ steps.old + 3 * (length threads.now * (d + 1)) }
+{
+    let first = found_floor(&kept.all, threads, known, steps);
+    let second = found_floor(&kept.seq_cst, threads, below, steps);
+    let third = found_floor(&kept.all, threads, before, steps);
+    greater(first, greater(second, third))
+}
