@@ -38,6 +38,10 @@ class Arrow:
         self.first, self.last, self.kind = first, last, kind
 
 
+# What a read could have done instead, by what its option is.
+HOW = {"read": "read ", "fails": "failed on ", "succeeds": "succeeded"}
+
+
 class Modification:
     """A value of a cell: its position, the row that wrote it (None for the initial value) and the value (None where not known)."""
 
@@ -52,8 +56,10 @@ class Picture:
 
     def __init__(self, session, command):
         self.session, self.command = session, command
-        self.relations, self.origins, self.file = session.relations, session.origins.of_row, session.words.file
+        self.relations, self.instructions, self.file = session.relations, session.instructions, session.words.file
         self.lines = session.log.lines
+        machine = session.machine
+        self.picks = {machine.step(pick.step).row: pick for pick in machine.picks if pick.is_read}
         self.threads = session.log.threads()
         self.stacks = {thread: [] for thread in self.threads}
         self.rows = self.make_rows()
@@ -80,7 +86,7 @@ class Picture:
         """The row of a line."""
         if type(line) is Event:
             label = self.event_label(line)
-            return Row(line.number, thread, stack, line.kind, label, self.source_text(line, self.origins[line.row]))
+            return Row(line.number, thread, stack, line.kind, label, self.source_text(line))
         text = named(line.text, self.session.cell_names)
         kind, label = "ending", text
         if type(line) is Record:
@@ -89,7 +95,7 @@ class Picture:
             label = " ".join([words[0], *words[2:]]) if line.kind in ("returned", "exited", "trap", "watchpoint") else text
         elif type(line) is Ending and line.race:
             kind = "race"
-        return Row(None, thread, stack, kind, label, self.source_text(line, self.origins[line.row]))
+        return Row(None, thread, stack, kind, label, self.source_text(line))
 
     def event_label(self, event):
         """The text of an event, without number and thread; after a read whether it took the initial value, or an old one."""
@@ -103,58 +109,48 @@ class Picture:
         said += ["old"] if self.relations.is_old(event.number) else []
         return f"{label} ({', '.join(said)})" if said else label
 
-    def source_text(self, line, found):
+    def source_text(self, line):
         """The source line of a row, in words."""
-        if len(found) == 1:
-            return found[0].shown
-        if found:
-            return "one of lines " + " ".join(str(number) for number in sorted({it.line for it in found}))
-        return "line not known" if type(line) is Event else ""
+        found = self.instructions[line.row]
+        if found is None:
+            return "line not known" if type(line) is Event else ""
+        return found.shown
 
     def details(self, number):
         """What is said of a row where somebody points at it."""
         source = self.rows[number].source
         said = [self.lines[number].text]
         if source:
-            said.append(f"{self.file} {source}" if self.origins[number] else source)
+            said.append(f"{self.file} {source}" if self.instructions[number] else source)
         return said + self.remarks(number)
 
     def remarks(self, number):
         """What a row took, and what it could have taken, where it is a read or an update."""
         line = self.lines[number]
-        return self.reading(line, self.origins[number]) if type(line) is Event else []
+        return self.reading(line) if type(line) is Event and line.number in self.relations.reads_from else []
 
-    def reading(self, event, found):
+    def reading(self, event):
         """What a read or an update took, and what it could have taken."""
-        relations = self.relations
-        if event.number not in relations.reads_from:
-            return []
-        writer = relations.reads_from[event.number]
+        writer = self.relations.reads_from[event.number]
         said = ["takes the initial value" if writer == INITIAL else f"takes the value of event {writer}"]
-        forms = {instruction.operation for instruction in found}
-        if event.kind == "update":
-            said.append("an update takes the newest value always")
-        elif forms == {"COMMINST"}:
-            said.append("a futex wait reads the newest value always")
-        else:
-            said += self.choices(event, forms)
-        return said
+        instruction = self.instructions[event.row]
+        operation = instruction.operation if instruction else None
+        if operation in ("COMMINST", "ATOMICRMW"):
+            return said + [f"{'a futex wait' if operation == 'COMMINST' else 'such an update'} takes the newest value always"]
+        if operation is None:
+            return said + ["what else it could have read is not known"]
+        return said + [self.choices(event)]
 
-    def choices(self, event, forms):
-        """The positions that a load could have taken in place of a read."""
-        positions = self.relations.options(event.number)
-        if len(positions) == 1:
-            return ["no other value could have been read"]
-        others = [position for position in positions if position != event.position]
-        if not others:
-            return ["no other value could have been read"]
-        words = [f"{self.value(event.cell, position)} (position {position})" for position in others[:MOST_CHOICES]]
-        more = f", and {len(others) - MOST_CHOICES} older ones" if len(others) > MOST_CHOICES else ""
-        begin = "could have read " if forms == {"LOAD"} else "a load could have read "
-        said = [begin + ", ".join(words) + more]
-        if "CMPXCHG" in forms:
-            said.append("a comparison that fails reads one that differs from the expected value, or with WEAK any of them")
-        return said
+    def choices(self, event):
+        """What a load or a comparison could have taken in place of an event."""
+        pick = self.picks.get(event.row)
+        if pick is None:
+            return "no other value could have been read"
+        others = [pick.options[index] for index in range(min(len(pick.options), MOST_CHOICES + 1)) if index != pick.taken][:MOST_CHOICES]
+        words = [HOW[what] + ("" if what == "succeeds" else f"{self.value(event.cell, position)} (position {position})")
+                 for what, position in others]
+        left = len(pick.options) - 1 - len(others)
+        return "could have " + ", ".join(words) + (f", and {left} older ones" if left else "")
 
     def value(self, cell, position):
         """The value at a position of a cell, for people."""

@@ -7,15 +7,13 @@ import sys
 import tempfile
 
 import log as logs
-import origins
+import machine
 import relations
+import setting
 import source
 
 WITH_VALUE = ("--entry", "--hail", "--client", "--schedule", "--release-sequences", "--steps", "--cells")
 DEFAULT_STEPS = 200000
-MOST_STEPS = 1000000
-# A run of more lines is not made again to find an instruction.
-MOST_LINES_TO_COPY = 500
 WRONG_WORDS = 1
 
 
@@ -104,11 +102,11 @@ def read_file(name):
 
 
 class Session:
-    """A run, made. The source, the relations and the origins of lines are found when they are first asked for."""
+    """A run, made, or read where its output is given. What the tools find out about it is found when it is first asked for."""
 
-    def __init__(self, program, words):
+    def __init__(self, program, words, output=None):
         self.program, self.words = program, words
-        self.output, self.status = call(program, words.with_options())
+        self.output, self.status = call(program, words.with_options()) if output is None else (output, None)
         self.log = logs.read_log(self.output)
         self.found = {}
 
@@ -123,6 +121,11 @@ class Session:
         """Whether the run never began."""
         return logs.is_refusal(self.output)
 
+    def text_of(self, option):
+        """The text of the file that an option of the run names; empty without the option."""
+        name = self.words.options.get(option)
+        return read_file(name) if name else ""
+
     @property
     def source(self):
         """The bundle's source."""
@@ -134,45 +137,30 @@ class Session:
         return self.once("relations", lambda: relations.Relations(self.log, self.words.rule))
 
     @property
-    def origins(self):
-        """The instructions that made the lines."""
-        return self.once("origins", self.find_origins)
+    def machine(self):
+        """The run, gone through step by step."""
+        return self.once("machine", lambda: machine.Machine(setting.Setting(self)).follow())
 
-    def follow_origins(self):
-        """The instructions as far as the log and the source show them."""
-        return origins.Origins(self.log, self.source, self.words.entry, self.client_throws())
-
-    def find_origins(self):
-        """The instructions; where the log and the source leave several for a line of a short run, a copy with traps shows which."""
-        found = self.follow_origins()
-        open_rows = [event.row for event in self.log.events if len(found.of_row[event.row]) != 1]
-        if open_rows and len(self.log.lines) <= MOST_LINES_TO_COPY:
-            from picks import origins_by_copy
-            by_copy = origins_by_copy(self)
-            for row in open_rows:
-                if row in by_copy:
-                    found.of_row[row] = [by_copy[row]]
-        return found
+    @property
+    def instructions(self):
+        """Of each row of the output the instruction that made it, or None."""
+        return self.once("instructions", lambda: self.machine.instruction_of_rows())
 
     @property
     def cell_names(self):
         """The names of the cells of globals."""
         return self.once("cell_names", self.source.cell_names)
 
-    def client_throws(self):
-        """Whether the client script may throw."""
-        name = self.words.options.get("--client")
-        return name is not None and "throw" in read_file(name)
-
     def initial(self, cell):
-        """The value that a cell begins with, where it is known: from a read of it, or because nothing but zero and NULL can stand in it."""
-        found = self.relations.value_at(cell, 0)
-        return found if found is not None else self.zero(cell)
+        """The text of the value that a cell begins with: as a read or the HAIL script says, else 0 or NULL by the type of a global's cell.
 
-    def zero(self, cell):
-        """0 or NULL, as the type of a global's cell has it; None where a HAIL script may have filled it, and of other objects."""
+        None where only a program could tell: the cell is of an object that the run made.
+        """
+        found = self.relations.value_at(cell, 0)
+        if found is None:
+            found = self.machine.setting.initial(cell)
         types = self.once("cell_types", self.source.cell_types)
-        return self.source.zero(types[cell]) if cell in types and not self.words.is_filled else None
+        return self.source.zero(types[cell]) if found is None and cell in types else found
 
 
 CELL = re.compile(r"#\d+\+\d+")

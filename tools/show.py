@@ -163,13 +163,11 @@ class Table:
         return ", ".join(said)
 
     def source_text(self, line):
-        """The line of the source that made a line of the run, as far as it is known."""
-        found = self.session.origins.of_row[line.row]
-        if len(found) == 1:
-            return found[0].shown
-        if found:
-            return "one of lines " + " ".join(str(number) for number in sorted({it.line for it in found}))
-        return "line not known" if type(line) is Event else ""
+        """The line of the source that made a line of the run."""
+        found = self.session.instructions[line.row]
+        if found is None:
+            return "line not known" if type(line) is Event else ""
+        return found.shown
 
     def in_column(self, line):
         """The text of a line at its thread's column, padded to the width of all columns."""
@@ -222,6 +220,8 @@ def show(program, options, words):
         Table(session, paint, width).print_to(sys.stdout)
         print()
         print(paint(LEGEND, "dim"))
+        if session.machine.lost:
+            print(f"Which lines of the source made the rest is not known: {session.machine.lost}.")
         return session.status
 
 

@@ -17,16 +17,16 @@ MOST_NAMES = 4096
 class Instruction:
     """One instruction. `words` are its tokens from the operation on; `start` is the offset of its first token, `line` that line.
 
-    `shown` is the line and the text, for people.
+    `shown` is the line and the text, for people; `read` is the instruction as `bundle.py` has it.
     """
 
-    __slots__ = ("place", "block", "index", "results", "operation", "words", "start", "line", "shown")
+    __slots__ = ("read", "place", "block", "index", "results", "operation", "words", "start", "line", "shown")
 
-    def __init__(self, block, index, results, words, start, line, text):
-        self.block, self.index, self.results, self.words = block, index, results, words
+    def __init__(self, block, read, words, line, text):
+        self.read, self.block, self.index, self.results, self.words = read, block, read.index, texts(read.results), words
         self.operation = words[0]
-        self.place = (block.name, index)
-        self.start, self.line = start, line
+        self.place = (block.name, read.index)
+        self.start, self.line = read.start.start, line
         self.shown = f"{line}: {written(text)}"
 
     @property
@@ -60,10 +60,10 @@ class Instruction:
 class Block:
     """One block. `name` is its full name, and `variables` are those that it begins with: its parameters and its handler."""
 
-    __slots__ = ("function", "label", "name", "variables", "instructions")
+    __slots__ = ("read", "function", "label", "name", "variables", "instructions")
 
     def __init__(self, function, read):
-        self.function, self.label, self.name = function, read.name.text, read.full_name
+        self.read, self.function, self.label, self.name = read, function, read.name.text, read.full_name
         self.variables = [name.text for _, name in read.parameters] + ([read.handler.text] if read.handler else [])
         self.instructions = []
 
@@ -124,7 +124,7 @@ class Source:
         text = " ".join(part for part in self.text[read.start.start:read.end].split() if part)
         if "//" in text:
             text = " ".join(self.words[begin:last])
-        instruction = Instruction(block, read.index, texts(read.results), self.words[first:last], read.start.start, line, text)
+        instruction = Instruction(block, read, self.words[first:last], line, text)
         self.instructions.append(instruction)
         self.at_place.setdefault(instruction.place, []).append(instruction)
         return instruction
