@@ -7,7 +7,7 @@ import faults
 import value_types
 from client_misuse import explain_misuse, explain_types
 from client_script import ClientReader
-from session import Session, Words
+from session import Session
 from text_reader import Source
 
 # How many bytes of an instruction are shown.
@@ -21,7 +21,7 @@ class Ended:
 
     def __init__(self, program, call, printed, last):
         self.program, self.call, self.printed, self.last = program, call, printed, last
-        self.session = Session(program, Words(call.words(), "--explain"), printed)
+        self.session = Session(program, call, printed)
         self.bundle = self.session.source.bundle
         self.machine = self.session.machine
 

@@ -30,7 +30,7 @@ EQUALITIES = "EQ NE".split()
 INEQUALITIES = "SLT SLE SGT SGE ULT ULE UGT UGE".split()
 UPDATES = "XCHG ADD SUB AND NAND OR XOR MAX MIN UMAX UMIN".split()
 CLAUSES = "VERSION EXC WPEXC KEEPALIVE RET_WITH PASS_VALUES THROW_EXC KILL_OLD THREADLOCAL WEAK NULL".split()
-CLIENT_WORDS = "frames kept watch unwatch pass throw rebind exit stop".split()
+CLIENT_WORDS = "frames kept watch unwatch pop push pass throw rebind exit stop".split()
 HAIL_DIRECTIVES = ".new .newhybrid .init".split()
 
 LEFT_OUT_DIRECTIVES = [".expose"]

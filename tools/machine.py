@@ -396,24 +396,30 @@ class Machine:
         if self.record(thread, kind).place != node.instruction.place:
             self.row -= 1
             self.lose(f"t{thread.number} traps at another instruction")
-        entry = self.setting.entry_of_client(self.traps)
-        self.traps += 1
         while type(self.lines[self.row]) is Record and self.lines[self.row].kind in ("frame", "kept"):
             self.row += 1
-        if type(self.lines[self.row]) is Ending and not (entry and entry.reply.text == "exit"):
+        if type(self.lines[self.row]) is Ending:
             raise Ended
-        for action in entry.actions if entry else ():
-            if action.token.text in ("watch", "unwatch"):
-                (self.watched.add if action.token.text == "watch" else self.watched.discard)(action.number)
-        if entry and entry.reply.text == "exit":
+        if self.setting.is_auto:
+            self.enter(thread, [self.code.zero(token.text) for token in node.read.types], None)
+        elif self.traps < len(self.setting.entries):
+            self.traps += 1
+            self.reply(thread, self.setting.entries[self.traps - 1])
+        else:
+            self.lose("the client stops the run")
+
+    def reply(self, thread, entry):
+        """What an entry of the client does, where the run goes on."""
+        for action in entry.actions:
+            if action.token.text == "watch":
+                self.watched.add(action.number)
+            elif action.token.text == "unwatch":
+                self.watched.discard(action.number)
+        given = [self.argument(thread, argument) for argument in entry.arguments]
+        if entry.reply.text == "exit":
             self.record(thread, "exited")
             self.set_state(thread, "ended")
-            return
-        if entry is None and not self.setting.is_auto:
-            self.lose("the client stops the run")
-        given = [self.code.zero(token.text) for token in node.read.types] if entry is None else [
-            self.argument(thread, argument) for argument in entry.arguments]
-        if entry and entry.throws:
+        elif entry.throws:
             self.enter(thread, None, given[0])
         else:
             self.enter(thread, given, None)

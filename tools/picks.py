@@ -4,8 +4,9 @@ The program prints no picks. `machine.py` goes through the run by what it printe
 """
 import sys
 
+from failure import Failure
 from seeds import seeded
-from session import Failure, Session, guarded, named
+from session import Session, named
 
 MOST_SHOWN = 8
 
@@ -69,11 +70,10 @@ def print_picks(session):
           f"{' so far' if machine.lost else ''}, {left} {'is' if left == 1 else 'are'} left.")
 
 
-@guarded
 def picks(program, options, words):
     """Shows the picks of the run that the words ask for; returns the program's status."""
-    with seeded(program, options, words, "--picks") as seeded_words:
-        session = Session(program, seeded_words)
+    with seeded(program, options, words, "--picks") as call:
+        session = Session(program, call)
         if session.refused:
             sys.stdout.write(session.output)
             return session.status

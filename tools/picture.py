@@ -10,9 +10,10 @@ import drawing
 import graph
 import page
 from log import ACCESSES, Ending, Event, Record
+from failure import Failure
 from relations import INITIAL
 from seeds import seeded
-from session import Failure, Session, guarded, named
+from session import Session, named
 
 # Of the positions that a load could have taken so many are named.
 MOST_CHOICES = 12
@@ -56,8 +57,8 @@ class Picture:
 
     def __init__(self, session, command):
         self.session, self.command = session, command
-        self.relations, self.instructions, self.file = session.relations, session.instructions, session.words.file
-        self.lines = session.log.lines
+        self.relations, self.instructions, self.file = session.relations, session.instructions, session.call.bundle
+        self.lines, self.names = session.log.lines, session.cell_names
         machine = session.machine
         self.picks = {machine.step(pick.step).row: pick for pick in machine.picks if pick.is_read}
         self.threads = session.log.threads()
@@ -87,7 +88,7 @@ class Picture:
         if type(line) is Event:
             label = self.event_label(line)
             return Row(line.number, thread, stack, line.kind, label, self.source_text(line))
-        text = named(line.text, self.session.cell_names)
+        text = named(line.text, self.names)
         kind, label = "ending", text
         if type(line) is Record:
             kind = "record"
@@ -99,7 +100,7 @@ class Picture:
 
     def event_label(self, event):
         """The text of an event, without number and thread; after a read whether it took the initial value, or an old one."""
-        names = self.session.cell_names
+        names = self.names
         if event.kind not in ACCESSES:
             return named(event.text, names).split(" ", 2)[2]
         label = f"{event.kind} {event.order} {names.get(event.cell, event.cell)} {event.position} {named(event.value, names)}"
@@ -185,22 +186,21 @@ class Picture:
             order = [Modification(0, None, self.session.initial(text))]
             for position, number in list(enumerate(cell.modifications))[1:]:
                 order.append(Modification(position, events[number].row, events[number].value))
-            cells.append((self.session.cell_names.get(text, text), order))
+            cells.append((self.names.get(text, text), order))
         return cells
 
 
 WRITERS = {".html": page.page, ".svg": drawing.svg, ".dot": graph.dot}
 
 
-@guarded
 def picture(program, options, words):
     """Writes the picture of the run that the words ask for; returns the program's status."""
     name = options[options.index("--picture") + 1] if len(options) > 1 else ""
     writer = WRITERS.get(os.path.splitext(name)[1])
     if writer is None:
         raise Failure(f"--picture writes a file that ends with .html, .svg or .dot, and not {name}")
-    with seeded(program, options, words, "--picture") as seeded_words:
-        session = Session(program, seeded_words)
+    with seeded(program, options, words, "--picture") as call:
+        session = Session(program, call)
         if session.refused:
             sys.stdout.write(session.output)
             return session.status

@@ -9,7 +9,7 @@ import bisect
 from acts import made_ready
 from acts_in_log import OPTIONS
 from nodes import printed
-from session import Failure, Folder, Session, Words
+from session import Folder, Session
 
 
 class Standing:
@@ -29,21 +29,21 @@ class Standing:
 class Replay:
     """The run, and how many of its steps are shown: `at`."""
 
-    def __init__(self, program, words):
-        self.program, self.words, self.folder = program, words, Folder()
+    def __init__(self, program, call):
+        self.program, self.call, self.folder = program, call, Folder()
         self.given, self.chosen, self.at = None, {}, 0
         self.make_run()
 
     def make_run(self):
         """Makes the run by the given schedule and the choices, which replace some of its numbers."""
-        words = self.words
+        call = self.call
         if self.chosen:
             numbers = self.given + [0] * (max(self.chosen) + 1 - len(self.given))
             for place, number in self.chosen.items():
                 numbers[place] = number
             path = self.folder.write("schedule", "\n".join(map(str, numbers)) + "\n")
-            words = Words(self.words.with_options(schedule=path), "--step")
-        self.session = Session(self.program, words)
+            call = call.with_options(schedule=path)
+        self.session = Session(self.program, call)
         if self.session.refused:
             return
         self.machine = self.session.machine
@@ -116,8 +116,6 @@ class Replay:
 
     def step(self, thread=None, option=None):
         """Goes on by a step of a thread, its read taking an option; what is not given is as the schedule picks it."""
-        if self.is_over and self.machine.lost:
-            raise Failure(f"the run cannot be shown further: {self.machine.lost}")
         place = self.picks_before(self.at)
         runnable = self.runnable()
         if len(runnable) > 1:
@@ -129,6 +127,14 @@ class Replay:
             if pick and pick.step == self.at and pick.is_read and pick.taken != option:
                 self.choose(place, option)
         self.at += 1
+
+    def run_to(self, line):
+        """Goes on until the next step is on a line of the source, or to the end; at least one step, where one is left."""
+        made = self.machine.made
+        while self.at < len(made):
+            self.at += 1
+            if self.at < len(made) and made[self.at][4] is None and made[self.at][1].instruction.line == line:
+                return
 
     def picks_before(self, at):
         """How many picks the first steps made, so also how many numbers of the schedule come before those of the next step."""

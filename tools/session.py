@@ -1,96 +1,15 @@
 """One run of the program for the tools: its words, its source, its output, and what the tools find out about it."""
-import gc
 import os
 import re
-import subprocess
-import sys
 import tempfile
 
+import command
 import log as logs
 import machine
 import relations
 import setting
 import source
-
-WITH_VALUE = ("--entry", "--hail", "--client", "--schedule", "--release-sequences", "--steps", "--cells")
-DEFAULT_STEPS = 200000
-WRONG_WORDS = 1
-
-
-class Failure(Exception):
-    """A tool cannot go on. `status` is what the tool's call ends with; the text is for people."""
-
-    def __init__(self, text, status=WRONG_WORDS):
-        super().__init__(text)
-        self.status = status
-
-
-class Words:
-    """The words of a run: `file`, and its options by their names. `--auto` has the value True."""
-
-    def __init__(self, words, tool):
-        if len(words) < 2 or words[0] != "run":
-            raise Failure(f"{tool} shows a run: put it before `run FILE --entry @NAME ..`")
-        self.file, self.options = words[1], {}
-        at = 2
-        while at < len(words):
-            name = words[at]
-            if name == "--auto":
-                self.options[name] = True
-                at += 1
-            elif name in WITH_VALUE and at + 1 < len(words):
-                self.options[name] = words[at + 1]
-                at += 2
-            else:
-                raise Failure(f"{tool} cannot read the word {name}; the program answers: usage")
-
-    def with_options(self, **changes):
-        """The words of the same run with other values; None takes an option away. Names are written with `_` for `-`."""
-        options = dict(self.options)
-        for name, value in changes.items():
-            options.pop(f"--{name.replace('_', '-')}", None)
-            if value is not None:
-                options[f"--{name.replace('_', '-')}"] = value
-        return words_of(self.file, options)
-
-    @property
-    def entry(self):
-        """The function that the run begins with."""
-        return self.options.get("--entry")
-
-    @property
-    def is_filled(self):
-        """Whether a HAIL script may have filled cells."""
-        return "--hail" in self.options
-
-    @property
-    def rule(self):
-        """The rule for release sequences."""
-        return self.options.get("--release-sequences", "c11")
-
-    @property
-    def steps(self):
-        """How many steps the run may make."""
-        text = self.options.get("--steps", "")
-        return int(text) if text.isdigit() else DEFAULT_STEPS
-
-
-def words_of(file, options):
-    """The words of a run."""
-    words = ["run", file]
-    for name, value in options.items():
-        words += [name] if value is True else [name, str(value)]
-    return words
-
-
-def call(program, words):
-    """The output and the status of the program for some words."""
-    try:
-        done = subprocess.run([program, *words], stdin=subprocess.DEVNULL, capture_output=True, check=False)
-    except OSError as error:
-        raise Failure(f"{program}: {error.strerror}") from error
-    return done.stdout.decode("latin-1"), done.returncode
-
+from failure import Failure
 
 def read_file(name):
     """The text of a file, a character for each byte."""
@@ -104,9 +23,9 @@ def read_file(name):
 class Session:
     """A run, made, or read where its output is given. What the tools find out about it is found when it is first asked for."""
 
-    def __init__(self, program, words, output=None):
-        self.program, self.words = program, words
-        self.output, self.status = call(program, words.with_options()) if output is None else (output, None)
+    def __init__(self, program, call, output=None):
+        self.program, self.call = program, call
+        self.output, self.status = command.answer(program, call.words()) if output is None else (output, None)
         self.log = logs.read_log(self.output)
         self.found = {}
 
@@ -123,18 +42,18 @@ class Session:
 
     def text_of(self, option):
         """The text of the file that an option of the run names; empty without the option."""
-        name = self.words.options.get(option)
+        name = self.call.options.get(option)
         return read_file(name) if name else ""
 
     @property
     def source(self):
         """The bundle's source."""
-        return self.once("source", lambda: source.Source(read_file(self.words.file)))
+        return self.once("source", lambda: source.Source(read_file(self.call.bundle)))
 
     @property
     def relations(self):
         """What the memory model says of the log."""
-        return self.once("relations", lambda: relations.Relations(self.log, self.words.rule))
+        return self.once("relations", lambda: relations.Relations(self.log, self.call.rule))
 
     @property
     def machine(self):
@@ -185,22 +104,3 @@ class Folder:
         with open(path, "w", encoding="latin-1") as file:
             file.write(text)
         return path
-
-
-def guarded(tool):
-    """A tool that says its failures on standard error, and ends quietly where its output is closed."""
-    def run(program, options, words):
-        # A call is short, and what it makes lives to its end.
-        gc.disable()
-        try:
-            status = tool(program, options, words)
-            sys.stdout.flush()
-            return status
-        except Failure as failure:
-            print(f"mu: {failure}", file=sys.stderr)
-            return failure.status
-        except BrokenPipeError:
-            os.dup2(os.open(os.devnull, os.O_WRONLY), sys.stdout.fileno())
-            return 0
-    run.__doc__ = tool.__doc__
-    return run

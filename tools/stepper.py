@@ -6,10 +6,11 @@ option 0, as in a run.
 import re
 import sys
 
+from failure import Failure
 from paint import Paint
 from replay import Replay
 from seeds import seeded
-from session import guarded, named
+from session import named
 from source import written
 
 MOST_CELLS = 12
@@ -37,14 +38,22 @@ class Stepper:
         """Prints a line."""
         print(self.paint(text.rstrip(), *colours))
 
+    def can_go_on(self):
+        """Whether a step is left; says so where none is."""
+        replay = self.replay
+        if replay.is_over and replay.machine.lost:
+            raise Failure(f"the run cannot be shown further: {replay.machine.lost}")
+        if replay.is_over:
+            self.say(f"The run has ended: {replay.lines()[-1]}", "bold")
+        return not replay.is_over
+
     def step(self, thread=None, option=None):
         """Makes one step; what is not given is picked by the schedule. Returns whether it was made."""
-        replay, threads = self.replay, self.replay.threads()
-        if replay.is_over and not replay.machine.lost:
-            self.say(f"The run has ended: {replay.lines()[-1]}", "bold")
+        if not self.can_go_on():
             return False
+        replay, threads = self.replay, self.replay.threads()
         number = replay.next_thread() if thread is None else thread
-        if number is not None and number not in replay.runnable():
+        if number not in replay.runnable():
             self.say(f"Thread t{number} cannot make a step now.")
             return False
         count = len(replay.options(number, threads[number])) if option is not None else 0
@@ -112,18 +121,11 @@ class Stepper:
             self.say("  memory  " + "  ".join(said) + (f"  .. and {left} more cells" if left > 0 else ""), "dim")
 
     def run(self, line):
-        """Makes steps until the next instruction of the picked thread is on a line, or until the end."""
-        while self.step() and not self.is_at(line):
-            pass
+        """Makes steps until the next one is on a line of the source, or until the end."""
+        if self.can_go_on():
+            self.replay.run_to(line)
         if self.replay.at:
             self.show_step()
-
-    def is_at(self, line):
-        """Whether the next instruction of the picked thread is on a line, or nothing is left to do."""
-        if self.replay.is_over:
-            return True
-        step = self.replay.machine.step(self.replay.at)
-        return step.waited_at is None and step.node.instruction.line == line
 
     def back(self, count):
         """Takes steps back."""
@@ -207,11 +209,10 @@ def commands(paint):
         yield line.split()
 
 
-@guarded
 def step(program, options, words):
     """Steps through the run that the words ask for."""
-    with seeded(program, options, words, "--step") as seeded_words:
-        replay = Replay(program, seeded_words)
+    with seeded(program, options, words, "--step") as call:
+        replay = Replay(program, call)
         if replay.session.refused:
             sys.stdout.write(replay.session.output)
             return replay.session.status

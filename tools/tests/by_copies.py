@@ -8,7 +8,8 @@ import re
 
 import log as logs
 from nodes import printed
-from session import Folder, call
+from command import answer
+from session import Folder
 from tests.copy_with_traps import copy_of, kept_variables, original_index, zero_name
 
 GATE = "{ kept 0 pass () }"
@@ -31,10 +32,10 @@ class Copy:
         ending = session.log.ending
         over = sum(step[4] is not None for step in self.machine.made)
         steps = 2 * len(self.machine.made) - over if ending.kind == "budget" else MOST_STEPS
-        words = session.words.with_options(auto=None, client=folder.write("client", "\n".join(entries) + "\n"), steps=steps,
+        call = session.call.with_options(auto=None, client=folder.write("client", "\n".join(entries) + "\n"), steps=steps,
                                            schedule=folder.write("schedule", "\n".join(map(str, numbers)) + "\n"))
-        words[1] = folder.write("copy.mu", copy_of(session.source, zeros))
-        self.log = logs.read_log(call(session.program, words)[0])
+        words = call._replace(bundle=folder.write("copy.mu", copy_of(session.source, zeros))).words()
+        self.log = logs.read_log(answer(session.program, words)[0])
 
     def schedule(self):
         """The numbers that the copy takes."""

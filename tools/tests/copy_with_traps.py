@@ -5,7 +5,7 @@ the same thread, so it makes nothing happen before anything else; it takes no ce
 the copy, the trap and the instruction; the end of a wait is one. In a block of the copy instruction I has the index 2 I + 1, and its
 trap 2 I.
 """
-from session import Failure
+from failure import Failure
 from text_reader import number_value
 
 MOST_BYTES = 1 << 20

@@ -47,14 +47,14 @@ class Failures(list):
 
 
 class Pretended:
-    """A program that prints a text whatever it is asked, for logs that no quick run makes."""
+    """A program that prints a text whatever it is asked, so that its own time is nearly none."""
 
-    def __init__(self, text):
+    def __init__(self, text, status=0):
         self.room = tempfile.TemporaryDirectory(prefix="mu-tests-")
         folder = pathlib.Path(self.room.name)
         (folder / "output").write_text(text)
         self.program = folder / "program"
-        self.program.write_text(f"#!/bin/sh\nexec cat {shlex.quote(str(folder / 'output'))}\n")
+        self.program.write_text(f"#!/bin/sh\ncat {shlex.quote(str(folder / 'output'))}\nexit {status}\n")
         os.chmod(self.program, stat.S_IRWXU)
 
     def path(self, name):
@@ -90,4 +90,14 @@ def counting_log(turns):
             position = 2 * turn + thread + 1
             lines.append(f"{len(lines)} t{thread} update ACQ_REL #0+0 {position} {position}")
             lines.append(f"{len(lines)} t{thread} read RELAXED #0+0 {position} {position}")
-    return "\n".join([*lines, f"budget {6 * turns + 3}"]) + "\n"
+    return "\n".join([*lines, f"budget {counting_steps(turns)}"]) + "\n"
+
+
+def counting_steps(turns):
+    """How many steps that run makes."""
+    return 6 * turns + 3
+
+
+def counting_schedule(turns):
+    """A schedule of that run: after the CALL of thread 0 each thread updates and reads in each turn, and then both branch."""
+    return "0 " + "0 0 1 1 0 1 " * turns

@@ -6,16 +6,21 @@ import pathlib
 import random
 import tempfile
 
-from session import Session, Words
+from command import Call
+from session import Session
 from tests import random_programs
 from tests.by_copies import Copy
-from tests.helpers import EXAMPLES, TOP, Failures, run, runs, words_of
+from tests.helpers import EXAMPLES, TOP, Failures, runs, words_of
 
+# The statuses of runs that began.
+ENDED = (0, 5, 6, 7, 8, 9, 10)
 PROGRAMS, EXPLAINED = TOP / "tools/tests/programs", TOP / "tools/tests/explained"
 # Runs of more steps have no copy: the file of its client would be too long.
 MOST_STEPS_OF_A_COPY = 20000
-RANDOM_RUNS = 60
-PICKS_OF_A_RUN = 6
+# A case is left out where it makes more steps, or prints more.
+MOST_STEPS_OF_A_CASE, MOST_BYTES_OF_A_CASE = 50000, 500000
+RANDOM_RUNS = 40
+PICKS_OF_A_RUN = 5
 
 
 def compared_with_copy(session, name):
@@ -34,12 +39,18 @@ def folders(program):
     for folder in (EXAMPLES, PROGRAMS, EXPLAINED):
         for name in runs(folder):
             words = words_of(name, folder)
-            session = Session(program, Words(words, "test")) if "--entry" in words and pathlib.Path(words[1]).is_file() else None
+            session = Session(program, Call.of_words(words)) if "--entry" in words and pathlib.Path(words[1]).is_file() else None
             if session and not session.refused:
                 failures += compared_with_copy(session, name)
                 count += 1
     failures.check(count > 80, f"only {count} runs of folders were compared")
     return failures
+
+
+def is_long(words, printed):
+    """Whether a case is left out, by its budget and by what it prints."""
+    budget = int(words[words.index("--steps") + 1]) if "--steps" in words else 0
+    return len(printed) > MOST_BYTES_OF_A_CASE or budget > MOST_STEPS_OF_A_CASE or printed.endswith(b"budget 200000\n")
 
 
 def cases(program):
@@ -52,12 +63,12 @@ def cases(program):
     for name, line in module.cases_of(TOP / "cases"):
         case = json.loads(line)
         words = [word.decode("utf-8", "replace") for word in module.words_of(case, parts)]
-        if words[:1] != ["run"] or case["status"] not in (0, 5, 6, 7, 8, 9, 10) or {"beginnings", "full"} & {*case}:
+        if words[:1] != ["run"] or case["status"] not in ENDED or {"beginnings", "full"} & {*case} or is_long(words, module.text(case["stdout"], parts)):
             continue
         with tempfile.TemporaryDirectory() as room:
             for file, text in case["files"].items():
                 (pathlib.Path(room) / file).write_bytes(module.text(text, parts))
-            session = Session(program, Words([str(pathlib.Path(room) / word) if word in case["files"] else word for word in words], "test"))
+            session = Session(program, Call.of_words([str(pathlib.Path(room) / word) if word in case["files"] else word for word in words]))
             machine = session.machine
             failures.check(machine.lost is None, f"{name}: lost: {machine.lost}")
         count += 1
@@ -66,10 +77,9 @@ def cases(program):
 
 
 def changed_schedules(program, session, source):
-    """Some picks of a run, each with each of its options in place of the one that was taken.
+    """Some picks of a run, each with each of its options in place of the one that was taken: the program has to do what the option says.
 
-    The program has to make the same run by option 0 and by the number of options, and by another option that one: of a read its position,
-    of threads the next step.
+    The number of options stands for option 0, so that the program has to print the same for both.
     """
     failures, machine = Failures(), session.machine
     numbers = [pick.taken for pick in machine.picks]
@@ -79,23 +89,23 @@ def changed_schedules(program, session, source):
             with tempfile.NamedTemporaryFile("w") as file:
                 file.write(" ".join(map(str, numbers[:place] + [number])) + "\n")
                 file.flush()
-                words = Words(session.words.with_options(schedule=file.name), "test")
-                found.append(Session(program, words))
+                found.append(Session(program, session.call.with_options(schedule=file.name)))
                 failures.check(found[-1].machine.lost is None, f"lost: {found[-1].machine.lost}")
         failures.check(found[0].output == found[-1].output, f"pick {place} has not {len(pick.options)} options")
-        for number, other in enumerate(found[:-1]):
-            step = other.machine.step(pick.step)
-            if pick.is_read:
-                # What was read, by the program's own line; where the access raced it stands in the ending.
-                line = other.log.lines[step.row]
-                event = getattr(line, "race", None) or line
-                made = ("succeeds", event.position - 1) if event.kind == "update" else (pick.options.what, event.position)
-                failures.check(made == pick.options[number], f"option {number} of pick {place} is {made}, and not {pick.options[number]}")
-            else:
-                failures.check(step.thread == pick.options[number], f"option {number} of pick {place} is t{step.thread}")
-        outputs = {other.output for other in found[:-1]}
-        failures.check(not pick.is_read or len(outputs) == len(pick.options), f"two options of pick {place} are one")
+        made = [option_made(other, pick) for other in found[:-1]]
+        failures.check(made == [pick.options[number] for number in range(len(pick.options))], f"pick {place}: the program does {made}")
     return failures
+
+
+def option_made(session, pick):
+    """The option that a run took at a pick: of threads by its step, of a read by the program's own line."""
+    step = session.machine.step(pick.step)
+    if not pick.is_read:
+        return step.thread
+    line = session.log.lines[step.row]
+    # An access that raced stands in the ending.
+    event = getattr(line, "race", None) or line
+    return ("succeeds", event.position - 1) if event.kind == "update" else (pick.options.what, event.position)
 
 
 def random_runs(program):
@@ -107,7 +117,7 @@ def random_runs(program):
             bundle.write_text(random_programs.program(source))
             schedule.write_text(" ".join(map(str, random_programs.schedule(source))) + "\n")
             words = ["run", str(bundle), "--entry", "@main", "--schedule", str(schedule), "--release-sequences", ("c11", "rmw")[count % 2]]
-            session = Session(program, Words(words, "test"))
+            session = Session(program, Call.of_words(words))
             found = compared_with_copy(session, f"random program {count}") + changed_schedules(program, session, source)
             failures += [f"{text}\n{bundle.read_text()}\n{schedule.read_text()}" for text in found]
             reads += sum(pick.is_read for pick in session.machine.picks)

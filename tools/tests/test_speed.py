@@ -8,9 +8,11 @@ import subprocess
 import sys
 import time
 
-from tests.helpers import COUNTING, Failures, Pretended, counting_log, tool
+from tests.helpers import COUNTING, Failures, Pretended, counting_log, counting_schedule, counting_steps, tool
 
 MOST_SECONDS = 0.3
+# The status of a run that made as many steps as it may.
+BUDGET = 10
 CALLS = 5
 LOOP = 200000
 SECONDS_OF_LOOP = 0.04
@@ -45,15 +47,18 @@ def slowness():
 def main(_program):
     """The failures; the times are printed."""
     failures = Failures()
-    pretended = Pretended(counting_log(2500))
+    pretended = Pretended(counting_log(2500), BUDGET)
     bundle = pretended.path("bundle.mu")
     bundle.write_text(COUNTING)
+    schedule = pretended.path("schedule")
+    schedule.write_text(counting_schedule(2500))
+    run_words = ["run", bundle, "--entry", "@main", "--schedule", schedule, "--steps", counting_steps(2500)]
     start = best_time(lambda: subprocess.run([sys.executable, "-c", "pass"], check=True))
     print(f"  Python starts in {start:.2f} s")
-    for words in (["--results"], ["--show"], ["--picture", pretended.path("p.svg")], ["--picture", pretended.path("p.dot")],
+    for words in (["--explain"], ["--results"], ["--picks"], ["--step"], ["--show"], ["--picture", pretended.path("p.svg")], ["--picture", pretended.path("p.dot")],
                   ["--picture", pretended.path("p.html")]):
         slow = slowness()
-        seconds = best_time(lambda: tool(str(pretended.program), *words, "run", bundle, "--entry", "@main")) - start
+        seconds = best_time(lambda: tool(str(pretended.program), *words, *run_words, commands="run\nback 3\n")) - start
         slow = max(slow, slowness())
         name = " ".join([words[0], *(str(word).rsplit(".", 1)[1] for word in words[1:])])
         print(f"  {name}: {seconds:.2f} s for 10,003 events, on a processor that takes {slow:.1f} times as long as it should")
