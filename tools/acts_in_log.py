@@ -188,8 +188,9 @@ def swap(node):
 
 def new_thread(node):
     """NEWTHREAD: a thread more, on a stack that it enters."""
-    passed = entering(node)
-    own = node.operands()[1] if "THREADLOCAL" in node.instruction.words else (None, NULL)
+    passed, operands = entering(node), node.operands()
+    # The operands are the stack, the thread-local value where there is one, and an exception where no list is passed.
+    own = operands[1] if len(operands) > 1 + (node.list_of() is None) else (None, NULL)
 
     def act(machine, thread):
         frame = thread.frames[-1]

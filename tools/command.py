@@ -16,6 +16,7 @@ RUN_OPTIONS = {"--entry": "the name of a function, with its `@`", "--hail": "a f
 COMMANDS = {"check": "check FILE", "print": "print FILE", "trial": "trial N, with N from 1 to 1000", "run": "run FILE --entry @NAME"}
 MOST = {"--steps": 1_000_000, "--cells": 1_000_000}
 DEFAULT_STEPS, DEFAULT_CELLS = 200_000, 100_000
+# The files that a refusal may name besides the bundle, each with the option that names it.
 FILES = {"hail": "--hail", "client": "--client", "schedule": "--schedule"}
 
 
@@ -129,7 +130,7 @@ def near(word, words):
 
 
 def usage_fault(words):
-    """The number of the word at fault, which may be behind the last one, and what is said of it."""
+    """The number of the word at fault, which may be after the last one, and what is said of it."""
     if not words:
         return 0, ["expected: a command: " + "; ".join(COMMANDS.values())]
     if words[0] not in COMMANDS:

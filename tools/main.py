@@ -31,14 +31,14 @@ TOOLS = {
 }
 # Options that take the next word as their value.
 WITH_VALUE = {"--picture", "--seed"}
-# Each tool that shows a run takes this option too, so it names the tool only where it stands alone.
+# Each tool that shows a run takes this option too, so it names the tool only where no other option does.
 SEED = "--seed"
 # As a shell says that a signal ended a program.
 INTERRUPTED, NOBODY_READS = 130, 141
 
 
 def split(words):
-    """The options that `words` begin with, with their values, and the words behind them."""
+    """The options that `words` begin with, with their values, and the words after them."""
     at = 0
     while at < len(words) and words[at] in TOOLS:
         at += 2 if words[at] in WITH_VALUE else 1

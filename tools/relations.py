@@ -1,7 +1,7 @@
 """What the memory model says of a run's log: who reads from whom, what synchronizes, what happens before what, what a read may take.
 
-This is the text of docs/MEMORY.md in Python, by clocks. It is not proved, and the program does not use it; `scripts/check_tools` compares
-it with the rules as relations, on random logs, and with what the program offers its reads.
+This is the text of docs/MEMORY.md in Python, by clocks. It is not proved, and the program does not use it; `scripts/check_runs` compares it
+with the rules as relations, on random logs, and with what the program offers its reads.
 
 A *clock* is a tuple with a number for each thread: an event is known to it where the event's number is below that of its thread.
 """
@@ -70,11 +70,6 @@ class Relations:
         """Whether a read took another position than the newest."""
         event = self.events[number]
         return event.kind == "read" and event.position < self.newest(event.cell, number)
-
-    def options(self, number):
-        """The positions that a load in place of read `number` could have taken, the newest first."""
-        event = self.events[number]
-        return self.options_at(event.thread, event.order, event.cell, number)
 
     def options_at(self, thread, order, cell_text, number):
         """The positions that a load could have taken if it had been the event with a number, the newest first."""

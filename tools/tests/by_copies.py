@@ -24,7 +24,7 @@ class Copy:
         self.session, self.machine = session, session.machine
         asking = [it for it in session.source.instructions if it.operation in ("TRAP", "WATCHPOINT")]
         self.is_auto = self.machine.setting.is_auto
-        zeros = {name for it in asking for name in it.list_at(1)} if self.is_auto else ()
+        zeros = {token.text for it in asking for token in it.read.types} if self.is_auto else ()
         folder = Folder()
         script = session.text_of("--client")
         self.own_entries = re.findall(r"\{[^}]*\}", re.sub(r"//[^\n]*", "", script))
@@ -57,7 +57,7 @@ class Copy:
             lines = self.session.log.lines[row:end]
             if any(type(line) is logs.Record and line.kind in ("trap", "watchpoint") for line in lines):
                 if self.is_auto:
-                    entries.append("{ pass (" + " ".join(map(zero_name, node.instruction.list_at(1))) + ") }")
+                    entries.append("{ pass (" + " ".join(zero_name(token.text) for token in node.read.types) + ") }")
                 else:
                     entries.append(self.own_entries[own] if own < len(self.own_entries) else "{ stop }")
                 own += 1

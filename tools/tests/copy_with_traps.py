@@ -19,14 +19,6 @@ def original_index(index):
     return index // 2, index % 2 == 0
 
 
-def instruction_at(source, place):
-    """The instruction of the bundle at a place of the copy."""
-    found = source.only_at((place[0], original_index(place[1])[0]))
-    if found is None:
-        raise Failure(f"more than one block is called {place[0]}, so the run cannot be followed by its places")
-    return found
-
-
 def kept_variables(instruction):
     """The variables that the trap before an instruction keeps."""
     return instruction.block.variables_at(instruction.index)[:MOST_KEPT]

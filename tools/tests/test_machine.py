@@ -63,14 +63,15 @@ def cases(program):
     for name, line in module.cases_of(TOP / "cases"):
         case = json.loads(line)
         words = [word.decode("utf-8", "replace") for word in module.words_of(case, parts)]
-        if words[:1] != ["run"] or case["status"] not in ENDED or {"beginnings", "full"} & {*case} or is_long(words, module.text(case["stdout"], parts)):
+        is_run = words[:1] == ["run"] and case["status"] in ENDED and not {"beginnings", "full"} & {*case}
+        if not is_run or is_long(words, module.text(case["stdout"], parts)):
             continue
         with tempfile.TemporaryDirectory() as room:
             for file, text in case["files"].items():
                 (pathlib.Path(room) / file).write_bytes(module.text(text, parts))
-            session = Session(program, Call.of_words([str(pathlib.Path(room) / word) if word in case["files"] else word for word in words]))
-            machine = session.machine
-            failures.check(machine.lost is None, f"{name}: lost: {machine.lost}")
+            call = Call.of_words([str(pathlib.Path(room) / word) if word in case["files"] else word for word in words])
+            lost = Session(program, call).machine.lost
+            failures.check(lost is None, f"{name}: lost: {lost}")
         count += 1
     failures.check(count > 300, f"only {count} cases were gone through")
     return failures

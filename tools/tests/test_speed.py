@@ -58,7 +58,8 @@ def main(_program):
     for words in (["--explain"], ["--results"], ["--picks"], ["--step"], ["--show"], ["--picture", pretended.path("p.svg")], ["--picture", pretended.path("p.dot")],
                   ["--picture", pretended.path("p.html")]):
         slow = slowness()
-        seconds = best_time(lambda: tool(str(pretended.program), *words, *run_words, commands="run\nback 3\n")) - start
+        call = lambda: tool(str(pretended.program), *words, *run_words, commands="run\nback 3\n")
+        seconds = best_time(call) - start
         slow = max(slow, slowness())
         name = " ".join([words[0], *(str(word).rsplit(".", 1)[1] for word in words[1:])])
         print(f"  {name}: {seconds:.2f} s for 10,003 events, on a processor that takes {slow:.1f} times as long as it should")
