@@ -39,7 +39,8 @@ class Arrow:
         self.first, self.last, self.kind = first, last, kind
 
 
-# What a read could have done instead, by what its option is.
+# What is said of an instruction that has no choice, by its word; what a read could have done instead, by what its option is.
+ALWAYS_NEWEST = {"COMMINST": "a futex wait reads the newest value always", "ATOMICRMW": "an ATOMICRMW takes the newest value always"}
 HOW = {"read": "read ", "fails": "failed on ", "succeeds": "succeeded"}
 
 
@@ -136,17 +137,15 @@ class Picture:
         said = ["takes the initial value" if writer == INITIAL else f"takes the value of event {writer}"]
         instruction = self.instructions[event.row]
         operation = instruction.operation if instruction else None
-        if operation in ("COMMINST", "ATOMICRMW"):
-            return said + [f"{'a futex wait' if operation == 'COMMINST' else 'such an update'} takes the newest value always"]
         if operation is None:
             return said + ["what else it could have read is not known"]
-        return said + [self.choices(event)]
+        return said + [ALWAYS_NEWEST.get(operation) or self.choices(event, operation)]
 
-    def choices(self, event):
-        """What a load or a comparison could have taken in place of an event."""
+    def choices(self, event, operation):
+        """What a load or a comparison could have done in place of an event."""
         pick = self.picks.get(event.row)
         if pick is None:
-            return "no other value could have been read"
+            return "no other value could have been read" if operation == "LOAD" else "the comparison could do nothing else"
         others = [pick.options[index] for index in range(min(len(pick.options), MOST_CHOICES + 1)) if index != pick.taken][:MOST_CHOICES]
         words = [HOW[what] + ("" if what == "succeeds" else f"{self.value(event.cell, position)} (position {position})")
                  for what, position in others]
@@ -155,7 +154,7 @@ class Picture:
 
     def value(self, cell, position):
         """The value at a position of a cell, for people."""
-        found = self.session.relations.value_at(cell, position) if position else self.session.initial(cell)
+        found = self.relations.value_at(cell, position) if position else self.session.initial(cell)
         return "the initial value" if found is None else found
 
     def make_arrows(self):

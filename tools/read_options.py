@@ -31,6 +31,8 @@ class ReadOptions:
         """An option by its number."""
         if self.succeeds and index == 0:
             return "succeeds", self.newest
+        if self.low == self.high:
+            return self.what, self.newest + self.succeeds - index
         low, high = 0, self.newest
         # The lowest position that has at most `index` options before it is the option itself.
         while low < high:

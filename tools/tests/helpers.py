@@ -101,3 +101,41 @@ def counting_steps(turns):
 def counting_schedule(turns):
     """A schedule of that run: after the CALL of thread 0 each thread updates and reads in each turn, and then both branch."""
     return "0 " + "0 0 1 1 0 1 " * turns
+
+
+OLD_READS = """.typedef @i64 = int<64>
+.funcsig @none = () -> ()
+.const @one <@i64> = 1
+.global @count <@i64>
+.funcdef @reads VERSION %v <@none> {
+%again():
+  %n = LOAD RELAXED <@i64> @count
+  (%m %is) = CMPXCHG RELAXED RELAXED <@i64> @count @one @one
+  FENCE SEQ_CST
+  BRANCH %again()
+}
+.funcdef @main VERSION %v <@none> {
+%e():
+  %s = COMMINST @uvm.new_stack <[@none]> (@reads)
+  %t = NEWTHREAD %s PASS_VALUES<> ()
+  BRANCH %again()
+%again():
+  STORE RELAXED <@i64> @count @one
+  BRANCH %again()
+}
+"""
+
+
+class OldReads:
+    """A run whose thread 1 reads the initial value again and again, by loads and by comparisons, after thread 0 wrote many times: its log,
+    its schedule and its steps. Each load has an option for each write, and one more."""
+
+    def __init__(self, writes, turns):
+        lines = ["0 t0 stack s1", "1 t0 thread t1", "2 t1 enter s1"]
+        lines += [f"{number + 2} t0 write RELAXED #0+0 {number} 1" for number in range(1, writes + 1)]
+        for _ in range(turns):
+            lines += [f"{len(lines)} t1 read RELAXED #0+0 0 0", f"{len(lines) + 1} t1 read RELAXED #0+0 0 0",
+                      f"{len(lines) + 2} t1 fence SEQ_CST"]
+        self.steps = 3 + 2 * writes + 4 * turns
+        self.log = "\n".join([*lines, f"budget {self.steps}"]) + "\n"
+        self.schedule = "0 " + "0 0 " * writes + f"1 {writes} 1 1 1 1 " * turns

@@ -6,7 +6,7 @@ import pathlib
 import random
 import tempfile
 
-from command import Call
+from command import FILES, Call
 from session import Session
 from tests import random_programs
 from tests.by_copies import Copy
@@ -69,7 +69,9 @@ def cases(program):
         with tempfile.TemporaryDirectory() as room:
             for file, text in case["files"].items():
                 (pathlib.Path(room) / file).write_bytes(module.text(text, parts))
-            call = Call.of_words([str(pathlib.Path(room) / word) if word in case["files"] else word for word in words])
+            call = Call.of_words(words)
+            files = {name: f"{room}/{path}" for name, path in call.options.items() if name in FILES.values()}
+            call = call._replace(bundle=f"{room}/{call.bundle}", options={**call.options, **files})
             lost = Session(program, call).machine.lost
             failures.check(lost is None, f"{name}: lost: {lost}")
         count += 1
