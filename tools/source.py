@@ -6,6 +6,7 @@ output names it. Names may hold dots, so two blocks may have one full name.
 import bisect
 
 from bundle import Bundle
+from caret import as_read
 from text_reader import number_value
 
 # The most leaves of an object that are given names of their own.
@@ -25,7 +26,7 @@ class Instruction:
         self.operation = read.operation.text
         self.place = (block.name, read.index)
         self.start, self.line = read.start.start, line
-        self.shown = f"{line}: {written(text)}"
+        self.shown = f"{line}: {as_read(text)}"
 
 
 class Block:
@@ -133,11 +134,6 @@ class Source:
     def zero(self, type_name):
         """What a cell of a type holds that nothing filled."""
         return "NULL" if self.width(type_name) is None else "0"
-
-
-def written(text):
-    """A text of the source for people: its bytes as UTF-8 where they are that."""
-    return text.encode("latin-1").decode("utf-8", "replace")
 
 
 def texts(tokens):

@@ -6,17 +6,17 @@ option 0, as in a run.
 import re
 import sys
 
+from caret import as_read
 from failure import Failure
 from paint import Paint
 from replay import Replay
 from seeds import seeded
 from session import named
-from source import written
 
 MOST_CELLS = 12
 MOST_OPTIONS = 6
 LONGEST_VALUE = 40
-HELP = """step [tN] [K]   make a step: of thread N, its read taking option K; without them the picks are those of the schedule (also: s, or an empty line)
+HELP = """step [tN] [K]   make a step: of thread N, its read taking option K; what is left out is picked by the schedule (also: s, or an empty line)
 back [N]        take N steps back (b)
 run [LINE]      make steps until a thread's next step is on this line of the source, or until the end (r)
 threads         where each thread stands, its variables, and the named globals (t)
@@ -144,7 +144,7 @@ class Stepper:
                 line = self.replay.machine.step(self.replay.at).node.instruction.line
         for number in range(max(line - 5, 1), min(line + 5, len(self.source.lines)) + 1):
             marks = ",".join(next_lines.get(number, []))
-            self.say(f"{marks:>6} {number:4}  {written(self.source.lines[number - 1])}", *(["bold"] if marks else []))
+            self.say(f"{marks:>6} {number:4}  {as_read(self.source.lines[number - 1])}", *(["bold"] if marks else []))
 
     def write(self, name):
         """Writes the schedule so far."""

@@ -1,4 +1,6 @@
 """What the tests of the tools for runs share."""
+import importlib.machinery
+import importlib.util
 import os
 import pathlib
 import shlex
@@ -11,6 +13,14 @@ TOP = pathlib.Path(__file__).resolve().parents[2]
 EXAMPLES = TOP / "examples"
 ENTRY = TOP / "tools" / "main.py"
 SECONDS = 300
+
+
+def neighbour(name):
+    """A script of scripts/, as a module."""
+    loader = importlib.machinery.SourceFileLoader(name, str(TOP / "scripts" / name))
+    module = importlib.util.module_from_spec(importlib.util.spec_from_loader(name, loader))
+    loader.exec_module(module)
+    return module
 
 
 def tool(program, *words, commands="", folder=None):

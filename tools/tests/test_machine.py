@@ -1,6 +1,4 @@
 """The run as the tools go through it, against the program: the steps by copies with traps, the options of picks by changed schedules."""
-import importlib.machinery
-import importlib.util
 import json
 import pathlib
 import random
@@ -10,7 +8,7 @@ from command import FILES, Call
 from session import Session
 from tests import random_programs
 from tests.by_copies import Copy
-from tests.helpers import EXAMPLES, TOP, Failures, runs, words_of
+from tests.helpers import EXAMPLES, TOP, Failures, neighbour, runs, words_of
 
 # The statuses of runs that began.
 ENDED = (0, 5, 6, 7, 8, 9, 10)
@@ -55,9 +53,7 @@ def is_long(words, printed):
 
 def cases(program):
     """The cases of cases/ that are runs."""
-    loader = importlib.machinery.SourceFileLoader("run_cases", str(TOP / "scripts/run_cases"))
-    module = importlib.util.module_from_spec(importlib.util.spec_from_loader("run_cases", loader))
-    loader.exec_module(module)
+    module = neighbour("run_cases")
     parts = json.loads((TOP / "cases/parts.json").read_text(encoding="utf-8"))
     failures, count = Failures(), 0
     for name, line in module.cases_of(TOP / "cases"):
