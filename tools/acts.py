@@ -8,6 +8,7 @@ from acts_in_log import OPERATIONS as OPERATIONS_IN_LOG
 from acts_in_log import OPTIONS
 from arithmetic import BINARIES, EQUALITIES, WITH_SIGN, WITHOUT_SIGN
 from nodes import NULL, as_tuple
+from text_reader import number_value
 
 
 def made_ready(node):
@@ -119,8 +120,11 @@ def insert(node):
 
 # Internal references.
 
-def moved(node, distance):
-    """The step of an instruction that moves an internal reference by `distance` of its other operand, in cells."""
+def moved(node, wanted, distance, elements=None):
+    """The step of an instruction that moves an internal reference by `distance` of its other operand, in cells, to a place of a type.
+
+    Of GETELEMIREF `elements` is how many the array has.
+    """
     (name, constant), *other = node.operands()
     result, following = node.results[0], node.following
 
@@ -128,11 +132,16 @@ def moved(node, distance):
         frame = thread.frames[-1]
         values = frame.values
         place = values.get(name, constant)
-        if place == NULL or machine.is_at_fault(thread, node):
-            machine.fault(thread, node)
-            return
+        if place == NULL:
+            machine.end(thread)
         base, _, cell = place.partition("+")
-        values[result] = f"{base}+{int(cell) + distance(*[values.get(*operand) for operand in other])}"
+        by = distance(*[values.get(*operand) for operand in other])
+        target = int(cell) + by
+        if machine.is_at_ending(thread, node):
+            is_outside = elements is not None and not 0 <= by < elements * node.code.size(wanted)
+            if is_outside or not machine.objects.place_fits(int(base[1:]), target, wanted):
+                machine.end(thread)
+        values[result] = f"{base}+{target}"
         frame.node = following
     return act
 
@@ -145,29 +154,39 @@ def get_iref(node):
         frame = thread.frames[-1]
         reference = frame.values.get(name, constant)
         if reference == NULL:
-            machine.fault(thread, node)
-            return
+            machine.end(thread)
         node.give(frame, (reference + "+0",))
     return act
 
 
 def field_iref(node):
     """GETFIELDIREF: past the fields before."""
-    before = sum(map(node.code.size, node.code.parts(node.type())[:node.number]))
-    return moved(node, lambda: before)
+    parts = node.code.parts(node.type())
+    before = sum(map(node.code.size, parts[:node.number]))
+    return moved(node, parts[node.number], lambda: before)
 
 
 def varpart_iref(node):
     """GETVARPARTIREF: past the fixed fields."""
     before = node.code.size(node.type())
-    return moved(node, lambda: before)
+    return moved(node, node.code.parts(node.type())[-1], lambda: before)
 
 
 def shifted_iref(node):
-    """SHIFTIREF and GETELEMIREF: on by values of the type, or by elements of it; the number has a sign."""
-    type_name = node.type() if node.read.word == "SHIFTIREF" else node.code.parts(node.type())[0]
+    """SHIFTIREF: on by values of the type; the number has a sign."""
+    return moved(node, node.type(), by_values(node, node.type()))
+
+
+def element_iref(node):
+    """GETELEMIREF: on by elements; the number has a sign."""
+    element, count = node.code.source.types[node.type()][1]
+    return moved(node, element, by_values(node, element), number_value(count))
+
+
+def by_values(node, type_name):
+    """The distance in cells of so many values of a type; the number has a sign."""
     size, half = node.code.size(type_name), 1 << (node.code.width(node.type("U")) - 1)
-    return moved(node, lambda count: ((count ^ half) - half) * size)
+    return lambda count: ((count ^ half) - half) * size
 
 
 def cast(node):
@@ -176,10 +195,10 @@ def cast(node):
 
     def act(machine, thread):
         frame = thread.frames[-1]
-        if machine.is_at_fault(thread, node):
-            machine.fault(thread, node)
-            return
-        node.give(frame, (frame.values.get(*operand),))
+        value = frame.values.get(*operand)
+        if machine.is_at_ending(thread, node) and not machine.objects.fits(value, node.type("U")):
+            machine.end(thread)
+        node.give(frame, (value,))
     return act
 
 
@@ -187,20 +206,23 @@ def cast(node):
 
 def new(node):
     """NEW and ALLOCA: the next object, or the first cell of it."""
-    size, suffix = node.code.size(node.type()), "+0" if node.read.word == "ALLOCA" else ""
+    type_name, suffix = node.type(), "+0" if node.read.word == "ALLOCA" else ""
+    size = node.code.size(type_name)
 
     def act(machine, thread):
-        machine.new_object(thread, node, size, suffix)
+        machine.new_object(thread, node, size, (type_name, 0), suffix)
     return act
 
 
 def new_hybrid(node):
     """NEWHYBRID: an object with so many elements."""
-    fixed, each = node.code.size(node.type("H")), node.code.size(node.code.parts(node.type("H"))[-1])
+    type_name = node.type("H")
+    fixed, each = node.code.size(type_name), node.code.size(node.code.parts(type_name)[-1])
     operand, = node.operands()
 
     def act(machine, thread):
-        machine.new_object(thread, node, fixed + each * thread.frames[-1].values.get(*operand), "")
+        count = thread.frames[-1].values.get(*operand)
+        machine.new_object(thread, node, fixed + each * count, (type_name, count), "")
     return act
 
 
@@ -317,7 +339,7 @@ def get_own(node):
 FUNCTIONS = {**dict.fromkeys([*EQUALITIES, *WITHOUT_SIGN, *WITH_SIGN], comparison), "TRUNC": narrowed, "SEXT": widened, "ZEXT": unchanged,
              "SELECT": select, "EXTRACTVALUE": extract, "INSERTVALUE": insert}
 MAKERS = {**dict.fromkeys(BINARIES, binary), "GETIREF": get_iref, "GETFIELDIREF": field_iref, "GETVARPARTIREF": varpart_iref,
-          "SHIFTIREF": shifted_iref, "GETELEMIREF": shifted_iref, "REFCAST": cast, "NEW": new, "ALLOCA": new, "NEWHYBRID": new_hybrid,
+          "SHIFTIREF": shifted_iref, "GETELEMIREF": element_iref, "REFCAST": cast, "NEW": new, "ALLOCA": new, "NEWHYBRID": new_hybrid,
           "BRANCH": branch, "BRANCH2": branch2, "SWITCH": switch, "WPBRANCH": watch_branch, "CALL": call, "TAILCALL": call, "THROW": throw,
           "@uvm.kill_stack": kill_stack, "@uvm.current_stack": current_stack, "@uvm.set_threadlocal": set_own,
           "@uvm.get_threadlocal": get_own, **OPERATIONS_IN_LOG, **COMMON_IN_LOG}

@@ -23,7 +23,7 @@ class Part(typing.NamedTuple):
 
 
 class Filled:
-    """What a script made: `values` has the text of each cell that it filled, `count` says how many objects there are with the globals."""
+    """What a script made: `values` has the text of each cell that it filled, `objects` the globals and the objects by name, in order."""
 
     def __init__(self, code, text):
         self.code, self.values = code, {}
@@ -34,7 +34,6 @@ class Filled:
                 self.fill(self.part(command.target), command.source)
             else:
                 self.make(command)
-        self.count = len(self.objects)
 
     def make(self, command):
         """Makes an object, after all others."""

@@ -8,6 +8,7 @@ compare it with runs of a copy of the bundle with traps (`tests/by_copies.py`).
 """
 import typing
 
+import fitting
 from acts import made_ready
 from acts_in_log import TIME_OVER, WOKEN
 from log import Ending, Event, Record
@@ -93,7 +94,7 @@ class Machine:
         self.threads, self.stacks, self.runnable = {}, {}, ()
         self.made, self.picks, self.states, self.waits = [], [], [], {}
         self.numbers, self.used = setting.numbers, 0
-        self.objects, self.cells_left = setting.objects, setting.cells
+        self.objects, self.cells_left = fitting.Objects(setting.code, list(setting.objects)), setting.cells
         self.watched, self.traps, self.by_value = set(), 0, {}
         self.lost, self.ends = None, False
 
@@ -242,8 +243,8 @@ class Machine:
             self.lose(f"t{thread.number} ends the run")
         raise Ended
 
-    def is_at_fault(self, thread, node):
-        """Whether an instruction that makes no line makes the ending: all lines were made, and the ending names it."""
+    def is_at_ending(self, thread, node):
+        """Whether an instruction that makes no line may make the ending: all lines were made, and the ending names it."""
         line = self.lines[self.row]
         return type(line) is Ending and line.kind == "undefined" and line.thread == thread.number and line.place == node.instruction.place
 
@@ -288,14 +289,13 @@ class Machine:
                 found.setdefault(self.value_at(node, cell, position), []).append(position)
         return self.by_value[cell].get(value, ())
 
-    def new_object(self, thread, node, size, suffix):
-        """An object of so many cells, and the reference to it."""
+    def new_object(self, thread, node, size, made, suffix):
+        """An object of so many cells, which is `made` of a type with so many elements, and the reference to it."""
         if size > self.cells_left:
             self.fault(thread, node)
             return
         self.cells_left -= size
-        self.objects += 1
-        node.give(thread.frames[-1], (f"#{self.objects - 1}{suffix}",))
+        node.give(thread.frames[-1], (f"#{self.objects.add(made)}{suffix}",))
 
     # Threads and stacks.
 

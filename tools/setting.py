@@ -17,7 +17,7 @@ class Setting:
         self.numbers = [int(number) for number in re.sub(r"//[^\n]*", "", session.text_of("--schedule")).split()]
         self.entries = ClientReader(session.text_of("--client")).entries
         self.filled = hail_cells.Filled(self.code, session.text_of("--hail"))
-        self.objects = self.filled.count
+        self.objects = [(part.type, part.count) for part in self.filled.objects.values()]
         self.cells = int(call.options.get("--cells", DEFAULT_CELLS)) - self.filled.cells_taken
 
     def initial(self, cell):

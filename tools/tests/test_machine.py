@@ -107,6 +107,40 @@ def option_made(session, pick):
     return ("succeeds", event.position - 1) if event.kind == "update" else (pick.options.what, event.position)
 
 
+# Thread 1 goes past the end of an array in a loop that makes no line, while thread 0 goes on.
+SILENT = """.typedef @i1 = int<1> .typedef @i64 = int<64> .typedef @row = array<@i64 3> .typedef @place = iref<@i64>
+.funcsig @none = () -> () .const @one <@i64> = 1 .const @zero <@i64> = 0 .global @row3 <@row>
+.funcdef @walks VERSION %v <@none> {
+%e():
+  %p = GETELEMIREF <@row @i64> @row3 @zero
+  BRANCH %next(%p)
+%next(<@place> %p):
+  %q = SHIFTIREF <@i64 @i64> %p @one
+  BRANCH %next(%q)
+}
+.funcdef @main VERSION %v <@none> {
+%e():
+  %s = COMMINST @uvm.new_stack <[@none]> (@walks)
+  %t = NEWTHREAD %s PASS_VALUES<> ()
+  BRANCH %loop()
+%loop():
+  BRANCH %loop()
+}
+"""
+
+
+def silent_end(program):
+    """A run that ends at an instruction which was done before without a line."""
+    with tempfile.TemporaryDirectory() as room:
+        (pathlib.Path(room) / "bundle").write_text(SILENT)
+        (pathlib.Path(room) / "schedule").write_text("1 0 1 1 " * 20)
+        call = Call("run", f"{room}/bundle", {"--entry": "@main", "--schedule": f"{room}/schedule"})
+        session = Session(program, call)
+        failures = compared_with_copy(session, "a silent end")
+        failures.check("OutOfRange" in session.output, f"a silent end: {session.output}")
+        return failures
+
+
 def random_runs(program):
     """Random programs, by both rules of release sequences."""
     failures, source, reads = Failures(), random.Random(58), 0
@@ -126,4 +160,4 @@ def random_runs(program):
 
 def main(program):
     """The failures."""
-    return folders(program) + cases(program) + random_runs(program)
+    return folders(program) + silent_end(program) + cases(program) + random_runs(program)
