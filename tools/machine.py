@@ -139,9 +139,12 @@ class Machine:
         return Step(*self.made[number])
 
     def check_end(self):
-        """After the last step nothing but the ending may be left."""
-        if type(self.lines[self.row]) is not Ending:
-            self.lose("the run goes on here")
+        """After the last step only the ending may be left, and it says why there is no next step."""
+        is_left = any(thread.state != "ended" for thread in self.threads.values())
+        word = "budget" if self.runnable else "all" if is_left else "done"
+        line = self.lines[self.row]
+        if type(line) is not Ending or line.kind != word:
+            self.lose(f"the run ends with `{word}`")
 
     def lose(self, what):
         """Ends what can be said: the next line is another than `what`."""
