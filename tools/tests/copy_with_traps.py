@@ -5,7 +5,7 @@ the same thread, so it makes nothing happen before anything else; it takes no ce
 the copy, the trap and the instruction; the end of a wait is one. In a block of the copy instruction I has the index 2 I + 1, and its
 trap 2 I.
 """
-from session import Failure
+from failure import Failure
 from text_reader import number_value
 
 MOST_BYTES = 1 << 20
@@ -17,14 +17,6 @@ PREFIX = "@mu.step."
 def original_index(index):
     """The index in the bundle of an instruction of the copy, and whether it is the trap before that one."""
     return index // 2, index % 2 == 0
-
-
-def instruction_at(source, place):
-    """The instruction of the bundle at a place of the copy."""
-    found = source.only_at((place[0], original_index(place[1])[0]))
-    if found is None:
-        raise Failure(f"more than one block is called {place[0]}, so the run cannot be followed by its places")
-    return found
 
 
 def kept_variables(instruction):
