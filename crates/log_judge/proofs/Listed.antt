@@ -1,7 +1,7 @@
 -- What is kept of threads, fences and initial values, with one more event.
-use Rattle.std.proofs.Common.{◌≡◌, ℕ, suc, ◌+◌, ◌*◌, ◌<◌, ◌≤◌, Bool, true, false, cond, ◌&&◌, eqb, List, [], ◌∷◌, ◌++◌, length, length-append, Option, Some, None, refl, sym, ap, ◌∙◌, inl, inr, ◌⊎◌, arith, slice_index}
-use Rattle.std.specs.Prelude.{All, Contains}
-use Rattle.std.proofs.lemmas.Bool.{eq-eqb, ne_eqb, eqb-true, cases_lt, false≢true}
+use Rattle.std.proofs.Common.{◌≡◌, ℕ, ◌+◌, ◌<◌, ◌≤◌, Bool, true, false, cond, ◌&&◌, eqb, List, [], ◌∷◌, ◌++◌, length, length-append, Option, Some, None, refl, sym, ap, subst, ◌∙◌, inl, inr, ◌⊎◌, arith, slice_index}
+use Rattle.std.specs.Prelude.{All, Contains, MatchOption}
+use Rattle.std.proofs.lemmas.Bool.{eq-eqb, ne_eqb, cases_lt, false≢true}
 use Rattle.std.proofs.lemmas.List.{get_or_push, get_or_append_left, get_or_default}
 use Rattle.std.specs.Ordering.{nat_cmp}
 use Rattle.std.specs.BTreeMap.{get, is_at, BTreeMap}
@@ -11,14 +11,12 @@ use Rattle.heap_cells.specs.declared.cells.CellId.{CellId}
 use Rattle.heap_cells.specs.SameCell.{same_cell}
 use Rattle.heap_cells.specs.CellLaws.{same_cell-true, same_cell-refl}
 use Rattle.mem_axioms.specs.Events.{accesses, position_of, value_of, is_seq_cst_fence, is_modification}
-use Rattle.mem_axioms.specs.Logs.{event_at, newest}
-use Rattle.mem_axioms.specs.Form.{fits_form_alone}
+use Rattle.mem_axioms.specs.Logs.{event_at}
 use Rattle.mem_axioms.specs.Lemmas.Numbers.{event-cases}
 use Rattle.mem_axioms.specs.declared.types.Rule.{Rule}
 use Rattle.mem_axioms.specs.declared.types.Mode.{Mode}
-use Rattle.mem_axioms.specs.declared.types.Mode.TheVariants.{Read, Write, Update}
 use Rattle.mem_axioms.specs.declared.types.Kind.{Kind}
-use Rattle.mem_axioms.specs.declared.types.Kind.TheVariants.{Access, Fence, NewStack, NewThread, Leave, Enter, Wake, Woken}
+use Rattle.mem_axioms.specs.declared.types.Kind.TheVariants.{Access}
 use Rattle.mem_axioms.specs.declared.types.Event.{Event}
 use Rattle.clocks.specs.Tables.{Table, table_at}
 use Rattle.clock_laws.specs.Clocks.{views, knows}
@@ -27,11 +25,16 @@ use Rattle.view_parts.specs.Indexed.{accesses_at, entries_by, entries_of, by_thr
 use Rattle.view_parts.specs.Families.{is_any, is_not_atomic, is_not_atomic_modification, has_seq_cst_order}
 use Rattle.view_parts.specs.Looks.{IsMade, AllMade}
 use Rattle.view_parts.specs.Holding.{CellHolds}
+use Rattle.view_parts.specs.CellRooms.{CellRoomAt}
+use Rattle.view_parts.specs.Roominess.{CellFits}
+use Rattle.view_parts.specs.Lemmas.CellsKept.{one-access}
 use Rattle.view_parts.specs.declared.cell.CellViews.{CellViews}
 use Rattle.view_parts.specs.Lemmas.Entries.{entries-none}
 use Rattle.view_parts.specs.Lemmas.FloorFound.{by-parts}
+use Rattle.verdicts.specs.Searches.{Extends}
+use Rattle.verdicts.specs.Newer.{event_there}
 use Rattle.log_judge.specs.CellKeys.{cell_key}
-use Rattle.log_judge.specs.Kept.{initial_read, InitialsHold, ThreadsHold, FencesHold}
+use Rattle.log_judge.specs.Kept.{InitialsHold, ThreadsHold, FencesHold}
 use Rattle.log_judge.proofs.Keyed.{is_at-key}
 
 -- ---- threads
@@ -67,6 +70,10 @@ threads-small threads log h i d l = let f = h.few in let e = get_or_default thre
 pub thread-small : (threads : List ℕ) (log : List Event) → ThreadsHold threads log → (i : ℕ) (e : Event) → event_at log i ≡ Some e → e.thread < 64
 thread-small threads log h i e at = let n = h.listed i e at in let f = h.few in omega (arith, n, f)
 
+-- so is that of an event of a log that goes on after these
+pub small-in : (threads : List ℕ) (past whole : List Event) (i : ℕ) (e : Event) → ThreadsHold threads past → Extends whole past → i < length past → event_at whole i ≡ Some e → e.thread < 64
+small-in threads past whole i e h x l at = thread-small threads past h i e (event_there whole past i e x l at)
+
 -- only threads on the list have entries
 entries-listed : (position : ℕ → Event → ℕ) (test : ℕ → Event → Bool) (threads : List ℕ) (log : List Event) (indexes : List Accesses) → ThreadsHold threads log
     → ((u : ℕ) (e : Event) → test u e ≡ true → u ≡ e.thread) → ((u : ℕ) → accesses_at indexes u ≡ entries_by position (test u) log) → IsMade threads indexes
@@ -80,7 +87,7 @@ entries-listed position test threads log indexes h own ix u = go (cases_lt u (le
         pick true p = absurd (let o = own u e p in let n = h.listed i e at in omega (arith, o, n, l))
 
     go : (u < length threads) ⊎ (length threads ≤ u) → Contains threads u ⊎ (accesses_at indexes u ≡ [])
-    go (inl l) = inl (u, l, h.counted u l)
+    go (inl l) = inl (u, l, get_or_default threads u u 0 l ∙ h.counted u l)
     go (inr l) = inr (ix u ∙ entries-none position (test u) log (stranger l))
 
 pub fences-listed : (test : ℕ → Event → Bool) (threads : List ℕ) (log : List Event) (indexes : List Accesses) → ThreadsHold threads log
@@ -150,3 +157,18 @@ at-start t mode cell o p v z c = rw (eq-eqb p 0 z) (and-true (same_cell cell c) 
 
 pub past-start : (t : ℕ) (mode : Mode) (cell : CellId) (o : Order) (p : ℕ) (v : Scalar) → (p ≡ 0 → ⊥) → (c : CellId) → (accesses c (record { thread = t; kind = Access mode cell o p v }) && eqb p 0) ≡ false
 past-start t mode cell o p v n c = rw (ne_eqb p 0 n) (and-false (same_cell cell c))
+
+-- an access of position 0 keeps its value
+pub initials-access : (log : List Event) (e : Event) (mode : Mode) (cell : CellId) (o : Order) (p : ℕ) (v : Scalar) (old new : BTreeMap ℕ Scalar) → e.kind ≡ Access mode cell o p v → p ≡ 0 → cell.at < 4294967296
+    → ((q : ℕ) → get nat_cmp new q ≡ cond (is_at (nat_cmp (cell_key cell)) q) (Some v) (get nat_cmp old q)) → InitialsHold log old → InitialsHold (e ∷ log) new
+initials-access log e mode cell o p v old new k z l u h =
+    subst (λ (x : Kind). InitialsHold (record { thread = e.thread; kind = x } ∷ log) new) (sym k)
+    (initials-put log (record { thread = e.thread; kind = Access mode cell o p v }) cell old new l (at-start e.thread mode cell o p v z) u h)
+
+-- ---- room
+
+-- room for the cell that the event accesses, if it accesses one
+pub room-for : (e : Event) (o : Option CellId) (numbers : CellId → ℕ) (kept : List CellViews) → CellFits (record { thread = e.thread; cell = o; events = 1 }) numbers kept
+    → MatchOption o ((cell : CellId) → accesses cell e ≡ false) (λ c. accesses c e ≡ true) → e.thread < 64 → (cell : CellId) → accesses cell e ≡ true → CellRoomAt 1 e.thread numbers kept cell
+room-for e None numbers kept f m l cell a = absurd (false≢true (sym (m cell) ∙ a))
+room-for e (Some c) numbers kept f m l cell a = f cell (ap (λ (x : CellId). Some x) (sym (one-access e cell c a m))) l

@@ -1,10 +1,10 @@
 -- The only value that earlier accesses have at a position of a cell is the one that is kept.
-use Rattle.std.proofs.Common.{◌≡◌, ℕ, suc, zero, ◌<◌, ◌≤◌, Bool, true, false, cond, not, ◌&&◌, ◌||◌, eqb, leb, List, [], ◌∷◌, ◌++◌, length, Option, Some, None, refl, sym, ap, subst, ◌∙◌, inl, inr, ◌⊎◌, arith}
-use Rattle.std.specs.Prelude.{slice_get}
-use Rattle.std.proofs.lemmas.Bool.{eq-eqb, ne_eqb, eqb-true, cases_lt, cases_Bool, and_from, and_parts, false≢true}
+use Rattle.std.proofs.Common.{◌≡◌, ℕ, suc, zero, ◌<◌, ◌≤◌, Bool, true, false, not, ◌&&◌, ◌||◌, eqb, leb, List, [], ◌∷◌, ◌++◌, length, Option, Some, None, refl, sym, ap, subst, ◌∙◌, inl, inr, ◌⊎◌, arith}
+use Rattle.std.specs.Prelude.{slice_get, IsSomeAnd}
+use Rattle.std.proofs.lemmas.Bool.{eq-eqb, eqb-true, cases_lt, cases_Bool, and_from, and_parts, false≢true}
 use Rattle.mu_values.specs.declared.scalars.Scalar.{Scalar}
 use Rattle.mu_values.specs.SameScalar.{same_scalar}
-use Rattle.mu_values.specs.ScalarLaws.{same_scalar-true, same_scalar-refl}
+use Rattle.mu_values.specs.ScalarLaws.{same_scalar-true}
 use Rattle.heap_cells.specs.declared.cells.CellId.{CellId}
 use Rattle.heap_cells.specs.SameCell.{same_cell}
 use Rattle.heap_cells.specs.CellLaws.{same_cell-true}
@@ -118,31 +118,28 @@ get-last (z ∷ zs) y x h = get-last zs y x h
 -- a later position
 pub only_later : (log : List Event) (cell : CellId) (p : ℕ) (v x : Scalar) → has_form_alone log ≡ true → 0 < p → p ≤ newest log cell → slice_get (values_of log cell) p ≡ Some x → is_only_value log cell p v ≡ same_scalar x v
 only_later [] cell p v x f l n h = absurd (let z : newest [] cell ≡ 0 = refl in omega (arith, l, n, z))
-only_later (e ∷ past) cell p v x f l n h = go (modifies cell e) refl (cases_Bool (accesses cell e && eqb (position_of e) p))
+only_later (e ∷ past) cell p v x f l n h = go (λ w. only_later past cell p w x parts.1 l) (modifies cell e) refl (cases_Bool (accesses cell e && eqb (position_of e) p))
   where
     parts : (fits_form_alone past e ≡ true) × (has_form_alone past ≡ true)
     parts = form-parts is_only_value e past f
 
-    ih : (w : Scalar) → p ≤ newest past cell → slice_get (values_of past cell) p ≡ Some x → is_only_value past cell p w ≡ same_scalar x w
-    ih w = only_later past cell p w x parts.1 l
-
     len : length (values_of past cell) ≡ suc (newest past cell)
     len = values-length past cell
 
-    go : (b : Bool) → modifies cell e ≡ b → ((accesses cell e && eqb (position_of e) p) ≡ true) ⊎ ((accesses cell e && eqb (position_of e) p) ≡ false) → is_only_value (e ∷ past) cell p v ≡ same_scalar x v
-    go true m (inl q) =
+    go : ((w : Scalar) → p ≤ newest past cell → slice_get (values_of past cell) p ≡ Some x → is_only_value past cell p w ≡ same_scalar x w) → (b : Bool) → modifies cell e ≡ b → ((accesses cell e && eqb (position_of e) p) ≡ true) ⊎ ((accesses cell e && eqb (position_of e) p) ≡ false) → is_only_value (e ∷ past) cell p v ≡ same_scalar x v
+    go ih true m (inl q) =
         let s = and_parts (accesses cell e) (eqb (position_of e) p) q in
         let at : p ≡ length (values_of past cell) = (let a = eqb-true (position_of e) p s.1 in let b = fits-next is_only_value past e cell parts.0 m in omega (arith, a, b, len)) in
         let one : x ≡ value_of e = get-last (values_of past cell) (value_of e) x (subst (λ (i : ℕ). slice_get (values_of past cell ++ value_of e ∷ []) i ≡ Some x) at (subst (λ (xs : List Scalar). slice_get xs p ≡ Some x) (values-made e past cell m) h)) in
         let none : is_only_value past cell p v ≡ true = none_there past cell p v (λ i ei there a z. let b = form-position is_only_value past i ei cell parts.1 there a in omega (arith, b, z, at, len)) in
         only_here e past cell p v q ∙ (both (same_scalar (value_of e) v) (is_only_value past cell p v) (λ t. none) ∙ ap (λ (y : Scalar). same_scalar y v) (sym one))
-    go true m (inr q) =
+    go ih true m (inr q) =
         let apart : position_of e ≡ p → ⊥ = λ z. false≢true (sym q ∙ and_from (accesses cell e) (eqb (position_of e) p) (modifies_accesses e cell m) (eq-eqb (position_of e) p z)) in
         let next = fits-next is_only_value past e cell parts.0 m in
         let grown = newest-changed e past cell m in
         let low : p ≤ newest past cell = elim (cases_lt (newest past cell) p) [ inl k ↦ absurd (apart (omega (arith, k, n, next, grown))) | inr k ↦ k ] in
         only_there e past cell p v q ∙ ih v low (get-old (values_of past cell) (value_of e) x p (omega (arith, low, len)) (subst (λ (xs : List Scalar). slice_get xs p ≡ Some x) (values-made e past cell m) h))
-    go false m (inl q) =
+    go ih false m (inl q) =
         let s = and_parts (accesses cell e) (eqb (position_of e) p) q in
         let z : position_of e ≡ p = eqb-true (position_of e) p s.1 in
         let low : p ≤ newest past cell = (let k = newest-same e past cell m in omega (arith, k, n)) in
@@ -150,6 +147,21 @@ only_later (e ∷ past) cell p v x f l n h = go (modifies cell e) refl (cases_Bo
         let here : is_only_value past cell p (value_of e) ≡ true = subst (λ (i : ℕ). is_only_value past cell i (value_of e) ≡ true) z (read_only past e cell parts.0 s.0 m) in
         let one : x ≡ value_of e = same_scalar-true x (value_of e) (sym (ih (value_of e) low old) ∙ here) in
         only_here e past cell p v q ∙ (ap (λ (b : Bool). same_scalar (value_of e) v && b) (ih v low old) ∙ (ap (λ (y : Scalar). same_scalar y v && same_scalar x v) (sym one) ∙ same-same (same_scalar x v)))
-    go false m (inr q) =
+    go ih false m (inr q) =
         let low : p ≤ newest past cell = (let k = newest-same e past cell m in omega (arith, k, n)) in
         only_there e past cell p v q ∙ ih v low (subst (λ (xs : List Scalar). slice_get xs p ≡ Some x) (values-same e past cell m) h)
+
+-- the value that is kept judges a read
+pub only_kept : (log : List Event) (cell : CellId) (p : ℕ) (v : Scalar) (o : Option Scalar) → has_form_alone log ≡ true → p ≤ newest log cell → (p ≡ 0 → o ≡ initial_read log cell)
+    → (0 < p → IsSomeAnd o (λ x. slice_get (values_of log cell) p ≡ Some x)) → fits_value o v ≡ is_only_value log cell p v
+only_kept log cell p v o f l z s = go (cases_lt 0 p)
+  where
+    later : 0 < p → (o : Option Scalar) → IsSomeAnd o (λ x. slice_get (values_of log cell) p ≡ Some x) → fits_value o v ≡ is_only_value log cell p v
+    later q None h = absurd h
+    later q (Some x) h = sym (only_later log cell p v x f q l h)
+
+    go : (0 < p) ⊎ (p ≤ 0) → fits_value o v ≡ is_only_value log cell p v
+    go (inl q) = later q o (s q)
+    go (inr q) =
+        let e : p ≡ 0 = omega arith in
+        ap (λ (o : Option Scalar). fits_value o v) (z e) ∙ (sym (only_initial log cell v f) ∙ ap (λ (i : ℕ). is_only_value log cell i v) (sym e))

@@ -1,7 +1,7 @@
 -- The tests of earlier events by what is known of the event that comes next.
-use Rattle.std.proofs.Common.{◌≡◌, ℕ, suc, ◌+◌, ◌<◌, ◌≤◌, Bool, true, false, cond, ◌&&◌, ◌||◌, eqb, ltb, leb, List, [], ◌∷◌, length, Option, Some, None, refl, sym, ap, ◌∙◌, inl, inr, ◌⊎◌, ◌↔◌, arith, slice_index}
+use Rattle.std.proofs.Common.{◌≡◌, ℕ, zero, suc, ◌+◌, ◌<◌, ◌≤◌, Bool, true, false, cond, ◌&&◌, eqb, ltb, leb, List, ◌∷◌, length, Option, Some, None, refl, sym, ap, ◌∙◌, inl, inr, ◌⊎◌, ◌↔◌, arith, slice_index}
 use Rattle.std.specs.Prelude.{min, MatchOption}
-use Rattle.std.proofs.lemmas.Bool.{eq-eqb, ne_eqb, eqb-true, ltb-true, lt-ltb, leb-true, le-leb, cases_lt, cases_eq, cases_Bool, or_cases, or_left, or_right, and_from, and_parts, false≢true}
+use Rattle.std.proofs.lemmas.Bool.{eq-eqb, ne_eqb, eqb-true, ltb-true, lt-ltb, leb-true, le-leb, cases_lt, cases_eq, or_cases, or_left, or_right, and_from, and_parts, false≢true}
 use Rattle.mem_axioms.specs.Events.{is_fence, is_seq_cst, order_of, is_seq_cst_fence}
 use Rattle.mem_axioms.specs.Logs.{event_at, any_event}
 use Rattle.mem_axioms.specs.Form.{is_only_value, fits_form_alone, has_form_alone}
@@ -14,8 +14,13 @@ use Rattle.mem_axioms.specs.declared.types.Event.{Event}
 use Rattle.clock_laws.specs.Clocks.{views, knew}
 use Rattle.clock_laws.specs.Lemmas.Tests.{before-test, next-test, same-test}
 use Rattle.clocks.specs.Tables.{Table, table_at}
-use Rattle.verdicts.specs.Searches.{passed_by}
+use Rattle.verdicts.specs.Searches.{Extends, passed_by}
+use Rattle.verdicts.specs.Newer.{event_there}
 use Rattle.log_judge.specs.Kept.{AreFirsts, is_up_to, IsLastFence, FencesHold, ThreadsHold}
+
+-- an event of a log that goes on after the past
+pub event-in : (past whole : List Event) (i : ℕ) (e : Event) → Extends whole past → i < length past → event_at whole i ≡ Some e → event_at past i ≡ Some e
+event-in past whole i e x l at = event_there whole past i e x l at
 
 -- ---- the last event of some
 
@@ -43,7 +48,7 @@ module _ (test : ℕ → Event → Bool) (past : List Event) where
   same i k e ek z at h f t = false≢true (sym f ∙ (rw (z, event-one past i ek e (rw z at h) at) at t))
 
   pub last_stays : (i : ℕ) (e : Event) (o : Option ℕ) → event_at past i ≡ Some e → test i e ≡ false → IsLast i o → IsLast (i + 1) o
-  last_stays i e None at f h k ek l there t = elim (cases_lt k i) [ inl q ↦ h k ek q there t | inr q ↦ same i k e ek (omega arith) at there f t ]
+  last_stays i e None at f h = λ k ek l there t. elim (cases_lt k i) [ inl q ↦ h k ek q there t | inr q ↦ same i k e ek (omega arith) at there f t ]
   last_stays i e (Some a) at f h = record {
     ea = h.ea;
     there = h.there;
@@ -58,6 +63,20 @@ knows_fence clock a ea = is_seq_cst_fence ea && ltb a (slice_index clock ea.thre
 pub fence-holds : (s f l : Bool) → s ≡ true → s ≡ f → l ≡ true → (f && l) ≡ true
 fence-holds s f l p q r = rw (sym q ∙ p, r) refl
 
+pub not-first : (a b : Bool) → a ≡ false → (a && b) ≡ false
+not-first a b h = rw h refl
+
+pub not-second : (a b : Bool) → b ≡ false → (a && b) ≡ false
+not-second true b h = h
+not-second false b h = refl
+
+pub and-is : (a b : Bool) → a ≡ true → b ≡ (a && b)
+and-is a b h = rw h refl
+
+pub not-zero : (n : ℕ) → (n ≡ 0 → ⊥) → 0 < n
+not-zero zero h = absurd (h refl)
+not-zero (suc n) h = omega arith
+
 pub last_is : (past : List Event) (clock : List ℕ) (i : ℕ) (o : Option ℕ) → length past ≤ i → IsLast (knows_fence clock) past i o → IsLastFence o past clock
 last_is past clock i None l h b = go (any_event (λ a ea. is_seq_cst_fence ea && leb b a && ltb a (slice_index clock ea.thread)) past) refl
   where
@@ -70,15 +89,15 @@ last_is past clock i None l h b = go (any_event (λ a ea. is_seq_cst_fence ea &&
         absurd (h w.0 w.1 (let n = event-below past w.0 w.1 w.2 in omega (arith, n, l)) w.2 (and_from (is_seq_cst_fence w.1) (ltb w.0 (slice_index clock w.1.thread)) r.0 p.1))
 last_is past clock i (Some a) l h b = same-test (any_event (λ a ea. is_seq_cst_fence ea && leb b a && ltb a (slice_index clock ea.thread)) past) (leb b a)
     (λ q. let w = any-some (λ a ea. is_seq_cst_fence ea && leb b a && ltb a (slice_index clock ea.thread)) past q in
-      let p = and_parts (is_seq_cst_fence w.1 && leb b w.0) (ltb w.0 (slice_index clock w.1.thread)) w.3 in
-      let r = and_parts (is_seq_cst_fence w.1) (leb b w.0) p.0 in
-      let n = event-below past w.0 w.1 w.2 in
-      let m = h.last w.0 w.1 (omega (arith, n, l)) w.2 (and_from (is_seq_cst_fence w.1) (ltb w.0 (slice_index clock w.1.thread)) r.0 p.1) in
-      let k = leb-true b w.0 r.1 in
-      le-leb b a (omega (arith, m, k)))
+    let p = and_parts (is_seq_cst_fence w.1 && leb b w.0) (ltb w.0 (slice_index clock w.1.thread)) w.3 in
+    let r = and_parts (is_seq_cst_fence w.1) (leb b w.0) p.0 in
+    let n = event-below past w.0 w.1 w.2 in
+    let m = h.last w.0 w.1 (omega (arith, n, l)) w.2 (and_from (is_seq_cst_fence w.1) (ltb w.0 (slice_index clock w.1.thread)) r.0 p.1) in
+    let k = leb-true b w.0 r.1 in
+    le-leb b a (omega (arith, m, k)))
     (λ q. let r = and_parts (is_seq_cst_fence h.ea) (ltb a (slice_index clock h.ea.thread)) h.passes in
-      any-from (λ a ea. is_seq_cst_fence ea && leb b a && ltb a (slice_index clock ea.thread)) past a h.ea h.there
-      (and_from (is_seq_cst_fence h.ea && leb b a) (ltb a (slice_index clock h.ea.thread)) (and_from (is_seq_cst_fence h.ea) (leb b a) r.0 q) r.1))
+    any-from (λ a ea. is_seq_cst_fence ea && leb b a && ltb a (slice_index clock ea.thread)) past a h.ea h.there
+    (and_from (is_seq_cst_fence h.ea && leb b a) (ltb a (slice_index clock h.ea.thread)) (and_from (is_seq_cst_fence h.ea) (leb b a) r.0 q) r.1))
 
 -- ---- the first access of each thread that is passed over
 
@@ -96,13 +115,13 @@ pub firsts-set : (old new : List ℕ) (past : List Event) (e : Event) (i : ℕ) 
 firsts-set old new past e i ei at r z s h = record {
   least = λ y ey l there t. elim (cases_eq ey.thread ei.thread) [
     | inl q ↦ (let n = here ey.thread q in elim (cases_lt y i) [
-        | inl k ↦ absurd (let m = (h.least y ey k there t).0 in let w = ap (λ (x : ℕ). slice_index old x) q in omega (arith, m, w, z))
-        | inr k ↦ (omega (arith, n), omega (arith, n, k))
-      ])
+      | inl k ↦ absurd (let m = (h.least y ey k there t).0 in let w = ap (λ (x : ℕ). slice_index old x) q in omega (arith, m, w, z))
+      | inr k ↦ (omega (arith, n), omega (arith, n, k))
+    ])
     | inr q ↦ (let n = other ey.thread q in elim (cases_lt y i) [
-        | inl k ↦ (let m = h.least y ey k there t in (let a = m.0 in omega (arith, a, n), let b = m.1 in omega (arith, b, n)))
-        | inr k ↦ absurd (q (let w : y ≡ i = omega (arith, k, l) in ap (λ (x : Event). x.thread) (event-one past i ey ei (rw w at there) at)))
-      ])
+      | inl k ↦ (let m = h.least y ey k there t in (let a = m.0 in omega (arith, a, n), let b = m.1 in omega (arith, b, n)))
+      | inr k ↦ absurd (q (let w : y ≡ i = omega (arith, k, l) in ap (λ (x : Event). x.thread) (event-one past i ey ei (rw w at there) at)))
+    ])
   ];
   there = λ u l. elim (cases_eq u ei.thread) [
     | inl q ↦ (i, ei, at, r, sym q, sym (here u q))
@@ -133,16 +152,17 @@ firsts-stay firsts past e i ei at n h = record {
   bound = λ u. (let m = h.bound u in omega (arith, m));
 }
 
+-- an access by that thread, with a number below k, that the event passes over
+abbrev passed_over : Event → ℕ → ℕ → ℕ → Event → Bool
+passed_over e u k y ey = reads_older e ey && eqb ey.thread u && ltb y k
+
 -- so the least number of such an access is known
 pub firsts-are : (firsts : List ℕ) (past : List Event) (e : Event) (i : ℕ) → length past ≤ i → FirstsBelow firsts past e i → AreFirsts firsts past e
-firsts-are firsts past e i l h u k = same-test (any_event test past) (ltb 0 (slice_index firsts u) && leb (slice_index firsts u) k) there back
+firsts-are firsts past e i l h u k = same-test (any_event (passed_over e u k) past) (ltb 0 (slice_index firsts u) && leb (slice_index firsts u) k) there back
   where
-    test : ℕ → Event → Bool
-    test y ey = reads_older e ey && eqb ey.thread u && ltb y k
-
-    there : any_event test past ≡ true → (ltb 0 (slice_index firsts u) && leb (slice_index firsts u) k) ≡ true
+    there : any_event (passed_over e u k) past ≡ true → (ltb 0 (slice_index firsts u) && leb (slice_index firsts u) k) ≡ true
     there q =
-        let w = any-some test past q in
+        let w = any-some (passed_over e u k) past q in
         let p = and_parts (reads_older e w.1 && eqb w.1.thread u) (ltb w.0 k) w.3 in
         let r = and_parts (reads_older e w.1) (eqb w.1.thread u) p.0 in
         let own = eqb-true w.1.thread u r.1 in
@@ -153,13 +173,13 @@ firsts-are firsts past e i l h u k = same-test (any_event test past) (ltb 0 (sli
         let low : slice_index firsts u ≤ suc w.0 = rw own at m.1 in
         and_from (ltb 0 (slice_index firsts u)) (leb (slice_index firsts u) k) (lt-ltb 0 (slice_index firsts u) some) (le-leb (slice_index firsts u) k (omega (arith, low, b)))
 
-    back : (ltb 0 (slice_index firsts u) && leb (slice_index firsts u) k) ≡ true → any_event test past ≡ true
+    back : (ltb 0 (slice_index firsts u) && leb (slice_index firsts u) k) ≡ true → any_event (passed_over e u k) past ≡ true
     back q =
         let p = and_parts (ltb 0 (slice_index firsts u)) (leb (slice_index firsts u) k) q in
         let w = h.there u (ltb-true 0 (slice_index firsts u) p.0) in
         let b = leb-true (slice_index firsts u) k p.1 in
         let s = w.5 in
-        any-from test past w.0 w.1 w.2 (and_from (reads_older e w.1 && eqb w.1.thread u) (ltb w.0 k) (and_from (reads_older e w.1) (eqb w.1.thread u) w.3 (eq-eqb w.1.thread u w.4)) (lt-ltb w.0 k (omega (arith, b, s))))
+        any-from (passed_over e u k) past w.0 w.1 w.2 (and_from (reads_older e w.1 && eqb w.1.thread u) (ltb w.0 k) (and_from (reads_older e w.1) (eqb w.1.thread u) w.3 (eq-eqb w.1.thread u w.4)) (lt-ltb w.0 k (omega (arith, b, s))))
 
 -- ---- the tests
 
@@ -196,7 +216,7 @@ module _ (rule : Rule) (past : List Event) (e : Event) (form : has_form_alone pa
     abbrev pub KnownAt : ℕ → Type 0
     KnownAt b = (u : ℕ) × (u < 64) × (0 < slice_index firsts u) × (slice_index firsts u ≤ b) × (slice_index firsts u ≤ table_at fences b u)
 
-    test : ℕ → ℕ → ℕ → Event → Bool
+    abbrev test : ℕ → ℕ → ℕ → Event → Bool
     test u k y ey = reads_older e ey && eqb ey.thread u && ltb y k
 
     -- some access by thread u that is passed over has a number below k
@@ -254,3 +274,9 @@ module _ (rule : Rule) (past : List Event) (e : Event) (form : has_form_alone pa
       passed_test r f known q t g k = same-test (f && known) (passed_by rule past e b eb)
           (λ h. let p = and_parts f known h in passes (inr (sym g ∙ p.0, k.0 p.1)))
           (λ h. elim (passed h) [ inl z ↦ absurd (false≢true (sym t ∙ (q ∙ z))) | inr z ↦ and_from f known (g ∙ z.0) (k.1 z.1) ])
+
+      -- it is neither
+      pub passed_none : (r f : Bool) → r ≡ reads_older e eb → r ≡ false → f ≡ is_fence eb → f ≡ false → f ≡ passed_by rule past e b eb
+      passed_none r f q t g n = same-test f (passed_by rule past e b eb)
+          (λ h. absurd (false≢true (sym n ∙ h)))
+          (λ h. elim (passed h) [ inl z ↦ absurd (false≢true (sym t ∙ (q ∙ z))) | inr z ↦ g ∙ z.0 ])

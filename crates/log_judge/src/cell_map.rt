@@ -1,5 +1,5 @@
 // The places of the cells of a log.
-ghost use Rattle.std.specs.Prelude.{◌≡◌, ℕ, ◌*◌, ◌+◌, [], if◌then◌else◌, length, vec_len, vec_capacity, OnErr, MatchOption};
+ghost use Rattle.std.specs.Prelude.{◌≡◌, ℕ, ◌*◌, ◌+◌, ◌<◌, [], if◌then◌else◌, length, vec_len, vec_capacity, OnErr, MatchOption};
 ghost use Rattle.heap_cells.specs.declared.cells.CellId.{CellId};
 ghost use Rattle.view_parts.specs.Placing.{Owned};
 ghost use Rattle.log_judge.specs.CellKeys.{cell_key, number_in};
@@ -11,7 +11,8 @@ use view_parts::CellPlaces;
 
 /// One number for both numbers of a cell.
 pub fn key_of(cell: CellId) -> u64
-    ensures { result ≡ cell_key cell }
+    ensures key { result ≡ cell_key cell }
+    ensures small { cell.at < 4294967296 }
 {
     cell.object as u64 * 4294967296 + cell.at as u64
 }

@@ -86,7 +86,7 @@ fn list_threads(threads: &mut Vec<u32>, thread: u32) -> Result<(), AllocError>
 /// A SEQ_CST fence keeps its clock.
 fn keep_fence(fences: &mut EventClocks, event: &Event, number: u32, clock: &Clock)
     requires room { 0 < fences.old.spare }
-    ensures put { (a u : ℕ) → table_at fences.new a u ≡ (if is_seq_cst_fence event.now && (a == number) then slice_index clock.now u else table_at fences.old a u) }
+    ensures { (a u : ℕ) → table_at fences.new a u ≡ (if is_seq_cst_fence event.now && (a == number) then slice_index clock.now u else table_at fences.old a u) }
 {
     if seq_cst_fence(event) {
         fences.put(number, clock);
@@ -98,7 +98,13 @@ fn keep_initial(initials: &mut BTreeMap<u64, Scalar>, event: &Event) -> Result<(
     ensures holds { OnOk result ((log : List Event) → InitialsHold log initials.old → InitialsHold (event.now ∷ log) initials.new) }
     ensures same { OnErr result ((log : List Event) → InitialsHold log initials.old → InitialsHold log initials.new) }
 {
-    if let Kind::Access { cell, position, value, .. } = event.kind {
+    if let Kind::Access {
+        cell,
+        position,
+        value,
+        ..
+    } = event.kind
+    {
         if position == 0 {
             initials.insert(key_of(cell), value)?;
         }
@@ -191,6 +197,16 @@ impl LogViews {
         }
     }
 
+    /// The value that earlier accesses have at position 0, if there are any.
+    fn initial(&self, cell: CellId) -> Option<Scalar>
+        ensures { result ≡ initial_read self.now.tape.events cell }
+    {
+        match self.initials.get(&key_of(cell)) {
+            Some(value) => Some(*value),
+            None => None,
+        }
+    }
+
     /// The value that earlier accesses have at a position, if there are any.
     fn value_at(&self, cell: CellId, position: u32) -> Option<Scalar>
         requires { position ≤ newest self.now.tape.events cell }
@@ -198,7 +214,7 @@ impl LogViews {
         ensures later { 0 < position → IsSomeAnd result (λ value. slice_get (values_of self.now.tape.events cell) position ≡ Some value) }
     {
         if position == 0 {
-            return self.initials.get(&key_of(cell)).copied();
+            return self.initial(cell);
         }
         self.written::<Brand>(cell, position, Blank::new(1))
     }
@@ -322,7 +338,8 @@ impl LogViews {
             event.thread,
             cell_of(event),
             1,
-        )
+        )?;
+        Ok(())
     }
 
     /// Adds an event, with what it knows and what it took. Only what it reads at position 0 may need memory.
@@ -369,9 +386,13 @@ impl Past for LogViews {
 
     fn fits(&self, event: &Event) -> bool {
         match event.kind {
-            Kind::Access { mode: Mode::Read, cell, position, value, .. } => {
-                position <= self.newest(cell) && self.has_only_value(cell, position, value)
-            }
+            Kind::Access {
+                mode: Mode::Read,
+                cell,
+                position,
+                value,
+                ..
+            } => { position <= self.newest(cell) && self.has_only_value(cell, position, value) }
             Kind::Access { cell, position, .. } => 0 < position
                 && position - 1 == self.newest(cell),
             _ => true,
@@ -380,9 +401,13 @@ impl Past for LogViews {
 
     fn is_below(&self, event: &Event) -> bool {
         match event.kind {
-            Kind::Access { mode: Mode::Read, cell, order, position, .. } => {
-                self.is_under::<Brand>(event.thread, cell, order, position, Blank::new(1))
-            }
+            Kind::Access {
+                mode: Mode::Read,
+                cell,
+                order,
+                position,
+                ..
+            } => { self.is_under::<Brand>(event.thread, cell, order, position, Blank::new(1)) }
             _ => false,
         }
     }

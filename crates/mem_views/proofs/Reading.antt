@@ -21,7 +21,7 @@ use Rattle.mem_axioms.specs.Lemmas.Options.{floor-option, floor-below, options-n
 use Rattle.mem_views.specs.Differing.{differs_from}
 use Rattle.view_parts.specs.Holding.{CellHolds}
 use Rattle.view_parts.specs.declared.cell.CellViews.{CellViews}
-use Rattle.view_parts.specs.Lemmas.ValuesKept.{values-at, values-length}
+use Rattle.view_parts.specs.Lemmas.ValuesKept.{values-at}
 
 -- no event makes position 0
 pub value-initial : (initial : CellId → Scalar) (log : List Event) (c : CellId) → has_form initial log ≡ true → value_at initial log c 0 ≡ initial c
@@ -43,18 +43,6 @@ value-found rule initial log c kept p x f h l n g =
   where
     some-one : (x y : Scalar) → Some x ≡ Some y → x ≡ y
     some-one x y h = cc
-
--- how many positions a cell has
-pub newest-few : (log : List Event) (c : CellId) → newest log c ≤ length log
-newest-few [] c = omega arith
-newest-few (e ∷ past) c = go (modifies c e) refl (newest-few past c)
-  where
-    go : (b : Bool) → modifies c e ≡ b → newest past c ≤ length past → newest (e ∷ past) c ≤ suc (length past)
-    go true q h = rw q (omega (arith, h))
-    go false q h = rw q (omega (arith, h))
-
-pub history-newest : (rule : Rule) (log : List Event) (c : CellId) (kept : CellViews) → CellHolds log c kept → length kept.history.values ≡ suc (newest log c)
-history-newest rule log c kept h = ap (λ (xs : List Scalar). length xs) h.values ∙ values-length log c
 
 filter-all : {X : Type 0} (xs : List X) → filter (λ x. true) xs ≡ xs
 filter-all [] = refl

@@ -3,12 +3,17 @@ use Rattle.std.specs.Prelude.{ℕ, ◌+◌, ◌*◌, min, Bool, not, ◌&&◌, n
 use Rattle.mu_values.specs.declared.scalars.Scalar.{Scalar}
 use Rattle.heap_cells.specs.declared.cells.CellId.{CellId}
 use Rattle.mem_axioms.specs.Choices.{holds}
+use Rattle.mem_axioms.specs.Reads.{below}
 use Rattle.mem_axioms.specs.declared.types.Event.{Event}
 use Rattle.mem_views.specs.Threads.{thread_count}
 
 -- from the floor on, with another value
 abbrev pub differs_from : (CellId → Scalar) → List Event → CellId → ℕ → Scalar → ℕ → Bool
 differs_from initial log cell floor scalar position = nat_le floor position && not (holds initial log cell scalar position)
+
+-- those up to the last, from the newest down
+abbrev pub differing : (CellId → Scalar) → List Event → CellId → ℕ → Scalar → ℕ → List ℕ
+differing initial log cell floor scalar last = below (differs_from initial log cell floor scalar) (last + 1)
 
 -- a floor takes four searches for each thread
 abbrev pub floor_bound : List Event → ℕ → ℕ

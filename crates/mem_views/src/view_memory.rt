@@ -25,7 +25,7 @@ ghost use Rattle.view_parts.specs.RowsAdded.{RowsRoom};
 ghost use Rattle.view_parts.specs.Roominess.{CellFits};
 ghost use Rattle.view_parts.specs.Answers.{IsKnown};
 ghost use Rattle.mem_views.specs.Bounds.{search_bound, failure_options};
-ghost use Rattle.mem_views.specs.Differing.{differs_from, floor_bound, count_bound, looks_bound};
+ghost use Rattle.mem_views.specs.Differing.{differs_from, differing, floor_bound, count_bound, looks_bound};
 
 use crate::places::Places;
 use clocks::{Clock, ClockList};
@@ -423,7 +423,7 @@ impl ViewMemory {
         requires last { last ≡ newest self.now.tape.events others.cell }
         requires floor { others.floor ≤ last }
         requires few { last + 1 < 4294967295 }
-        ensures count { result ≡ length (below (differs_from (initial_of self.now.objects.values) self.now.tape.events others.cell others.floor others.scalar) (last + 1)) }
+        ensures count { result ≡ length (differing (initial_of self.now.objects.values) self.now.tape.events others.cell others.floor others.scalar last) }
         ensures at_most { result ≤ last + 1 }
         ensures cost { steps.new ≤ steps.old + (last + 1 - others.floor) }
     {
@@ -447,7 +447,7 @@ impl ViewMemory {
         requires last { last ≡ newest self.now.tape.events others.cell }
         requires floor { others.floor ≤ last }
         requires few { last + 1 < 4294967295 }
-        ensures count { result ≡ length (below (differs_from (initial_of self.now.objects.values) self.now.tape.events others.cell others.floor others.scalar) (last + 1)) }
+        ensures count { result ≡ length (differing (initial_of self.now.objects.values) self.now.tape.events others.cell others.floor others.scalar last) }
         ensures at_most { result ≤ last + 1 }
         ensures cost { (d : ℕ) → length self.now.tape.events < 2 ^ d → steps.new ≤ steps.old + looks_bound d (last + 1 - others.floor) (Some others.scalar) }
     {
@@ -469,8 +469,8 @@ impl ViewMemory {
         requires last { last ≡ newest self.now.tape.events others.cell }
         requires floor { others.floor ≤ last }
         requires few { last + 1 < 4294967295 }
-        requires n { n < length (below (differs_from (initial_of self.now.objects.values) self.now.tape.events others.cell others.floor others.scalar) (last + 1)) }
-        ensures nth { slice_get (below (differs_from (initial_of self.now.objects.values) self.now.tape.events others.cell others.floor others.scalar) (last + 1)) n ≡ Some result }
+        requires n { n < length (differing (initial_of self.now.objects.values) self.now.tape.events others.cell others.floor others.scalar last) }
+        ensures nth { slice_get (differing (initial_of self.now.objects.values) self.now.tape.events others.cell others.floor others.scalar last) n ≡ Some result }
         ensures at_most { result ≤ last }
         ensures cost { steps.new ≤ steps.old + (last + 1 - others.floor) }
     {
@@ -500,8 +500,8 @@ impl ViewMemory {
         requires last { last ≡ newest self.now.tape.events others.cell }
         requires floor { others.floor ≤ last }
         requires few { last + 1 < 4294967295 }
-        requires n { n < length (below (differs_from (initial_of self.now.objects.values) self.now.tape.events others.cell others.floor others.scalar) (last + 1)) }
-        ensures nth { slice_get (below (differs_from (initial_of self.now.objects.values) self.now.tape.events others.cell others.floor others.scalar) (last + 1)) n ≡ Some result }
+        requires n { n < length (differing (initial_of self.now.objects.values) self.now.tape.events others.cell others.floor others.scalar last) }
+        ensures nth { slice_get (differing (initial_of self.now.objects.values) self.now.tape.events others.cell others.floor others.scalar last) n ≡ Some result }
         ensures at_most { result ≤ last }
         ensures cost { (d : ℕ) → length self.now.tape.events < 2 ^ d → steps.new ≤ steps.old + (2 * d + 130) }
     {
@@ -530,8 +530,8 @@ impl ViewMemory {
         requires last { last ≡ newest self.now.tape.events others.cell }
         requires floor { others.floor ≤ last }
         requires few { last + 1 < 4294967295 }
-        requires n { n < length (below (differs_from (initial_of self.now.objects.values) self.now.tape.events others.cell others.floor others.scalar) (last + 1)) }
-        ensures nth { slice_get (below (differs_from (initial_of self.now.objects.values) self.now.tape.events others.cell others.floor others.scalar) (last + 1)) n ≡ Some result }
+        requires n { n < length (differing (initial_of self.now.objects.values) self.now.tape.events others.cell others.floor others.scalar last) }
+        ensures nth { slice_get (differing (initial_of self.now.objects.values) self.now.tape.events others.cell others.floor others.scalar last) n ≡ Some result }
         ensures at_most { result ≤ last }
         ensures cost { (d : ℕ) → length self.now.tape.events < 2 ^ d → steps.new ≤ steps.old + looks_bound d (last + 1 - others.floor) (Some others.scalar) }
     {

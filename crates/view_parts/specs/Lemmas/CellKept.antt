@@ -40,7 +40,7 @@ of_cell-kind t (Enter o) c h = refl
 of_cell-kind t (Wake o n) c h = refl
 of_cell-kind t (Woken o) c h = refl
 
-of_cell : (e : Event) (c : CellId) → accesses c e ≡ true → modifies c e ≡ is_modification e
+pub of_cell : (e : Event) (c : CellId) → accesses c e ≡ true → modifies c e ≡ is_modification e
 of_cell e c = of_cell-kind e.thread e.kind c
 
 indexes-more : (family : Event → Bool) (log : List Event) (cell : CellId) (e : Event) (old new : List Accesses) → accesses cell e ≡ true → Indexes old new (length log) e (family e)

@@ -58,7 +58,7 @@ number-there test (f ∷ past) = go (test (length past) f) refl (number-there te
     go false q (inr w) = rw (q, last_number) (inr (w.0, event-kept f past (last_number test past) w.0 w.1, w.2))
 
 -- the accesses of a cell by a thread
-by-parts : (family : Event → Bool) (cell : CellId) (u : ℕ) (e : Event) → by_thread family cell u e ≡ true → (accesses cell e ≡ true) × (family e ≡ true) × (u ≡ e.thread)
+pub by-parts : (family : Event → Bool) (cell : CellId) (u : ℕ) (e : Event) → by_thread family cell u e ≡ true → (accesses cell e ≡ true) × (family e ≡ true) × (u ≡ e.thread)
 by-parts family cell u e h =
     let p = and_parts (accesses cell e && family e) (eqb u e.thread) h in
     let q = and_parts (accesses cell e) (family e) p.0 in

@@ -16,7 +16,8 @@ use Rattle.mem_axioms.specs.declared.types.Mode.TheVariants.{Read, Write, Update
 use Rattle.mem_axioms.specs.Lemmas.Numbers.{event-kept, event-newest}
 use Rattle.mem_axioms.specs.Lemmas.Positions.{form-parts, fits-next, newest-changed, newest-same}
 use Rattle.mem_axioms.specs.Lemmas.Values.{value-kept, value-made, value-older}
-use Rattle.view_parts.specs.Holding.{values_of, IsUntouched}
+use Rattle.view_parts.specs.Holding.{values_of, CellHolds, IsUntouched}
+use Rattle.view_parts.specs.declared.cell.CellViews.{CellViews}
 
 get-kept : {X : Type 0} (xs : List X) (y x : X) (p : ℕ) → slice_get xs p ≡ Some x → slice_get (xs ++ y ∷ []) p ≡ Some x
 get-kept [] y x p h = absurd (cc)
@@ -90,3 +91,15 @@ untouched-newest (e ∷ past) c h = newest-same e past c (untouched-same e c (h 
 
 pub untouched-length : (log : List Event) (c : CellId) → IsUntouched log c → length (values_of log c) ≡ 1
 untouched-length log c h = values-length log c ∙ ap suc (untouched-newest log c h)
+
+-- how many positions a cell has
+pub newest-few : (log : List Event) (c : CellId) → newest log c ≤ length log
+newest-few [] c = omega arith
+newest-few (e ∷ past) c = go (modifies c e) refl (newest-few past c)
+  where
+    go : (b : Bool) → modifies c e ≡ b → newest past c ≤ length past → newest (e ∷ past) c ≤ suc (length past)
+    go true q h = rw q (omega (arith, h))
+    go false q h = rw q (omega (arith, h))
+
+pub history-newest : (rule : Rule) (log : List Event) (c : CellId) (kept : CellViews) → CellHolds log c kept → length kept.history.values ≡ suc (newest log c)
+history-newest rule log c kept h = ap (λ (xs : List Scalar). length xs) h.values ∙ values-length log c

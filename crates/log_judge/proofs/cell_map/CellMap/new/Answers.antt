@@ -1,4 +1,3 @@
-use Rattle.std.proofs.Common.{refl, sym, ap, ◌∙◌}
 use Rattle.view_parts.specs.Lemmas.Owning.{owned-none}
 use Rattle.log_judge.specs.CellKeys.{number_in}
 use Rattle.log_judge.proofs.Keyed.{number-empty}

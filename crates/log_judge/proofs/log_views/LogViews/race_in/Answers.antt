@@ -30,8 +30,8 @@ returns-in-Some g c =
     let facts : RaceFacts memory.rule is_only_value log c.args.cell c.args.event.now c.args.kept.now c.knew-known.result = record { form = c.requires.faultless.form; fits = c.requires.fits; access = c.requires.access; knows = c.knew-known.ensures; holds = c.requires.holds } in
     one-lower (race memory.rule log c.args.event.now) c.in-Some.first (race-found memory.rule is_only_value log c.args.cell c.args.event.now c.args.kept.now c.knew-known.result facts (Some c.in-Some.first) c.in-Some.ensures.found)
 
-pub returns-in-None : goal.returns-in-None
-returns-in-None g c =
+pub returns : goal.returns
+returns g c =
     let memory = c.args.self.now in
     let log = memory.tape.events in
     let facts : RaceFacts memory.rule is_only_value log c.args.cell c.args.event.now c.args.kept.now c.knew-known.result = record { form = c.requires.faultless.form; fits = c.requires.fits; access = c.requires.access; knows = c.knew-known.ensures; holds = c.requires.holds } in

@@ -1,10 +1,10 @@
 use Rattle.std.proofs.Common.{◌≡◌, ◌+◌, ◌-◌, arith}
 use Rattle.view_parts.specs.Lemmas.Gained.{gives-are}
 use Rattle.view_parts.specs.Lemmas.RowsKept.{rows-more, rows-below}
+use Rattle.view_parts.specs.Lemmas.ValuesKept.{newest-few}
 use Rattle.mem_views.proofs.ThreadsMade.{log-more, made-more, child-small}
 use Rattle.view_parts.specs.Lemmas.CellsKept.{can-add}
 use Rattle.mem_views.proofs.Fitting.{next-position}
-use Rattle.mem_views.proofs.Reading.{newest-few}
 use Rattle.mem_views.proofs.Roomy.{room-at, fits-less, made-longer}
 use Rattle.mem_views.specs.Placing.{place_in}
 use Rattle.mem_views.proofs.view_memory.ViewMemory.add.Goals as goal

@@ -1,6 +1,5 @@
 use Rattle.std.proofs.Common.{◌≡◌, suc, arith}
-use Rattle.view_parts.specs.Lemmas.ValuesKept.{untouched-newest}
-use Rattle.mem_views.proofs.Reading.{history-newest, newest-few}
+use Rattle.view_parts.specs.Lemmas.ValuesKept.{untouched-newest, history-newest, newest-few}
 use Rattle.mem_views.proofs.view_memory.ViewMemory.count_later.Goals as goal
 
 pub count_others-requires-clause-end : goal.count_others-requires-clause-end

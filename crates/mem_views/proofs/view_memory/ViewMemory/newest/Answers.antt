@@ -1,6 +1,5 @@
 use Rattle.std.proofs.Common.{sym, arith}
-use Rattle.view_parts.specs.Lemmas.ValuesKept.{untouched-newest}
-use Rattle.mem_views.proofs.Reading.{history-newest, newest-few}
+use Rattle.view_parts.specs.Lemmas.ValuesKept.{untouched-newest, history-newest, newest-few}
 use Rattle.mem_views.proofs.view_memory.ViewMemory.newest.Goals as goal
 
 pub newest-requires : goal.newest-requires

@@ -5,8 +5,7 @@ use Rattle.write_history.specs.Occurrences.{occurrences}
 use Rattle.mem_views.specs.Differing.{differs_from}
 use Rattle.view_parts.specs.Holding.{values_of}
 use Rattle.view_parts.specs.Lemmas.FloorFound.{form-of}
-use Rattle.view_parts.specs.Lemmas.ValuesKept.{untouched-newest}
-use Rattle.mem_views.proofs.Reading.{history-newest, newest-few}
+use Rattle.view_parts.specs.Lemmas.ValuesKept.{untouched-newest, history-newest, newest-few}
 use Rattle.mem_views.proofs.Counted.{below-few}
 use Rattle.mem_views.proofs.OthersFound.{nth-only, count-few, count-all, nth-later, nth-first}
 use Rattle.mem_views.proofs.view_memory.ViewMemory.nth_searched.Goals as goal

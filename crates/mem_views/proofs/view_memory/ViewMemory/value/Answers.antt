@@ -2,8 +2,8 @@ use Rattle.std.proofs.Common.{◌∙◌, sym, arith, ap, ℕ}
 use Rattle.mem_axioms.specs.Form.{value_at}
 use Rattle.mem_axioms.specs.Objects.{initial_of}
 use Rattle.view_parts.specs.Lemmas.FloorFound.{form-of}
-use Rattle.view_parts.specs.Lemmas.ValuesKept.{untouched-newest}
-use Rattle.mem_views.proofs.Reading.{value-initial, value-found, history-newest}
+use Rattle.view_parts.specs.Lemmas.ValuesKept.{untouched-newest, history-newest}
+use Rattle.mem_views.proofs.Reading.{value-initial, value-found}
 use Rattle.mem_views.proofs.view_memory.ViewMemory.value.Goals as goal
 
 pub returns-then-position-eq0-clause-value : goal.returns-then-position-eq0-clause-value
