@@ -111,7 +111,7 @@ class Part:
 
 @dataclasses.dataclass(slots=True)
 class Instruction:
-    """An instruction. `word` is its word, or behind COMMINST the global name; `names` are the type names and numbers that its form
+    """An instruction. `word` is its word, or after COMMINST the global name; `names` are the type names and numbers that its form
     calls T, U, H, S and number."""
 
     block: Block
@@ -135,7 +135,7 @@ class Instruction:
 
     @property
     def ends_block(self):
-        """Whether nothing may stand behind it in its block."""
+        """Whether nothing may stand after it in its block."""
         return self.has_exc or self.kills_old or bool(self.form and self.form.ends)
 
     def all_parts(self):
@@ -365,14 +365,14 @@ class BundleReader(TextReader):
         self.to.open_block = None
 
     def begins_instruction(self):
-        """Whether an instruction begins here. A local name needs the token behind it: a block's head may begin with it."""
+        """Whether an instruction begins here. A local name needs the token after it: a block's head may begin with it."""
         self.wants(AN_INSTRUCTION)
         token = self.token
         if token.kind == "local":
-            behind = self.following()
-            if behind.text in ("(", "[", ":"):
+            next_one = self.following()
+            if next_one.text in ("(", "[", ":"):
                 return False
-            if behind.text != "=":
+            if next_one.text != "=":
                 self.take()
                 self.expected = ["`=` (the name is a result)", "`(`, `[` or `:` (the name is that of a block)"]
                 self.fail()

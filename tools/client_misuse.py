@@ -128,7 +128,7 @@ def explain_types(program, call, bundle, printed):
     passed = [trapped.type_of(argument) for argument in entry.arguments]
     reply = entry.reply.text if entry.stack is None else "rebind"
     lines.append(("passed", written(passed)))
-    if is_throw(entry, call):
+    if entry.throws:
         lines.append(("expected", "an exception, which has the type ref<void>"))
     elif reply == "rebind":
         lines.append(("expected", "what the stack that is entered waits for: the parameters of its function where it is new, else the types "
@@ -142,10 +142,3 @@ def explain_types(program, call, bundle, printed):
             return entry.arguments[wrong].token.start, lines
     return entry.reply.start, lines
 
-
-def is_throw(entry, call):
-    """Whether an entry throws, also by `rebind`."""
-    if entry.reply.text == "throw":
-        return True
-    text = Source.of_file(call.file("client")).text[entry.reply.start:entry.end.start]
-    return entry.stack is not None and bool(re.search(r"\sthrow\s", text))

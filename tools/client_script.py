@@ -27,13 +27,14 @@ class Action:
 @dataclasses.dataclass(slots=True)
 class Entry:
     """An entry: its actions, and its reply. Of `rebind`, `stack` is the argument that names the stack; `arguments` are those of `pass`, or
-    the one of `throw`."""
+    the one of `throw`, which `throws` says."""
 
     start: Token
     end: Token = None
     actions: list = dataclasses.field(default_factory=list)
     reply: Token = None
     stack: Argument = None
+    throws: bool = False
     arguments: list = dataclasses.field(default_factory=list)
 
 
@@ -89,4 +90,5 @@ class ClientReader(TextReader):
                 entry.arguments.append(argument)
             self.expect(")")
         elif word == "throw":
+            entry.throws = True
             entry.arguments.append(self.argument() or self.fail())

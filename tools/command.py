@@ -4,6 +4,8 @@ import os
 import subprocess
 import typing
 
+from failure import Failure
+
 USAGE, READ_FAULT, REFUSED, SINK_FAULT, STOP, UNDEFINED, HEAP_FULL, THREADS_FULL, ALL_WAITING, BUDGET, MEMORY, TOO_LONG = range(1, 13)
 
 # The options of `run`: what the next word is; None where there is no next word.
@@ -14,6 +16,7 @@ RUN_OPTIONS = {"--entry": "the name of a function, with its `@`", "--hail": "a f
 COMMANDS = {"check": "check FILE", "print": "print FILE", "trial": "trial N, with N from 1 to 1000", "run": "run FILE --entry @NAME"}
 MOST = {"--steps": 1_000_000, "--cells": 1_000_000}
 DEFAULT_STEPS, DEFAULT_CELLS = 200_000, 100_000
+# The files that a refusal may name besides the bundle, each with the option that names it.
 FILES = {"hail": "--hail", "client": "--client", "schedule": "--schedule"}
 
 
@@ -36,6 +39,26 @@ class Call(typing.NamedTuple):
             at += 2 if has_value else 1
         return cls(words[0], words[1], options)
 
+    @classmethod
+    def of_run(cls, words, tool):
+        """The call of a run; a tool that shows runs fails where the words are none."""
+        if len(words) < 2 or words[0] != "run":
+            raise Failure(f"{tool} shows a run: put it before `run FILE --entry @NAME ..`")
+        at = run_fault(words)[0]
+        if at < len(words):
+            raise Failure(f"{tool} cannot read the word {words[at]}; the program answers: usage")
+        return cls.of_words(words)
+
+    @property
+    def entry(self):
+        """The function that a run begins with; None where the words name none."""
+        return self.options.get("--entry")
+
+    @property
+    def rule(self):
+        """The rule of a run for release sequences."""
+        return self.options.get("--release-sequences", "c11")
+
     def file(self, name):
         """The path of a file that a refusal names: `bundle`, `hail`, `client` or `schedule`."""
         return self.bundle if name == "bundle" else self.options.get(FILES[name], "")
@@ -44,13 +67,16 @@ class Call(typing.NamedTuple):
         """How many steps the run may make."""
         return int(self.options.get("--steps", DEFAULT_STEPS))
 
-    def words(self, bundle=None, **changed):
-        """The words of this call, with another bundle or with other options; an option that is None is left out."""
+    def with_options(self, **changed):
+        """This call with other options; one that is None is left out. Names are written with `_` for `-`."""
         options = {**self.options, **{"--" + name.replace("_", "-"): value for name, value in changed.items()}}
-        words = [self.command, bundle or self.bundle]
-        for name, value in options.items():
-            if value is not None:
-                words += [name] if RUN_OPTIONS.get(name) is None else [name, str(value)]
+        return self._replace(options={name: value for name, value in options.items() if value is not None})
+
+    def words(self, **changed):
+        """The words of this call, with other options."""
+        words = [self.command, self.bundle]
+        for name, value in self.with_options(**changed).options.items():
+            words += [name] if RUN_OPTIONS.get(name) is None else [name, str(value)]
         return words
 
 
@@ -61,7 +87,10 @@ def as_shell(status):
 
 def answer(program, words):
     """What the program prints, with bytes as characters, and its status."""
-    done = subprocess.run([program, *words], stdin=subprocess.DEVNULL, stdout=subprocess.PIPE, stderr=subprocess.DEVNULL, check=False)
+    try:
+        done = subprocess.run([program, *words], stdin=subprocess.DEVNULL, stdout=subprocess.PIPE, stderr=subprocess.DEVNULL, check=False)
+    except OSError as error:
+        raise Failure(f"{program}: {error.strerror}") from error
     return done.stdout.decode("latin-1"), done.returncode
 
 
@@ -101,7 +130,7 @@ def near(word, words):
 
 
 def usage_fault(words):
-    """The number of the word at fault, which may be behind the last one, and what is said of it."""
+    """The number of the word at fault, which may be after the last one, and what is said of it."""
     if not words:
         return 0, ["expected: a command: " + "; ".join(COMMANDS.values())]
     if words[0] not in COMMANDS:

@@ -56,6 +56,7 @@ class Drawing:
         self.place_cells()
         self.races = {row for arrow in picture.arrows if arrow.kind == "race" for row in (arrow.first, arrow.last)}
         self.kinds = {arrow.kind for arrow in picture.arrows}
+        self.numbers = [row.number for row in picture.rows]
         self.arrows_of_row = {}
         for arrow in picture.arrows:
             self.arrows_of_row.setdefault(arrow.first, []).append(arrow)
@@ -166,22 +167,23 @@ class Drawing:
 
     def draw_arrow(self, arrow, y_of, marker, bottom):
         """An arrow; where one end is not shown it comes from the top, or goes to the bottom."""
-        rows = self.picture.rows
-        first, last = rows[arrow.first], rows[arrow.last]
-        x1, x2 = self.dots[arrow.first], self.dots[arrow.last]
-        y1, y2 = y_of.get(arrow.first, HEAD), y_of.get(arrow.last, bottom - ROW // 2)
-        if arrow.kind == "from":
+        kind, first, last = arrow.kind, arrow.first, arrow.last
+        x1, x2 = self.dots[first], self.dots[last]
+        y1, y2 = y_of.get(first, HEAD), y_of.get(last, bottom - ROW // 2)
+        if kind == "from":
             y1, y2 = y1 - 2, y2 - 2
-        if abs(x1 - x2) < 1 and first.thread == last.thread:
+        if x1 == x2 and self.picture.rows[first].thread == self.picture.rows[last].thread:
             bend = min(10 + (y2 - y1) // 12, 30)
             path = f"M{x1} {y1}C{x1 - bend} {y1 + 6},{x2 - bend} {y2 - 6},{x2 - 4} {y2}"
+        elif x1 < x2:
+            reach = min((x2 - x1) // 2, 80)
+            path = f"M{x1} {y1}C{x1 + reach} {y1},{x2 - reach} {y2},{x2 - 4} {y2}"
         else:
-            side = 4 if x2 < x1 else -4
-            reach = min(abs(x2 - x1) // 2, 80) * (1 if x2 > x1 else -1)
-            path = f"M{x1} {y1}C{x1 + reach} {y1},{x2 - reach} {y2},{x2 + side} {y2}"
-        title = f"{LEGEND[arrow.kind]}: {rows[arrow.first].number} to {rows[arrow.last].number}"
-        return (f'<path class="arrow {arrow.kind}" data-first="{arrow.first}" data-last="{arrow.last}" d="{path}" '
-                f'stroke="{COLOURS[arrow.kind]}" marker-end="url(#{marker}-{arrow.kind})"><title>{title}</title></path>')
+            reach = min((x1 - x2) // 2, 80)
+            path = f"M{x1} {y1}C{x1 - reach} {y1},{x2 + reach} {y2},{x2 + (4 if x2 < x1 else -4)} {y2}"
+        numbers = self.numbers
+        return (f'<path class="arrow {kind}" data-first="{first}" data-last="{last}" d="{path}" stroke="{COLOURS[kind]}" '
+                f'marker-end="url(#{marker}-{kind})"><title>{LEGEND[kind]}: {numbers[first]} to {numbers[last]}</title></path>')
 
     def draw_row(self, number, y):
         """A row: its number, its dot, its text, its source, and what is said where somebody points at it."""

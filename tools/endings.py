@@ -4,20 +4,14 @@ import re
 import caret
 import command
 import faults
-import standing
 import value_types
-from bundle import Bundle
-from client_script import ClientReader
 from client_misuse import explain_misuse, explain_types
-from log import read_log
-from origins import Origins
-from source import Source as RunSource
+from client_script import ClientReader
+from session import Session
 from text_reader import Source
 
 # How many bytes of an instruction are shown.
 MOST_TEXT = 100
-# The most steps, and the most lines, of a run that is followed step by step.
-MOST_FOLLOWED = 2_000
 # How many of a thread's last instructions are looked at for a loop.
 LOOK_BACK = 2_000
 
@@ -27,41 +21,21 @@ class Ended:
 
     def __init__(self, program, call, printed, last):
         self.program, self.call, self.printed, self.last = program, call, printed, last
-        self.bundle = Bundle.of_file(call.bundle)
-        self._marks = False
-        self._origins = self._last_steps = None
+        self.session = Session(program, call, printed)
+        self.bundle = self.session.source.bundle
+        self.machine = self.session.machine
 
-    def marks(self):
-        """The instructions that the threads did, in order: see `standing`."""
-        if self._marks is False:
-            self._marks = standing.marks_of(self.bundle, self.program, self.call, self.printed)
-        return self._marks
+    def maker(self, number):
+        """The instruction that made the event with a number; None where the run could not be followed so far."""
+        return read_of(self.session.instructions[self.session.log.events[number].row])
 
-    def followed(self, line):
-        """The instructions that may have made a line of the log, as `origins` follows it through the source: where there is one, it is
-        the right one."""
-        if self._origins is None:
-            client = self.call.file("client")
-            throws = bool(client) and "throw" in Source.of_file(client).text
-            self._origins = Origins(read_log(self.printed), RunSource(self.bundle.source.text), self.call.options["--entry"], throws)
-        row = self.printed[:self.printed.find(f"\n{line}\n") + 1].count("\n")
-        found = [self.bundle.instruction(*one.place) for one in self._origins.of_row[row]]
-        return [] if None in found else found
+    def last_instruction(self):
+        """The instruction whose step made the ending, or None."""
+        return read_of(self.session.instructions[-1])
 
     def last_of_threads(self):
-        """The last instruction that each thread began, by the thread's name: by marks, or by following the run; empty where nobody knows."""
-        marks = self.marks()
-        return self.last_steps() if marks is None else {thread: instruction for thread, instruction, _ in marks}
-
-    def last_steps(self):
-        """The last instruction of each thread by its name, where the run is followed step by step; empty where that cannot be done."""
-        if self._last_steps is None:
-            self._last_steps = {}
-            if self.printed.count("\n") <= MOST_FOLLOWED and (not self.last.startswith("budget") or self.call.steps() <= MOST_FOLLOWED):
-                import followed  # most explanations do without it
-                places = followed.last_places(self.program, self.call.words()) or {}
-                self._last_steps = {thread: self.bundle.instruction(*place) for thread, place in places.items()}
-        return self._last_steps
+        """The last instruction that each thread began, by the thread's name; empty where the run could not be followed to its end."""
+        return {} if self.machine.lost else {f"t{step[0]}": step[1].read for step in self.machine.made}
 
     def place(self, instruction):
         """The place of an instruction, its line and a caret."""
@@ -72,10 +46,6 @@ class Ended:
         text = self.bundle.text_of(instruction)
         shown = text if len(text) <= MOST_TEXT else text[:MOST_TEXT] + " .."
         return f"line {self.bundle.source.line(instruction.start.start)}: {shown} ({instruction.block.full_name} {instruction.index})"
-
-    def instructions(self):
-        """All instructions of the bundle."""
-        return (instruction for block in self.bundle.blocks() for instruction in block.instructions)
 
     def threads(self):
         """The threads that are left at the end, by their names in rising number."""
@@ -103,6 +73,11 @@ class Ended:
         return f"{name} ({text})" if size == 1 else f"cell {cell} of {name} ({text})"
 
 
+def read_of(instruction):
+    """The instruction as the reader of bundles has it; None where there is none."""
+    return instruction.read if instruction else None
+
+
 def explain(program, call, printed, last):
     """The lines that explain an ending."""
     ended = Ended(program, call, printed, last)
@@ -121,7 +96,7 @@ def detail(label, text):
 def undefined(ended):
     """`undefined CASE tT BLOCK I`."""
     _, case, thread, block, index, *more = ended.last.split()
-    instruction = ended.bundle.instruction(block, int(index))
+    instruction = ended.last_instruction() or ended.bundle.instruction(block, int(index))
     lines = ended.place(instruction) if instruction else [f"{block} {index}, which more than one block of the bundle may be"]
     lines.append(f"{case}: {faults.CASES.get(case, '')}")
     if instruction is None:
@@ -140,38 +115,17 @@ def race(ended, thread, fields):
     lines = detail("access", f"{thread} {kind} {order} of {ended.cell_name(cell)}, value {value}")
     if line:
         lines += detail("races with", f"event {other}, {line[1]} {line[2]} {line[3]}: `{line[0]}`")
-        lines += detail("made by", maker_of_event(ended, line[0]))
+        lines += detail("made by", maker_of_event(ended, int(other)))
     orders = {order, line[3] if line else ""}
     hint = "both accesses are NOT_ATOMIC" if orders == {"NOT_ATOMIC"} else "one of the accesses is NOT_ATOMIC"
     return lines + detail("hint", f"{hint}: make them atomic, or let the earlier happen before the later, as by a RELEASE store that an "
                           "ACQUIRE load reads")
 
 
-def maker_of_event(ended, line):
-    """The instruction that made the event of a line, in words: by marks, or as the only one that may have made it."""
-    number, thread, kind, order, cell, *_ = line.split()
-    marks = ended.marks()
-    if marks is not None:
-        before = event_lines_before(ended.printed, number)
-        found = [instruction for who, instruction, lines in marks if who == thread and lines <= before]
-        return ended.line_of(found[-1]) if found else None
-    candidates = [instruction for instruction in ended.instructions()
-                  if may_access(instruction, kind, order) and may_be_at(ended, instruction, cell)]
-    return one_of(ended, candidates, line)
-
-
-def may_access(instruction, kind, order):
-    """Whether an instruction may make an access of this kind and order."""
-    orders = [part.token.text for part in instruction.parts if part.kind == "order"] or ["NOT_ATOMIC"]
-    makers = {"read": {"LOAD": orders[0], "CMPXCHG": orders[-1], "@uvm.futex.wait": "RELAXED", "@uvm.futex.wait_timeout": "RELAXED"},
-              "write": {"STORE": orders[0]}, "update": {"ATOMICRMW": orders[0], "CMPXCHG": orders[0]}}
-    return makers[kind].get(instruction.word) == order
-
-
-def event_lines_before(printed, number):
-    """How many lines stand before the line of an event."""
-    at = re.search(rf"^{number} t", printed, re.MULTILINE)
-    return printed.count("\n", 0, at.start())
+def maker_of_event(ended, number):
+    """The instruction that made an event, in words, or nothing."""
+    instruction = ended.maker(number)
+    return ended.line_of(instruction) if instruction else None
 
 
 def operands(ended, instruction, case):
@@ -233,27 +187,18 @@ def at_client(ended, explain_entry):
 # Endings that stop threads
 
 def where_threads_stand(ended, threads):
-    """For each thread the last instruction that it began."""
+    """For each thread the last instruction that it began, or its last event where that is all that is known."""
     last = ended.last_of_threads()
     lines = []
     for thread in threads:
-        event = ended.last_event(thread)
-        if last.get(thread):
+        if thread in last:
             lines += detail(thread, f"its last instruction is {ended.line_of(last[thread])}")
-        elif last:
+        elif not ended.machine.lost:
             lines += detail(thread, "it has made no step")
         else:
+            event = ended.last_event(thread)
             lines += detail(thread, f"its last event is `{event}`" if event else "it has made no event")
-            lines += detail("made by", maker_of_event(ended, event) if re.search(" (read|write|update) ", event) else None)
-    return lines + ([] if last else detail("not shown", not_shown(ended)))
-
-
-def not_shown(ended):
-    """What is not known of threads whose last events are all that is known, and why."""
-    why = "the copy of the bundle with marks passes a limit"
-    if not standing.is_replayable(ended.call, ended.printed):
-        why = "a run of more than one thread with a schedule is followed only where it is short"
-    return f"what a thread did after its last event: the program prints no instructions, and {why}"
+    return lines + detail("not shown", ended.machine.lost and f"what a thread did after its last event: {ended.machine.lost}")
 
 
 def budget(ended):
@@ -270,30 +215,30 @@ def budget(ended):
 
 def loop(ended):
     """The blocks in which the last instructions of the thread that made the last step stand, where they are few."""
-    marks = ended.marks()
-    if not marks or len(marks) < LOOK_BACK:
+    made = ended.machine.made
+    if ended.machine.lost or len(made) < LOOK_BACK:
         return []
-    thread = marks[-1][0]
-    blocks = {}
-    for who, instruction, _ in marks[-LOOK_BACK:]:
-        if who == thread:
-            blocks.setdefault(instruction.block.full_name, instruction.block)
+    thread, blocks = made[-1][0], {}
+    for number, node, *_ in made[-LOOK_BACK:]:
+        if number == thread:
+            blocks.setdefault(node.block.read.full_name, node.block.read)
     if len(blocks) > 6:
         return []
     named = ", ".join(f"{name} (line {ended.bundle.source.line(block.name.start)})" for name, block in blocks.items())
-    return detail("hint", f"the last {LOOK_BACK} instructions of {thread} are all in {named}: does this loop end?")
+    return detail("hint", f"the last {LOOK_BACK} instructions of t{thread} are all in {named}: does this loop end?")
 
 
 def all_waiting(ended):
     """`all waiting THREADS`."""
     threads = ended.last.split()[2:]
     lines = ["all waiting: each thread that is left waits without a limit, and no thread is left to wake it"]
+    last = dict.fromkeys(threads) | ended.last_of_threads()
     for thread in threads:
         event = ended.last_event(thread)
         fields = event.split()
         cell = fields[4] if len(fields) > 4 else ""
         lines += detail(thread, f"it waits at {ended.cell_name(cell)}, since event {fields[0]}: `{event}`" if cell else None)
-        lines += detail("wait", waits_at(ended, thread, cell))
+        lines += detail("wait", last[thread] and ended.line_of(last[thread]))
         lines += detail("wakes", wakes_at(ended, cell, fields))
     return lines
 
@@ -308,31 +253,6 @@ def wakes_at(ended, cell, wait):
     return f"the last wake at this cell is event {number} of {thread}, {when}; it woke {woken}"
 
 
-def waits_at(ended, thread, cell):
-    """The wait that a thread stands at: the only one that it can be, or the last instruction of the thread."""
-    waits = [instruction for instruction in ended.instructions()
-             if instruction.word == "@uvm.futex.wait" and may_be_at(ended, instruction, cell)]
-    last = ended.last_of_threads().get(thread) if len(waits) > 1 else None
-    return ended.line_of(last) if last else one_of(ended, waits, ended.last_event(thread))
-
-
-def may_be_at(ended, instruction, cell):
-    """Whether a wait may be at a cell: its operand is no global, or the global of the cell."""
-    token = next(part.token for part in instruction.parts if part.kind == "value")
-    names = list(ended.bundle.globals)
-    return token.kind != "global" or token.text not in names or cell == f"#{names.index(token.text)}+0"
-
-
-def one_of(ended, instructions, line=None):
-    """One instruction of some, where only one can have made a line of the log; else that it is one of them."""
-    if len(instructions) > 1 and line:
-        instructions = ended.followed(line) or instructions
-    if len(instructions) == 1:
-        return ended.line_of(instructions[0])
-    lines = ", ".join(str(ended.bundle.source.line(instruction.start.start)) for instruction in instructions[:8])
-    return f"which instruction it is cannot be shown; it is one of those of the lines {lines}" if instructions else None
-
-
 def heap_full(ended):
     """`heap full tT asked A left L`."""
     fields = ended.last.split()
@@ -340,34 +260,23 @@ def heap_full(ended):
     limit = ended.call.options.get("--cells", command.DEFAULT_CELLS)
     lines = [f"heap full: {thread} asked for {asked} cells, and {left} of {limit} were left; --cells N allows up to 1000000, and no cell is "
              "ever given back"]
-    lines += last_of(ended, thread, [instruction for instruction in ended.instructions() if may_ask(ended, instruction, int(asked))])
+    lines += asked_by(ended, thread)
     others = [other for other in ended.threads() if other != thread]
     lines += where_threads_stand(ended, others) if others else []
     return lines + detail("hint", "with an EXC the instruction goes to its second destination instead")
 
 
-def may_ask(ended, instruction, cells):
-    """Whether an instruction may have asked for so many cells and been refused."""
-    if instruction.word not in ("NEW", "ALLOCA", "NEWHYBRID") or instruction.has_exc:
-        return False
-    return instruction.word == "NEWHYBRID" or value_types.leaves(ended.bundle, instruction.names["T"].text) == cells
-
-
-def last_of(ended, thread, candidates):
-    """The instruction at which a thread ended the run."""
-    last = ended.last_of_threads().get(thread) if len(candidates) > 1 else None
-    candidates = [last] if last else candidates
-    if len(candidates) == 1:
-        return ended.place(candidates[0]) + detail(thread, ended.line_of(candidates[0]))
-    return detail(thread, one_of(ended, candidates))
+def asked_by(ended, thread):
+    """The instruction by which a thread asked for what was not left."""
+    instruction = ended.last_instruction()
+    return ended.place(instruction) + detail(thread, ended.line_of(instruction)) if instruction else detail("not shown", ended.machine.lost)
 
 
 def threads_full(ended):
     """`threads full tT`."""
     thread = ended.last.split()[2]
-    makers = [instruction for instruction in ended.instructions() if instruction.word == "NEWTHREAD" and not instruction.has_exc]
     return ["threads full: 64 threads were made, thread 0 among them, and a number is not used again when its thread ends",
-            *last_of(ended, thread, makers), *detail("hint", "with an EXC a NEWTHREAD goes to its second destination instead")]
+            *asked_by(ended, thread), *detail("hint", "with an EXC a NEWTHREAD goes to its second destination instead")]
 
 
 def stop(ended):

@@ -8,13 +8,14 @@ import os
 import subprocess
 import sys
 
+import caret
 import command
 import endings
 import faults
-import caret
 import refusals
 import scripts
 from bundle import Bundle
+from failure import Failure
 from text_reader import Source
 
 EXPLAINED = (command.USAGE, command.READ_FAULT, command.REFUSED, command.STOP, command.UNDEFINED, command.HEAP_FULL, command.THREADS_FULL,
@@ -46,7 +47,8 @@ def explanation(program, words, printed):
     last = printed[printed.rstrip("\n").rfind("\n") + 1:].rstrip("\n")
     try:
         return of_answer(program, words, printed, last)
-    except OSError:
+    except (OSError, Failure):
+        # A file that was read before cannot be read again: nothing is said.
         return []
 
 

@@ -15,7 +15,7 @@ between two:
     destination:WAY        a block with its arguments, taken in the normal way, in the normal way with the instruction's own results
                            among the arguments, or in the exceptional way
     types                  a list of types in < >
-    weak? local? exc? wpexc? keep? new swap cases     the parts that are called so in docs/FORMAT.md
+    weak? local? exc? wpexc? keep? new swap cases     the parts that are called so in docs/LANGUAGE.md
 
 TYPE is a type that the language writes out, as `int<1>`, or one built from T, U, H and S: `iref<T>`, `field(T)`, `iref<element(T)>`. LIST
 is `parameters(S)`, `results(S)`, `results` (of the function that the instruction is in) or `types` (those of the list of types).
@@ -30,7 +30,7 @@ EQUALITIES = "EQ NE".split()
 INEQUALITIES = "SLT SLE SGT SGE ULT ULE UGT UGE".split()
 UPDATES = "XCHG ADD SUB AND NAND OR XOR MAX MIN UMAX UMIN".split()
 CLAUSES = "VERSION EXC WPEXC KEEPALIVE RET_WITH PASS_VALUES THROW_EXC KILL_OLD THREADLOCAL WEAK NULL".split()
-CLIENT_WORDS = "frames kept watch unwatch pass throw rebind exit stop".split()
+CLIENT_WORDS = "frames kept watch unwatch pop push pass throw rebind exit stop".split()
 HAIL_DIRECTIVES = ".new .newhybrid .init".split()
 
 LEFT_OUT_DIRECTIVES = [".expose"]
@@ -159,7 +159,6 @@ MOST_INSTRUCTIONS = 4_096
 MOST_CASES = 1_024
 MOST_MEMBERS = 256
 MOST_LEAVES = 4_096
-MOST_VALUE_LEAVES = 256
 MOST_GLOBAL_LEAVES = 65_536
 MOST_TOKEN_BYTES = 65_536
 MOST_FILE_BYTES = 1_048_576

@@ -16,7 +16,7 @@ MEANT = {
 
 
 def explain(fault, token, before):
-    """What can be said of a token at fault, which stands behind the token `before`; pairs of a label and a text, or
+    """What can be said of a token at fault, which stands after the token `before`; pairs of a label and a text, or
     of a label and None where there is nothing to say."""
     if fault == "NumberTooLarge":
         return [("expected", "a number below 340282366920938463463374607431768211456, which is 2^128")]

@@ -146,7 +146,7 @@ def read_line(row, text):
         if words[0] in ENDINGS:
             return read_ending(row, text, words)
     except (IndexError, ValueError):
-        pass
+        return Other(row, text)
     return Other(row, text)
 
 

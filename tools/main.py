@@ -10,11 +10,13 @@ each call starts fast. Each tool is a function
 which gets all options with their values, in the order in which they stand, and returns the exit status.
 """
 import difflib
+import gc
 import importlib
 import os
-import pathlib
 import subprocess
 import sys
+
+from failure import WRONG_WORDS, Failure
 
 # From option to (module, function).
 TOOLS = {
@@ -29,15 +31,14 @@ TOOLS = {
 }
 # Options that take the next word as their value.
 WITH_VALUE = {"--picture", "--seed"}
-# Each tool that shows a run takes this option too, so it names the tool only where it stands alone.
+# Each tool that shows a run takes this option too, so it names the tool only where no other option does.
 SEED = "--seed"
-WRONG_WORDS = 1
 # As a shell says that a signal ended a program.
 INTERRUPTED, NOBODY_READS = 130, 141
 
 
 def split(words):
-    """The options that `words` begin with, with their values, and the words behind them."""
+    """The options that `words` begin with, with their values, and the words after them."""
     at = 0
     while at < len(words) and words[at] in TOOLS:
         at += 2 if words[at] in WITH_VALUE else 1
@@ -63,25 +64,22 @@ def main(words):
     options, rest = split(given)
     if not options:
         return without_tool(program, given)
-    sys.path.insert(0, str(pathlib.Path(__file__).resolve().parent))
     named = next((option for option in options if option in TOOLS and option != SEED), options[0])
     module, function = TOOLS[named]
-    try:
-        tool = importlib.import_module(module)
-    except ModuleNotFoundError as error:
-        if error.name != module:
-            raise
-        print(f"mu: the tool {named} does not exist yet", file=sys.stderr)
-        return WRONG_WORDS
-    return guarded(lambda: getattr(tool, function)(program, options, rest))
+    return guarded(lambda: getattr(importlib.import_module(module), function)(program, options, rest))
 
 
 def guarded(tool):
-    """The status of a tool; also where nobody reads on, or where it is interrupted."""
+    """The status of a tool; also where it fails, where nobody reads on, or where it is interrupted."""
+    # A call is short, and what it makes lives to its end.
+    gc.disable()
     try:
         status = tool()
         sys.stdout.flush()
         return status
+    except Failure as failure:
+        print(f"mu: {failure}", file=sys.stderr)
+        return failure.status
     except KeyboardInterrupt:
         return INTERRUPTED
     except BrokenPipeError:

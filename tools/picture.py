@@ -10,9 +10,10 @@ import drawing
 import graph
 import page
 from log import ACCESSES, Ending, Event, Record
+from failure import Failure
 from relations import INITIAL
 from seeds import seeded
-from session import Failure, Session, guarded, named
+from session import Session, named
 
 # Of the positions that a load could have taken so many are named.
 MOST_CHOICES = 12
@@ -38,6 +39,11 @@ class Arrow:
         self.first, self.last, self.kind = first, last, kind
 
 
+# What is said of an instruction that has no choice, by its word; what a read could have done instead, by what its option is.
+ALWAYS_NEWEST = {"COMMINST": "a futex wait reads the newest value always", "ATOMICRMW": "an ATOMICRMW takes the newest value always"}
+HOW = {"read": "read ", "fails": "failed on ", "succeeds": "succeeded"}
+
+
 class Modification:
     """A value of a cell: its position, the row that wrote it (None for the initial value) and the value (None where not known)."""
 
@@ -52,8 +58,10 @@ class Picture:
 
     def __init__(self, session, command):
         self.session, self.command = session, command
-        self.relations, self.origins, self.file = session.relations, session.origins.of_row, session.words.file
-        self.lines = session.log.lines
+        self.relations, self.instructions, self.file = session.relations, session.instructions, session.call.bundle
+        self.lines, self.names = session.log.lines, session.cell_names
+        machine = session.machine
+        self.picks = {machine.step(pick.step).row: pick for pick in machine.picks if pick.is_read}
         self.threads = session.log.threads()
         self.stacks = {thread: [] for thread in self.threads}
         self.rows = self.make_rows()
@@ -80,8 +88,8 @@ class Picture:
         """The row of a line."""
         if type(line) is Event:
             label = self.event_label(line)
-            return Row(line.number, thread, stack, line.kind, label, self.source_text(line, self.origins[line.row]))
-        text = named(line.text, self.session.cell_names)
+            return Row(line.number, thread, stack, line.kind, label, self.source_text(line))
+        text = named(line.text, self.names)
         kind, label = "ending", text
         if type(line) is Record:
             kind = "record"
@@ -89,11 +97,11 @@ class Picture:
             label = " ".join([words[0], *words[2:]]) if line.kind in ("returned", "exited", "trap", "watchpoint") else text
         elif type(line) is Ending and line.race:
             kind = "race"
-        return Row(None, thread, stack, kind, label, self.source_text(line, self.origins[line.row]))
+        return Row(None, thread, stack, kind, label, self.source_text(line))
 
     def event_label(self, event):
         """The text of an event, without number and thread; after a read whether it took the initial value, or an old one."""
-        names = self.session.cell_names
+        names = self.names
         if event.kind not in ACCESSES:
             return named(event.text, names).split(" ", 2)[2]
         label = f"{event.kind} {event.order} {names.get(event.cell, event.cell)} {event.position} {named(event.value, names)}"
@@ -103,62 +111,50 @@ class Picture:
         said += ["old"] if self.relations.is_old(event.number) else []
         return f"{label} ({', '.join(said)})" if said else label
 
-    def source_text(self, line, found):
+    def source_text(self, line):
         """The source line of a row, in words."""
-        if len(found) == 1:
-            return found[0].shown
-        if found:
-            return "one of lines " + " ".join(str(number) for number in sorted({it.line for it in found}))
-        return "line not known" if type(line) is Event else ""
+        found = self.instructions[line.row]
+        if found is None:
+            return "line not known" if type(line) is Event else ""
+        return found.shown
 
     def details(self, number):
         """What is said of a row where somebody points at it."""
         source = self.rows[number].source
         said = [self.lines[number].text]
         if source:
-            said.append(f"{self.file} {source}" if self.origins[number] else source)
+            said.append(f"{self.file} {source}" if self.instructions[number] else source)
         return said + self.remarks(number)
 
     def remarks(self, number):
         """What a row took, and what it could have taken, where it is a read or an update."""
         line = self.lines[number]
-        return self.reading(line, self.origins[number]) if type(line) is Event else []
+        return self.reading(line) if type(line) is Event and line.number in self.relations.reads_from else []
 
-    def reading(self, event, found):
+    def reading(self, event):
         """What a read or an update took, and what it could have taken."""
-        relations = self.relations
-        if event.number not in relations.reads_from:
-            return []
-        writer = relations.reads_from[event.number]
+        writer = self.relations.reads_from[event.number]
         said = ["takes the initial value" if writer == INITIAL else f"takes the value of event {writer}"]
-        forms = {instruction.operation for instruction in found}
-        if event.kind == "update":
-            said.append("an update takes the newest value always")
-        elif forms == {"COMMINST"}:
-            said.append("a futex wait reads the newest value always")
-        else:
-            said += self.choices(event, forms)
-        return said
+        instruction = self.instructions[event.row]
+        operation = instruction.operation if instruction else None
+        if operation is None:
+            return said + ["what else it could have read is not known"]
+        return said + [ALWAYS_NEWEST.get(operation) or self.choices(event, operation)]
 
-    def choices(self, event, forms):
-        """The positions that a load could have taken in place of a read."""
-        positions = self.relations.options(event.number)
-        if len(positions) == 1:
-            return ["no other value could have been read"]
-        others = [position for position in positions if position != event.position]
-        if not others:
-            return ["no other value could have been read"]
-        words = [f"{self.value(event.cell, position)} (position {position})" for position in others[:MOST_CHOICES]]
-        more = f", and {len(others) - MOST_CHOICES} older ones" if len(others) > MOST_CHOICES else ""
-        begin = "could have read " if forms == {"LOAD"} else "a load could have read "
-        said = [begin + ", ".join(words) + more]
-        if "CMPXCHG" in forms:
-            said.append("a comparison that fails reads one that differs from the expected value, or with WEAK any of them")
-        return said
+    def choices(self, event, operation):
+        """What a load or a comparison could have done in place of an event."""
+        pick = self.picks.get(event.row)
+        if pick is None:
+            return "no other value could have been read" if operation == "LOAD" else "the comparison could do nothing else"
+        others = [pick.options[index] for index in range(min(len(pick.options), MOST_CHOICES + 1)) if index != pick.taken][:MOST_CHOICES]
+        words = [HOW[what] + ("" if what == "succeeds" else f"{self.value(event.cell, position)} (position {position})")
+                 for what, position in others]
+        left = len(pick.options) - 1 - len(others)
+        return "could have " + ", ".join(words) + (f", and {left} older ones" if left else "")
 
     def value(self, cell, position):
         """The value at a position of a cell, for people."""
-        found = self.session.relations.value_at(cell, position) if position else self.session.initial(cell)
+        found = self.relations.value_at(cell, position) if position else self.session.initial(cell)
         return "the initial value" if found is None else found
 
     def make_arrows(self):
@@ -189,22 +185,21 @@ class Picture:
             order = [Modification(0, None, self.session.initial(text))]
             for position, number in list(enumerate(cell.modifications))[1:]:
                 order.append(Modification(position, events[number].row, events[number].value))
-            cells.append((self.session.cell_names.get(text, text), order))
+            cells.append((self.names.get(text, text), order))
         return cells
 
 
 WRITERS = {".html": page.page, ".svg": drawing.svg, ".dot": graph.dot}
 
 
-@guarded
 def picture(program, options, words):
     """Writes the picture of the run that the words ask for; returns the program's status."""
     name = options[options.index("--picture") + 1] if len(options) > 1 else ""
     writer = WRITERS.get(os.path.splitext(name)[1])
     if writer is None:
         raise Failure(f"--picture writes a file that ends with .html, .svg or .dot, and not {name}")
-    with seeded(program, options, words, "--picture") as seeded_words:
-        session = Session(program, seeded_words)
+    with seeded(program, options, words, "--picture") as call:
+        session = Session(program, call)
         if session.refused:
             sys.stdout.write(session.output)
             return session.status

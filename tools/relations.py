@@ -1,7 +1,7 @@
 """What the memory model says of a run's log: who reads from whom, what synchronizes, what happens before what, what a read may take.
 
-This is the text of docs/MEMORY.md in Python, by clocks. It is not proved, and the program does not use it; `scripts/check_tools` compares
-it with the rules as relations, on random logs, and with what the program offers its reads.
+This is the text of docs/MEMORY.md in Python, by clocks. It is not proved, and the program does not use it; `scripts/check_runs` compares it
+with the rules as relations, on random logs, and with what the program offers its reads.
 
 A *clock* is a tuple with a number for each thread: an event is known to it where the event's number is below that of its thread.
 """
@@ -46,14 +46,15 @@ class Relations:
         self.width = max(log.threads(), default=0) + 2
         nothing = (0,) * self.width
         self.clock_of = [nothing] * self.width
-        # Of each event the clock of its thread before it takes, and after.
-        self.before, self.known = [], []
+        # Of each event what happens before it; of each thread the numbers of its events.
+        self.known, self.numbers = [], {}
         self.reads_from, self.edges, self.cells = {}, [], {}
         self.fence_source = [{} for _ in range(self.width)]
         self.pending = [{} for _ in range(self.width)]
         self.has_fences = any(event.kind == "fence" for event in self.events)
         self.stack_source, self.thread_source = {}, {}
-        self.strong_fences, self.strong_clocks = [], []
+        # The numbers of the SEQ_CST fences, also by thread, and what is known to each of them or to one before it.
+        self.strong_fences, self.strong_fences_of, self.strong_clocks = [], {}, []
         self.clocks_after = {}
         for event in self.events:
             self.add(event)
@@ -68,25 +69,37 @@ class Relations:
     def is_old(self, number):
         """Whether a read took another position than the newest."""
         event = self.events[number]
-        return event.kind == "read" and event.position < bisect.bisect_left(self.cells[event.cell].modifications, number) - 1
-
-    def options(self, number):
-        """The positions that a load in place of read `number` could have taken, the newest first."""
-        event = self.events[number]
-        return self.options_at(event.thread, event.order, event.cell, number)
+        return event.kind == "read" and event.position < self.newest(event.cell, number)
 
     def options_at(self, thread, order, cell_text, number):
-        """The positions that a load could have taken if it were the event with a number, the newest first."""
+        """The positions that a load could have taken if it had been the event with a number, the newest first."""
         cell = self.cells.get(cell_text)
         if cell is None:
             return range(0, -1, -1)
-        clock = self.before[number] if number < len(self.before) else self.clock_of[thread]
-        newest = bisect.bisect_left(cell.modifications, number) - 1
-        return range(newest, self.floor(thread, order, number, cell, clock) - 1, -1)
+        newest = self.newest(cell_text, number)
+        return range(newest, self.floor(thread, order, number, cell, self.clock_before(thread, number)) - 1, -1)
+
+    def clock_before(self, thread, number):
+        """What happens before whatever a thread does next, where the next event has a number."""
+        numbers = self.numbers.get(thread, ())
+        at = bisect.bisect_left(numbers, number)
+        if at:
+            return self.known[numbers[at - 1]]
+        maker = self.thread_source.get(thread)
+        return self.clock_of[thread] if maker is None else self.clock_after(maker)
 
     def next_options(self, thread, order, cell_text):
         """The positions that a load could take if it were the next event, the newest first."""
         return self.options_at(thread, order, cell_text, len(self.known))
+
+    def newest(self, cell_text, number):
+        """The newest position of a cell before the event with a number."""
+        cell = self.cells.get(cell_text)
+        return bisect.bisect_left(cell.modifications, number) - 1 if cell else 0
+
+    def count(self, cell_text):
+        """How many positions a cell has."""
+        return len(self.cells[cell_text].modifications) if cell_text in self.cells else 1
 
     def value_at(self, cell_text, position):
         """The value at a position of a cell; None where no event says what the initial value is."""
@@ -96,9 +109,11 @@ class Relations:
     def add(self, event):
         """Adds the next event: it takes, then its clock is known, then it gives."""
         thread = event.thread
-        if thread in self.thread_source:
-            self.take(event, {None: self.thread_source.pop(thread)}, "thread")
-        self.before.append(self.clock_of[thread])
+        if thread not in self.numbers:
+            self.numbers[thread] = []
+            if thread in self.thread_source:
+                self.take(event, {None: self.thread_source[thread]}, "thread")
+        self.numbers[thread].append(event.number)
         if event.kind in ACCESSES:
             cell = self.cells.get(event.cell)
             if cell is None:
@@ -169,6 +184,7 @@ class Relations:
             if event.order == "SEQ_CST":
                 before = self.strong_clocks[-1] if self.strong_clocks else (0,) * self.width
                 self.strong_fences.append(event.number)
+                self.strong_fences_of.setdefault(event.thread, []).append(event.number)
                 self.strong_clocks.append(joined(before, self.clock_after(event.number)))
         elif event.kind in ("stack", "leave"):
             self.stack_source[event.other] = event.number
@@ -217,12 +233,12 @@ class Relations:
         return best
 
     def last_strong_fence(self, thread, clock, number):
-        """The number of the last SEQ_CST fence that a thread knows before an event; below it SEQ_CST events bind its reads. Else 0."""
-        for fence in reversed(self.strong_fences[:bisect.bisect_left(self.strong_fences, number)]):
-            other = self.events[fence].thread
-            if other == thread or fence < clock[other]:
-                return fence
-        return 0
+        """The number of the last SEQ_CST fence that a thread knows before an event, 0 without one. SEQ_CST events before it bind its reads."""
+        last = 0
+        for other, fences in self.strong_fences_of.items():
+            at = bisect.bisect_left(fences, number if other == thread else clock[other])
+            last = max(last, fences[at - 1] if at else 0)
+        return last
 
     def highest_known(self, cell, clock, own, limit):
         """The highest position among the accesses of a cell that a clock knows, and those of the thread `own` below a number."""

@@ -1,315 +1,159 @@
-"""A run made step by step, as somebody chooses: where each thread stands, what its variables hold, and what the next pick chooses among.
+"""A run that somebody looks at step by step, and changes by choosing what a pick takes.
 
-The program itself makes each step. A copy of the bundle with a trap before each instruction (`copy_with_traps.py`) is run by a schedule
-and a client script that are written as the steps are chosen, up to the step that was chosen last; its traps say where the threads stand
-and what their variables hold. Beside it the bundle itself is run by the schedule of the same choices, and what the two print is compared:
-where they differ nothing more is said. How many values a load has to choose among is found by `relations.py`, which is not proved; a
-wrong number shows at once, since the two runs then differ.
+The program makes the whole run by a schedule, and `machine.py` goes through it; what is shown is the run after so many of its steps. A
+choice replaces one number of the schedule, by which the program then makes the run anew. A step back needs no run, where nothing was chosen
+after it.
 """
-import re
+import bisect
 
-import log as logs
-from copy_with_traps import copy_of, instruction_at, kept_variables, original_index, zero_name
-from origins import visible_kind
-from relations import Relations
-from session import Failure, Folder, call, read_file
-from text_reader import number_value
-
-VALUE = re.compile(r"\{[^}]*\}|\S+")
-# What a cell began with, where a HAIL script may have filled it.
-UNKNOWN = "?"
+from acts import made_ready
+from acts_in_log import OPTIONS
+from nodes import printed
+from session import Folder, Session
 
 
-class Thread:
-    """A thread between two steps. `state` is `ready`, `waits` (without a limit), `may time out` or `ended`.
+class Standing:
+    """A thread between two steps: its state, its next instruction (of one that waits its wait), the variables there, and the cell of a wait."""
 
-    Of one that is ready `instruction` is the next one, and `values` has the variables of its frame; of one that waits `instruction` is its
-    wait.
-    """
+    __slots__ = ("state", "node", "values", "cell")
 
-    def __init__(self):
-        self.state, self.instruction, self.values = "ready", None, {}
-        self.cell = None
+    def __init__(self, state, cell):
+        self.state, self.cell, self.node, self.values = state, cell, None, {}
 
-    def copy(self):
-        """The same, apart."""
-        other = Thread()
-        other.state, other.instruction, other.values, other.cell = self.state, self.instruction, self.values, self.cell
-        return other
-
-
-class Pick:
-    """One pick: what it was for (`thread` or `read`), among how many, and the number that was taken."""
-
-    __slots__ = ("step", "what", "options", "taken")
-
-    def __init__(self, step, what, options, taken):
-        self.step, self.what, self.options, self.taken = step, what, options, taken
-
-
-class Choice:
-    """A step that was chosen: its thread, its option, the picks that say so, and how many lines the run had before it."""
-
-    __slots__ = ("thread", "option", "picks", "moves", "entries", "lines", "threads", "traps")
-
-    def __init__(self, thread, option):
-        self.thread, self.option, self.picks, self.moves, self.entries = thread, option, [], 0, 0
-        self.lines, self.threads, self.traps = 0, {}, 0
-
-
-def entries_of(text):
-    """The entries of a client script, each with its braces."""
-    return re.findall(r"\{[^}]*\}", re.sub(r"//[^\n]*", "", text))
+    def variables(self):
+        """The names and the texts of the variables that have values before the instruction."""
+        instruction = self.node.instruction
+        return [(name, printed(self.values[name])) for name in instruction.block.variables_at(instruction.index)]
 
 
 class Replay:
-    """The run so far, and what can be done next."""
+    """The run, and how many of its steps are shown: `at`."""
 
-    def __init__(self, program, words, source):
-        self.program, self.words, self.source = program, words, source
-        self.folder = Folder()
-        self.auto = "--auto" in words.options
-        client = words.options.get("--client")
-        self.script = entries_of(read_file(client)) if client else []
-        self.bundle = self.folder.write("copy.mu", copy_of(source, self.types_of_traps() if self.auto else ()))
-        self.schedule = self.folder.write("schedule", "")
-        self.client = self.folder.write("client", "")
-        self.own_schedule = self.folder.write("own", "")
-        self.copy_numbers, self.entries, self.moves = [], [], 0
-        self.choices, self.traps = [], 0
-        self.threads, self.lines, self.ending = {0: Thread()}, [], None
-        self.open_gates([0])
+    def __init__(self, program, call):
+        self.program, self.call, self.folder = program, call, Folder()
+        self.given, self.chosen, self.at = None, {}, 0
+        self.make_run()
 
-    def types_of_traps(self):
-        """The types that the bundle's own traps and watchpoints ask for."""
-        asking = [it for it in self.source.instructions if it.operation in ("TRAP", "WATCHPOINT")]
-        return {name for it in asking for name in it.list_at(1)}
+    def make_run(self):
+        """Makes the run by the given schedule and the choices, which replace some of its numbers."""
+        call = self.call
+        if self.chosen:
+            numbers = self.given + [0] * (max(self.chosen) + 1 - len(self.given))
+            for place, number in self.chosen.items():
+                numbers[place] = number
+            path = self.folder.write("schedule", "\n".join(map(str, numbers)) + "\n")
+            call = call.with_options(schedule=path)
+        self.session = Session(self.program, call)
+        if self.session.refused:
+            return
+        self.machine = self.session.machine
+        self.given = self.machine.numbers if self.given is None else self.given
+        self.steps_of = {}
+        for number, (thread, *_) in enumerate(self.machine.made):
+            self.steps_of.setdefault(thread, []).append(number)
+        self.pick_steps = [pick.step for pick in self.machine.picks]
 
-    # What can be done.
+    # What is shown.
+
+    @property
+    def is_over(self):
+        """Whether all steps are shown."""
+        return self.at == len(self.machine.made)
+
+    def row(self, at):
+        """How many lines the run has after so many steps."""
+        return self.machine.step(at).row if at < len(self.machine.made) else self.machine.row + (not self.machine.lost)
+
+    def lines(self, first=0):
+        """The texts of the lines so far, without those of the first steps."""
+        return [line.text for line in self.session.log.lines[self.row(first) if first else 0:self.row(self.at)]]
+
+    def events(self):
+        """How many events the run has so far."""
+        return bisect.bisect_left(self.session.log.events, self.row(self.at), key=lambda event: event.row)
+
+    def threads(self):
+        """Where each thread stands, by its number in rising order."""
+        found = {}
+        for at, number, state, cell in self.machine.states:
+            if at > self.at:
+                break
+            found[number] = Standing(state, cell)
+        for number, standing in sorted(found.items()):
+            if standing.state != "ended":
+                self.place(number, standing)
+        return dict(sorted(found.items()))
+
+    def place(self, number, standing):
+        """Finds the instruction and the variables of a thread: those of its next step, or where it stands at the end."""
+        steps = self.steps_of.get(number, ())
+        next_one = bisect.bisect_left(steps, self.at)
+        if next_one < len(steps):
+            step = self.machine.step(steps[next_one])
+            standing.node, standing.values = step.node, step.values
+        else:
+            frame = self.machine.threads[number].frames[-1]
+            standing.node, standing.values = frame.node, frame.values
 
     def runnable(self):
         """The threads that a pick chooses among."""
-        return [number for number, thread in sorted(self.threads.items()) if thread.state in ("ready", "may time out")]
+        return [number for number, it in self.threads().items() if it.state in ("ready", "may time out")]
 
-    def relations(self):
-        """The relations of the run so far."""
-        return Relations(logs.read_log("\n".join(self.lines)), self.words.rule)
+    def next_thread(self):
+        """The thread that makes the next step; None where no step is left."""
+        return None if self.is_over else self.machine.step(self.at).thread
 
-    def options(self, number):
-        """What the read of a thread's next step chooses among: (position or None, value, what it is); empty where it chooses nothing."""
-        thread = self.threads[number]
-        if thread.state != "ready" or thread.instruction.operation not in ("LOAD", "CMPXCHG"):
-            return []
-        words = thread.instruction.words
-        operands = thread.instruction.operands()
-        cell = self.value_of(thread, operands[0])
-        if cell is None or not cell.startswith("#"):
-            return []
-        relations = self.relations()
-        if thread.instruction.operation == "LOAD":
-            order = words[1] if words[1] != "<" else "NOT_ATOMIC"
-            return [(position, self.value_at(relations, cell, position, thread), "read")
-                    for position in relations.next_options(number, order, cell)]
-        return self.comparison(number, thread, relations, cell)
+    def options(self, number, standing):
+        """What the read of a thread's next step chooses among; empty where it chooses nothing."""
+        node = standing.node
+        if standing.state != "ready" or node.read.word not in OPTIONS:
+            return ()
+        if node.options is None:
+            made_ready(node)
+        return node.options(self.machine, number, standing.values, self.events()) or ()
 
-    def comparison(self, number, thread, relations, cell):
-        """The options of a comparison: success first, then the positions on which it fails."""
-        words, operands = thread.instruction.words, thread.instruction.operands()
-        weak = words[1] == "WEAK"
-        expected = self.value_of(thread, operands[1])
-        positions = relations.next_options(number, words[3 if weak else 2], cell)
-        values = [(position, self.value_at(relations, cell, position, thread)) for position in positions]
-        found = [(positions[0], values[0][1], "succeeds")] if values[0][1] == expected else []
-        return found + [(position, value, "fails") for position, value in values if weak or value != expected]
+    # What is chosen.
 
-    def value_at(self, relations, cell, position, thread):
-        """The value at a position of a cell. An initial value that nobody read is 0 or NULL, and unknown where a script fills cells."""
-        found = relations.value_at(cell, position)
-        if found is not None:
-            return found
-        return UNKNOWN if self.words.is_filled else self.source.zero(thread.instruction.type_name)
+    def step(self, thread=None, option=None):
+        """Goes on by a step of a thread, its read taking an option; what is not given is as the schedule picks it."""
+        place = self.picks_before(self.at)
+        runnable = self.runnable()
+        if len(runnable) > 1:
+            if thread is not None and thread != self.next_thread():
+                self.choose(place, runnable.index(thread))
+            place += 1
+        if option is not None:
+            pick = self.machine.picks[place] if place < len(self.machine.picks) else None
+            if pick and pick.step == self.at and pick.is_read and pick.taken != option:
+                self.choose(place, option)
+        self.at += 1
 
-    def value_of(self, thread, operand):
-        """The printed value of an operand of a thread's next instruction."""
-        return thread.values.get(operand) if operand[0] == "%" else self.source.printed(operand)
+    def run_to(self, line):
+        """Goes on until the next step is on a line of the source, or to the end; at least one step, where one is left."""
+        made = self.machine.made
+        while self.at < len(made):
+            self.at += 1
+            if self.at < len(made) and made[self.at][4] is None and made[self.at][1].instruction.line == line:
+                return
 
-    # Steps.
+    def picks_before(self, at):
+        """How many picks the first steps made, so also how many numbers of the schedule come before those of the next step."""
+        return bisect.bisect_left(self.pick_steps, at)
 
-    def step(self, number, option=0):
-        """Makes one step of a thread; where its read has options it takes the given one."""
-        choice = Choice(number, option)
-        choice.moves, choice.entries, choice.lines, choice.traps = self.moves, len(self.entries), len(self.lines), self.traps
-        choice.threads = {key: thread.copy() for key, thread in self.threads.items()}
-        thread, options = self.threads[number], self.options(number)
-        self.note_pick(choice, "thread", len(self.runnable()), self.runnable().index(number))
-        self.note_pick(choice, "read", len(options), option)
-        for pick in choice.picks:
-            self.copy_numbers.append((self.moves, pick.taken))
-        self.choices.append(choice)
-        try:
-            self.answer_own_trap(thread)
-            self.moves += 1
-            self.look(number)
-        except BaseException:
-            self.back()
-            raise
-        if not self.ending and self.runnable() and len(self.choices) >= self.words.steps:
-            self.ending = f"budget {self.words.steps}"
+    def choose(self, place, number):
+        """Replaces a number of the schedule, and takes back the choices after it."""
+        self.chosen = {at: chosen for at, chosen in self.chosen.items() if at < place}
+        self.chosen[place] = number
+        self.make_run()
 
-    def printed(self):
-        """The lines so far, as a run of these steps prints them."""
-        return self.lines + [self.ending] if self.ending and self.ending.startswith("budget ") else self.lines
+    def back(self, count):
+        """Goes back by steps; what was chosen for them, or after them, is chosen no more."""
+        self.at = max(self.at - count, 0)
+        kept = {at: chosen for at, chosen in self.chosen.items() if at < self.picks_before(self.at)}
+        if kept != self.chosen:
+            self.chosen = kept
+            self.make_run()
 
-    def note_pick(self, choice, what, options, taken):
-        """Keeps a pick that takes a number of the schedule."""
-        if options > 1:
-            choice.picks.append(Pick(len(self.choices), what, options, taken))
-
-    def answer_own_trap(self, thread):
-        """A trap of the bundle takes the next entry of its own script; without one the run stops."""
-        if thread.state != "ready" or thread.instruction.operation not in ("TRAP", "WATCHPOINT"):
-            return
-        if thread.instruction.operation == "WATCHPOINT" and not self.is_watched(thread.instruction):
-            return
-        if self.auto:
-            self.entries.append("{ pass (" + " ".join(map(zero_name, thread.instruction.list_at(1))) + ") }")
-        else:
-            self.entries.append(self.script[self.traps] if self.traps < len(self.script) else "{ stop }")
-        self.traps += 1
-
-    def is_watched(self, instruction):
-        """Whether the watchpoint of an instruction is enabled, by the entries that were used."""
-        number, watched = number_value(instruction.words[1]), False
-        for entry in self.script[:self.traps]:
-            for word, operand in re.findall(r"\b(watch|unwatch)\s+(\w+)", entry):
-                if number_value(operand) == number:
-                    watched = word == "watch"
-        return watched
-
-    def look(self, number):
-        """Runs the copy up to the last move, reads what the step of a thread made, and lets the threads that go on stand at their traps."""
-        added = self.run_copy()
-        thread = self.threads[number]
-        waited, thread.values = thread.values, {}
-        gates = [number]
-        for line in added:
-            if type(line) is logs.Event:
-                if line.kind == "thread":
-                    self.threads[line.other] = Thread()
-                    gates.append(line.other)
-                elif line.kind == "woken":
-                    self.threads[line.thread].state = "ready"
-                    gates.append(line.thread)
-                elif line.kind == "read" and visible_kind(thread.instruction) == "wait":
-                    self.begin_wait(thread, line, waited)
-            elif type(line) is logs.Record and line.kind in ("returned", "exited"):
-                self.threads[line.thread].state = "ended"
-            elif type(line) is logs.Record and line.kind == "timed":
-                thread.state = "ready"
-        self.open_gates([it for it in gates if self.threads[it].state == "ready"])
-
-    def begin_wait(self, thread, event, values):
-        """A futex wait that found its value waits."""
-        words = thread.instruction.words
-        operand = words[words.index("(") + 2]
-        expected = values.get(operand) if operand[0] == "%" else self.source.printed(operand)
-        if event.value == expected:
-            limited = "@uvm.futex.wait_timeout" in words
-            thread.state, thread.cell = "may time out" if limited else "waits", event.cell
-
-    def open_gates(self, numbers):
-        """Lets threads make the trap before their next instruction, and reads where they stand."""
-        if self.ending:
-            return
-        for number in numbers:
-            runnable = self.runnable()
-            if len(runnable) > 1:
-                self.copy_numbers.append((self.moves, runnable.index(number)))
-            self.entries.append("{ kept 0 pass () }")
-            self.moves += 1
-        if numbers:
-            self.run_copy()
-        for number in numbers:
-            if self.threads[number].instruction is None and not self.ending:
-                raise Failure("the copy with traps did not come to the next instruction; the run cannot be followed further")
-
-    def run_copy(self):
-        """Runs the copy for all moves so far; returns the lines of the bundle's own steps that are new."""
-        self.folder.write("schedule", " ".join(str(taken) for _, taken in self.copy_numbers) + "\n")
-        self.folder.write("client", "\n".join(self.entries) + "\n")
-        options = dict(auto=None, client=self.client, schedule=self.schedule, steps=self.moves)
-        words = self.words.with_options(**options)
-        words[1] = self.bundle
-        output, _ = call(self.program, words)
-        if logs.is_refusal(output):
-            raise Failure(f"the copy with traps is refused: {output.strip()}")
-        return self.read_copy(logs.read_log(output))
-
-    def read_copy(self, log):
-        """Takes the traps out of the copy's lines, and numbers the events as the bundle's run does."""
-        lines, numbers, at, kept = [], {}, 0, log.lines
-        while at < len(kept):
-            line = kept[at]
-            trap = kept[at + 1] if type(line) is logs.Event and line.kind == "leave" and at + 1 < len(kept) else None
-            if type(trap) is logs.Record and trap.kind == "trap" and original_index(trap.place[1])[1]:
-                at = self.read_gate(kept, at + 1)
-                continue
-            lines.append(self.original_line(line, numbers))
-            at += 1
-        if lines and lines[-1].startswith("budget "):
-            lines.pop()
-        elif lines and type(log.ending) is logs.Ending:
-            self.ending = lines[-1]
-        before = len(self.lines)
-        if lines[:before] != self.lines:
-            raise Failure("the copy with traps went another way than before; the run cannot be followed further")
-        self.lines = lines
-        return [logs.read_line(row, text) for row, text in enumerate(lines)][before:]
-
-    def read_gate(self, lines, at):
-        """Reads a trap of the copy: where its thread stands, and its variables; returns the row after it."""
-        trap = lines[at]
-        instruction = instruction_at(self.source, trap.place)
-        thread = self.threads.get(trap.thread)
-        kept = lines[at + 1].text if at + 1 < len(lines) else ""
-        if thread is not None and thread.state == "ready":
-            thread.instruction = instruction
-            thread.values = dict(zip(kept_variables(instruction), VALUE.findall(kept)[2:]))
-        return at + 3
-
-    def original_line(self, line, numbers):
-        """The text of a line of the copy as the bundle's run has it."""
-        words = line.text.split(" ")
-        if type(line) is logs.Event:
-            numbers[line.number] = len(numbers)
-            words[0] = str(numbers[line.number])
-            if line.kind == "woken":
-                words[3] = str(numbers[line.other])
-        elif getattr(line, "place", None):
-            at = words.index(line.place[0]) + 1
-            words[at] = str(original_index(line.place[1])[0])
-            if type(line) is logs.Ending and line.race:
-                words[-1] = str(numbers[line.race_with])
-        return " ".join(words)
-
-    def back(self):
-        """Takes the last step back."""
-        choice = self.choices.pop()
-        self.moves, self.entries = choice.moves, self.entries[:choice.entries]
-        self.copy_numbers = [it for it in self.copy_numbers if it[0] < choice.moves]
-        self.lines, self.threads, self.traps, self.ending = self.lines[:choice.lines], choice.threads, choice.traps, None
-
-    # What was done.
-
-    def numbers(self):
-        """The schedule of the steps so far."""
-        return [pick.taken for choice in self.choices for pick in choice.picks]
-
-    def agrees(self):
-        """Whether the bundle's own run by that schedule prints the same lines."""
-        self.folder.write("own", " ".join(map(str, self.numbers())) + "\n")
-        output, _ = call(self.program, self.words.with_options(schedule=self.own_schedule, steps=len(self.choices)))
-        lines = output.splitlines()
-        if lines and lines[-1].startswith("budget "):
-            lines.pop()
-        return lines == self.lines
+    def picks(self):
+        """The picks of the steps so far."""
+        return self.machine.picks[:self.picks_before(self.at)]

@@ -7,7 +7,9 @@ import contextlib
 import random
 import sys
 
-from session import Failure, Folder, Words, call, guarded
+from command import Call, answer
+from failure import Failure
+from session import Folder
 
 BELOW = 60
 FIRST_LENGTH = 256
@@ -29,10 +31,10 @@ def text_of(numbers):
 class Seeded:
     """The schedule of a seed for a run: the shortest beginning of the seed's numbers that was found to give the same output."""
 
-    def __init__(self, program, words, seed, folder):
-        if "--schedule" in words.options:
+    def __init__(self, program, call, seed, folder):
+        if "--schedule" in call.options:
             raise Failure("--seed makes a schedule, so it does not go with --schedule")
-        self.program, self.words, self.folder = program, words, folder
+        self.program, self.call, self.folder = program, call, folder
         self.path = folder.write("schedule", "")
         self.numbers = numbers_of(seed, FIRST_LENGTH)
         output = self.output_of(self.numbers)
@@ -47,7 +49,7 @@ class Seeded:
     def output_of(self, numbers):
         """What the run prints by a schedule."""
         self.folder.write("schedule", text_of(numbers))
-        return call(self.program, self.words.with_options(schedule=self.path))
+        return answer(self.program, self.call.words(schedule=self.path))
 
     def shorten(self, output):
         """Drops numbers at the end that make no difference; more of them than are found here may make none."""
@@ -74,23 +76,22 @@ def seed_of(options):
 
 @contextlib.contextmanager
 def seeded(program, options, words, tool):
-    """The words of a run; where the options have a seed, with a schedule of its numbers, which is said on standard error."""
-    read = Words(words, tool)
+    """The call of a run; where the options have a seed, with a schedule of its numbers, which is said on standard error."""
+    call = Call.of_run(words, tool)
     seed = seed_of(options)
     if seed is None:
-        yield read
+        yield call
         return
     folder = Folder()
-    made = Seeded(program, read, seed, folder)
+    made = Seeded(program, call, seed, folder)
     print(f"// the schedule of --seed {seed}, with which --schedule replays this run", file=sys.stderr)
     sys.stderr.write(text_of(made.numbers))
-    yield Words(read.with_options(schedule=made.path), tool)
+    yield call.with_options(schedule=made.path)
 
 
-@guarded
 def seed(program, options, words):
     """Runs by the schedule of a seed: prints what the program prints, and on standard error the schedule; returns the status."""
-    with seeded(program, options, words, "--seed") as seeded_words:
-        output, status = call(program, seeded_words.with_options())
+    with seeded(program, options, words, "--seed") as call:
+        output, status = answer(program, call.words())
         sys.stdout.write(output)
         return status

@@ -1,98 +1,15 @@
 """One run of the program for the tools: its words, its source, its output, and what the tools find out about it."""
-import gc
 import os
 import re
-import subprocess
-import sys
 import tempfile
 
+import command
 import log as logs
-import origins
+import machine
 import relations
+import setting
 import source
-
-WITH_VALUE = ("--entry", "--hail", "--client", "--schedule", "--release-sequences", "--steps", "--cells")
-DEFAULT_STEPS = 200000
-MOST_STEPS = 1000000
-# A run of more lines is not made again to find an instruction.
-MOST_LINES_TO_COPY = 500
-WRONG_WORDS = 1
-
-
-class Failure(Exception):
-    """A tool cannot go on. `status` is what the tool's call ends with; the text is for people."""
-
-    def __init__(self, text, status=WRONG_WORDS):
-        super().__init__(text)
-        self.status = status
-
-
-class Words:
-    """The words of a run: `file`, and its options by their names. `--auto` has the value True."""
-
-    def __init__(self, words, tool):
-        if len(words) < 2 or words[0] != "run":
-            raise Failure(f"{tool} shows a run: put it before `run FILE --entry @NAME ..`")
-        self.file, self.options = words[1], {}
-        at = 2
-        while at < len(words):
-            name = words[at]
-            if name == "--auto":
-                self.options[name] = True
-                at += 1
-            elif name in WITH_VALUE and at + 1 < len(words):
-                self.options[name] = words[at + 1]
-                at += 2
-            else:
-                raise Failure(f"{tool} cannot read the word {name}; the program answers: usage")
-
-    def with_options(self, **changes):
-        """The words of the same run with other values; None takes an option away. Names are written with `_` for `-`."""
-        options = dict(self.options)
-        for name, value in changes.items():
-            options.pop(f"--{name.replace('_', '-')}", None)
-            if value is not None:
-                options[f"--{name.replace('_', '-')}"] = value
-        return words_of(self.file, options)
-
-    @property
-    def entry(self):
-        """The function that the run begins with."""
-        return self.options.get("--entry")
-
-    @property
-    def is_filled(self):
-        """Whether a HAIL script may have filled cells."""
-        return "--hail" in self.options
-
-    @property
-    def rule(self):
-        """The rule for release sequences."""
-        return self.options.get("--release-sequences", "c11")
-
-    @property
-    def steps(self):
-        """How many steps the run may make."""
-        text = self.options.get("--steps", "")
-        return int(text) if text.isdigit() else DEFAULT_STEPS
-
-
-def words_of(file, options):
-    """The words of a run."""
-    words = ["run", file]
-    for name, value in options.items():
-        words += [name] if value is True else [name, str(value)]
-    return words
-
-
-def call(program, words):
-    """The output and the status of the program for some words."""
-    try:
-        done = subprocess.run([program, *words], stdin=subprocess.DEVNULL, capture_output=True, check=False)
-    except OSError as error:
-        raise Failure(f"{program}: {error.strerror}") from error
-    return done.stdout.decode("latin-1"), done.returncode
-
+from failure import Failure
 
 def read_file(name):
     """The text of a file, a character for each byte."""
@@ -104,11 +21,11 @@ def read_file(name):
 
 
 class Session:
-    """A run, made. The source, the relations and the origins of lines are found when they are first asked for."""
+    """A run, made, or read where its output is given. What the tools find out about it is found when it is first asked for."""
 
-    def __init__(self, program, words):
-        self.program, self.words = program, words
-        self.output, self.status = call(program, words.with_options())
+    def __init__(self, program, call, output=None):
+        self.program, self.call = program, call
+        self.output, self.status = command.answer(program, call.words()) if output is None else (output, None)
         self.log = logs.read_log(self.output)
         self.found = {}
 
@@ -123,56 +40,46 @@ class Session:
         """Whether the run never began."""
         return logs.is_refusal(self.output)
 
+    def text_of(self, option):
+        """The text of the file that an option of the run names; empty without the option."""
+        name = self.call.options.get(option)
+        return read_file(name) if name else ""
+
     @property
     def source(self):
         """The bundle's source."""
-        return self.once("source", lambda: source.Source(read_file(self.words.file)))
+        return self.once("source", lambda: source.Source(read_file(self.call.bundle)))
 
     @property
     def relations(self):
         """What the memory model says of the log."""
-        return self.once("relations", lambda: relations.Relations(self.log, self.words.rule))
+        return self.once("relations", lambda: relations.Relations(self.log, self.call.rule))
 
     @property
-    def origins(self):
-        """The instructions that made the lines."""
-        return self.once("origins", self.find_origins)
+    def machine(self):
+        """The run, gone through step by step."""
+        return self.once("machine", lambda: machine.Machine(setting.Setting(self)).follow())
 
-    def follow_origins(self):
-        """The instructions as far as the log and the source show them."""
-        return origins.Origins(self.log, self.source, self.words.entry, self.client_throws())
-
-    def find_origins(self):
-        """The instructions; where the log and the source leave several for a line of a short run, a copy with traps shows which."""
-        found = self.follow_origins()
-        open_rows = [event.row for event in self.log.events if len(found.of_row[event.row]) != 1]
-        if open_rows and len(self.log.lines) <= MOST_LINES_TO_COPY:
-            from picks import origins_by_copy
-            by_copy = origins_by_copy(self)
-            for row in open_rows:
-                if row in by_copy:
-                    found.of_row[row] = [by_copy[row]]
-        return found
+    @property
+    def instructions(self):
+        """Of each row of the output the instruction that made it, or None."""
+        return self.once("instructions", lambda: self.machine.instruction_of_rows())
 
     @property
     def cell_names(self):
         """The names of the cells of globals."""
         return self.once("cell_names", self.source.cell_names)
 
-    def client_throws(self):
-        """Whether the client script may throw."""
-        name = self.words.options.get("--client")
-        return name is not None and "throw" in read_file(name)
-
     def initial(self, cell):
-        """The value that a cell begins with, where it is known: from a read of it, or because nothing but zero and NULL can stand in it."""
-        found = self.relations.value_at(cell, 0)
-        return found if found is not None else self.zero(cell)
+        """The text of the value that a cell begins with: as a read or the HAIL script says, else 0 or NULL by the type of a global's cell.
 
-    def zero(self, cell):
-        """0 or NULL, as the type of a global's cell has it; None where a HAIL script may have filled it, and of other objects."""
+        None where only a program could tell: the cell is of an object that the run made.
+        """
+        found = self.relations.value_at(cell, 0)
+        if found is None:
+            found = self.machine.setting.initial(cell)
         types = self.once("cell_types", self.source.cell_types)
-        return self.source.zero(types[cell]) if cell in types and not self.words.is_filled else None
+        return self.source.zero(types[cell]) if found is None and cell in types else found
 
 
 CELL = re.compile(r"#\d+\+\d+")
@@ -197,22 +104,3 @@ class Folder:
         with open(path, "w", encoding="latin-1") as file:
             file.write(text)
         return path
-
-
-def guarded(tool):
-    """A tool that says its failures on standard error, and ends quietly where its output is closed."""
-    def run(program, options, words):
-        # A call is short, and what it makes lives to its end.
-        gc.disable()
-        try:
-            status = tool(program, options, words)
-            sys.stdout.flush()
-            return status
-        except Failure as failure:
-            print(f"mu: {failure}", file=sys.stderr)
-            return failure.status
-        except BrokenPipeError:
-            os.dup2(os.open(os.devnull, os.O_WRONLY), sys.stdout.fileno())
-            return 0
-    run.__doc__ = tool.__doc__
-    return run

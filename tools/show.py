@@ -11,7 +11,7 @@ from log import Ending, Event, Record
 from paint import Paint
 from relations import INITIAL
 from seeds import seeded
-from session import Session, guarded, named
+from session import Session, named
 
 # With more threads than these, or wider columns, all threads stand in one column.
 MOST_COLUMNS = 4
@@ -99,10 +99,11 @@ class Table:
 
     def __init__(self, session, paint, width):
         self.session, self.paint, self.width = session, paint, width
-        self.lines = session.log.lines
+        self.lines, self.names = session.log.lines, session.cell_names
         self.incoming = {}
         for edge in session.relations.edges:
             self.incoming.setdefault(edge.target, []).append(edge.source)
+        self.instructions, self.relations = session.instructions, session.relations
         self.texts = [self.own_text(line) for line in self.lines]
         self.owners = self.find_owners()
         self.columns = self.find_columns()
@@ -111,7 +112,7 @@ class Table:
 
     def own_text(self, line):
         """The text of a line in its column: without number and thread."""
-        text = named(line.text, self.session.cell_names)
+        text = named(line.text, self.names)
         if type(line) is Event:
             return text.split(" ", 2)[2]
         if type(line) is Record and line.kind in ("returned", "exited", "trap", "watchpoint"):
@@ -153,9 +154,9 @@ class Table:
         if type(line) is not Event:
             return ""
         said = []
-        writer = self.session.relations.reads_from.get(line.number)
+        writer = self.relations.reads_from.get(line.number)
         if writer is not None:
-            old = " (old)" if self.session.relations.is_old(line.number) else ""
+            old = " (old)" if self.relations.is_old(line.number) else ""
             said.append(("from initial" if writer == INITIAL else f"from {writer}") + old)
         sources = self.incoming.get(line.number)
         if sources:
@@ -163,13 +164,11 @@ class Table:
         return ", ".join(said)
 
     def source_text(self, line):
-        """The line of the source that made a line of the run, as far as it is known."""
-        found = self.session.origins.of_row[line.row]
-        if len(found) == 1:
-            return found[0].shown
-        if found:
-            return "one of lines " + " ".join(str(number) for number in sorted({it.line for it in found}))
-        return "line not known" if type(line) is Event else ""
+        """The line of the source that made a line of the run."""
+        found = self.instructions[line.row]
+        if found is None:
+            return "line not known" if type(line) is Event else ""
+        return found.shown
 
     def in_column(self, line):
         """The text of a line at its thread's column, padded to the width of all columns."""
@@ -209,11 +208,10 @@ class Table:
         out.write("\n".join(rows) + "\n")
 
 
-@guarded
 def show(program, options, words):
     """Shows the run that the words ask for; returns the program's status."""
-    with seeded(program, options, words, "--show") as seeded_words:
-        session = Session(program, seeded_words)
+    with seeded(program, options, words, "--show") as call:
+        session = Session(program, call)
         if session.refused:
             sys.stdout.write(session.output)
             return session.status
@@ -222,14 +220,15 @@ def show(program, options, words):
         Table(session, paint, width).print_to(sys.stdout)
         print()
         print(paint(LEGEND, "dim"))
+        if session.machine.lost:
+            print(f"Which lines of the source made the rest is not known: {session.machine.lost}.")
         return session.status
 
 
-@guarded
 def results(program, options, words):
     """Prints the records and the ending of the run that the words ask for; returns the program's status."""
-    with seeded(program, options, words, "--results") as seeded_words:
-        session = Session(program, seeded_words)
+    with seeded(program, options, words, "--results") as call:
+        session = Session(program, call)
         if session.refused:
             sys.stdout.write(session.output)
             return session.status

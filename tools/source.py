@@ -1,69 +1,41 @@
 """The source of a bundle that was accepted, as the tools for runs need it: its names, and each instruction with its place and its line.
 
-`bundle.py` reads the text. An instruction is found by its place: the block's full name and how many instructions stand before it there, as
-a run's output names it. Names may hold dots, so two blocks may have one full name; then a place has more than one instruction.
+`bundle.py` reads the text. The place of an instruction is the block's full name and how many instructions stand before it there, as a run's
+output names it. Names may hold dots, so two blocks may have one full name.
 """
 import bisect
 
 from bundle import Bundle
+from caret import as_read
 from text_reader import number_value
 
-OPEN = {"(": ")", "[": "]", "{": "}", "<": ">"}
-CLOSED = {mark: opened for opened, mark in OPEN.items()}
 # The most leaves of an object that are given names of their own.
 MOST_NAMES = 4096
 
 
 class Instruction:
-    """One instruction. `words` are its tokens from the operation on; `start` is the offset of its first token, `line` that line.
+    """One instruction. `read` is the instruction as `bundle.py` has it; `start` is the offset of its first token, `line` that line.
 
     `shown` is the line and the text, for people.
     """
 
-    __slots__ = ("place", "block", "index", "results", "operation", "words", "start", "line", "shown")
+    __slots__ = ("read", "place", "block", "index", "results", "operation", "start", "line", "shown")
 
-    def __init__(self, block, index, results, words, start, line, text):
-        self.block, self.index, self.results, self.words = block, index, results, words
-        self.operation = words[0]
-        self.place = (block.name, index)
-        self.start, self.line = start, line
-        self.shown = f"{line}: {written(text)}"
-
-    @property
-    def type_name(self):
-        """The first type of the form, which of an access is that of its cell."""
-        return self.words[self.words.index("<") + 1]
-
-    def list_after(self, word):
-        """The tokens of the first list in brackets after a word, without the brackets; None where the word is not there."""
-        if word not in self.words:
-            return None
-        return self.list_at(self.words.index(word) + 1)
-
-    def list_at(self, at):
-        """The tokens of the list in brackets that opens at or after a token, without the brackets."""
-        while at < len(self.words) and self.words[at] not in OPEN:
-            at += 1
-        depth, first = 0, at + 1
-        for here in range(at, len(self.words)):
-            depth += (self.words[here] in OPEN) - (self.words[here] in CLOSED)
-            if depth == 0:
-                return self.words[first:here]
-        return self.words[first:]
-
-    def operands(self):
-        """The tokens after the types of the form, which an access has first, up to the first clause."""
-        at = self.words.index(">") + 1 if ">" in self.words else 1
-        return self.words[at:]
+    def __init__(self, block, read, line, text):
+        self.read, self.block, self.index, self.results = read, block, read.index, texts(read.results)
+        self.operation = read.operation.text
+        self.place = (block.name, read.index)
+        self.start, self.line = read.start.start, line
+        self.shown = f"{line}: {as_read(text)}"
 
 
 class Block:
     """One block. `name` is its full name, and `variables` are those that it begins with: its parameters and its handler."""
 
-    __slots__ = ("function", "label", "name", "variables", "instructions")
+    __slots__ = ("read", "function", "label", "name", "variables", "instructions")
 
     def __init__(self, function, read):
-        self.function, self.label, self.name = function, read.name.text, read.full_name
+        self.read, self.function, self.label, self.name = read, function, read.name.text, read.full_name
         self.variables = [name.text for _, name in read.parameters] + ([read.handler.text] if read.handler else [])
         self.instructions = []
 
@@ -96,15 +68,11 @@ class Source:
         self.text = text
         self.lines = [line.rstrip("\r") for line in text.split("\n")]
         read = self.bundle = Bundle(text)
-        self.words = [token.text for token in read.tokens]
         self.starts = [token.start for token in read.tokens]
         self.types = {name: (it.word, texts(it.arguments)) for name, it in read.types.items()}
-        self.signatures = {name: (texts(it.parameters), texts(it.results)) for name, it in read.signatures.items()}
-        self.constants = {name: (it.type.text, it.literal.text) for name, it in read.constants.items()}
         self.globals = [(name, it.type.text) for name, it in read.globals.items()]
         self.global_numbers = {name: number for number, (name, _) in enumerate(self.globals)}
-        self.declared = set(read.declarations)
-        self.instructions, self.at_place, self.widths, self.functions = [], {}, {}, {}
+        self.instructions, self.widths, self.functions = [], {}, {}
         for name, function in read.functions.items():
             self.functions[name] = self.function(function)
 
@@ -118,21 +86,13 @@ class Source:
 
     def instruction(self, block, read):
         """An instruction of a block."""
-        first, last = (bisect.bisect_left(self.starts, offset) for offset in (read.operation.start, read.end))
-        begin = bisect.bisect_left(self.starts, read.start.start)
-        line = self.bundle.source.line(read.start.start)
-        text = " ".join(part for part in self.text[read.start.start:read.end].split() if part)
+        first, last = (bisect.bisect_left(self.starts, offset) for offset in (read.start.start, read.end))
+        text = " ".join(self.text[read.start.start:read.end].split())
         if "//" in text:
-            text = " ".join(self.words[begin:last])
-        instruction = Instruction(block, read.index, texts(read.results), self.words[first:last], read.start.start, line, text)
+            text = " ".join(texts(self.bundle.tokens[first:last]))
+        instruction = Instruction(block, read, self.bundle.source.line(read.start.start), text)
         self.instructions.append(instruction)
-        self.at_place.setdefault(instruction.place, []).append(instruction)
         return instruction
-
-    def only_at(self, place):
-        """The instruction at a place, or None where two blocks share the name."""
-        found = self.at_place.get(place, [])
-        return found[0] if len(found) == 1 else None
 
     def leaves(self, name, path, found):
         """Adds the leaves of a type to `found`, at most MOST_NAMES of them: the path of each and the name of its type."""
@@ -174,23 +134,6 @@ class Source:
     def zero(self, type_name):
         """What a cell of a type holds that nothing filled."""
         return "NULL" if self.width(type_name) is None else "0"
-
-    def printed(self, name):
-        """The text that a run prints for the value that a global name stands for as an operand; None where it is not one scalar."""
-        if name in self.global_numbers:
-            return f"#{self.global_numbers[name]}+0"
-        if name in self.functions or name in self.declared:
-            return name
-        type_name, literal = self.constants.get(name, (None, "{"))
-        if literal == "NULL":
-            return "NULL"
-        width = self.width(type_name)
-        return None if literal == "{" or width is None else str(number_value(literal) % (1 << width))
-
-
-def written(text):
-    """A text of the source for people: its bytes as UTF-8 where they are that."""
-    return text.encode("latin-1").decode("utf-8", "replace")
 
 
 def texts(tokens):

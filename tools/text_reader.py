@@ -95,7 +95,7 @@ def lexical_fault(token):
 
 
 def tokens_of(text):
-    """All tokens of a text, and one of the kind `end` behind the last."""
+    """All tokens of a text, and one of the kind `end` after the last."""
     found = []
     for match in _TOKEN.finditer(text):
         if match.lastgroup != "blank":

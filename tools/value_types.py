@@ -1,7 +1,7 @@
 """Types of a bundle, and which type each value has.
 
 A type is written as a text: the name of a `.typedef` (`@i64`), or a type that the forms build of names (`iref<@i64>`, `int<1>`,
-`ref<void>`). Functions take the bundle first. What cannot be told, since a name is not defined or a number is out of range, is None.
+`ref<void>`). Functions take the bundle first. What is not known, since a name is not defined or a number is out of range, is None.
 """
 import re
 import typing

@@ -1,5 +1,7 @@
 """`--show`, `--results` and `--seed`."""
+import itertools
 import re
+import tempfile
 
 from tests.helpers import Failures, run, runs, tool, words_of
 
@@ -47,7 +49,7 @@ def main(program):
         failures.check(len(rows_of(shown)) == events, f"--show {name}: {len(rows_of(shown))} rows for {events} events")
         found, _, code = tool(program, "--results", *words_of(name))
         failures.check((found, code) == (results_by_hand(output), status), f"--results {name}: {found!r}")
-    failures += race(program) + seeds(program)
+    failures += race(program) + seeds(program) + all_outcomes(program)
     return failures
 
 
@@ -80,9 +82,20 @@ def seeds(program):
     return failures
 
 
+def all_outcomes(program):
+    """The 128 lists of seven numbers 0 and 1 give all four outcomes of store buffering, as docs/GUIDE.md says."""
+    failures, found, words = Failures(), set(), words_of("stores_cross_between_threads")[:4]
+    for numbers in itertools.product("01", repeat=7):
+        schedule = words_file(" ".join(numbers))
+        output, _ = run(program, [*words, "--schedule", schedule.name])
+        found.add(tuple(sorted(line for line in output.splitlines() if line.startswith("returned"))))
+    wanted = {(f"returned t0 {first}", f"returned t1 {second}") for first in "01" for second in "01"}
+    failures.check(found == wanted, f"128 schedules give {sorted(found)}")
+    return failures
+
+
 def words_file(text):
     """A file with a text, which lives as long as the value."""
-    import tempfile
     file = tempfile.NamedTemporaryFile("w", suffix=".schedule")
     file.write(text)
     file.flush()

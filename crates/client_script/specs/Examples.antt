@@ -1,5 +1,5 @@
 -- Worked examples: what texts of scripts mean, each action and each reply once.
-use Rattle.std.specs.Prelude.{◌≡◌, refl, true, false, [], ◌∷◌, codes}
+use Rattle.std.specs.Prelude.{None, ◌≡◌, refl, true, false, [], ◌∷◌, codes}
 use Rattle.type_laws.specs.Same.{alike}
 use Rattle.type_laws.specs.Leaves.{leaves_to}
 use Rattle.bundle_constants.specs.Values.{values_to}
@@ -28,10 +28,10 @@ function = Told (3, Func 0 ∷ [])
 
 texts_mean :
     (script_entries sample (codes "") ≡ [])
-    × (script_entries sample (codes "{ frames kept 1 watch 2 unwatch 3 exit } { stop }") ≡ record { actions = TellFrames ∷ TellKept 1 ∷ Watch 2 true ∷ Watch 3 false ∷ []; reply = Exit } ∷ record { actions = []; reply = Stop } ∷ [])
-    × (script_entries sample (codes "{pass()}{pass(@k kept 0 1 @g @f)}") ≡ record { actions = []; reply = Resume (Pass []) } ∷ record { actions = []; reply = Resume (Pass (constant ∷ KeptValue 0 1 ∷ cell ∷ function ∷ [])) } ∷ [])
-    × (script_entries sample (codes "{ throw @k } { throw kept 2 3 }") ≡ record { actions = []; reply = Resume (Throw constant) } ∷ record { actions = []; reply = Resume (Throw (KeptValue 2 3)) } ∷ [])
-    × (script_entries sample (codes "{ rebind kept 0 0 pass (@k) } { rebind @k throw @g }") ≡ record { actions = []; reply = Rebind (KeptValue 0 0) (Pass (constant ∷ [])) } ∷ record { actions = []; reply = Rebind constant (Throw cell) } ∷ [])
-    × (script_entries sample (codes "{ kept 0x10 kept 010 watch +5 unwatch -0 kept 4294967295 stop }") ≡ record { actions = TellKept 16 ∷ TellKept 8 ∷ Watch 5 true ∷ Watch 0 false ∷ TellKept 4294967295 ∷ []; reply = Stop } ∷ [])
+    × (script_entries sample (codes "{ frames kept 1 watch 2 unwatch 3 exit } { stop }") ≡ record { actions = TellFrames ∷ TellKept 1 ∷ Watch 2 true ∷ Watch 3 false ∷ []; pop = 0; push = None; reply = Exit } ∷ record { actions = []; pop = 0; push = None; reply = Stop } ∷ [])
+    × (script_entries sample (codes "{pass()}{pass(@k kept 0 1 @g @f)}") ≡ record { actions = []; pop = 0; push = None; reply = Resume (Pass []) } ∷ record { actions = []; pop = 0; push = None; reply = Resume (Pass (constant ∷ KeptValue 0 1 ∷ cell ∷ function ∷ [])) } ∷ [])
+    × (script_entries sample (codes "{ throw @k } { throw kept 2 3 }") ≡ record { actions = []; pop = 0; push = None; reply = Resume (Throw constant) } ∷ record { actions = []; pop = 0; push = None; reply = Resume (Throw (KeptValue 2 3)) } ∷ [])
+    × (script_entries sample (codes "{ rebind kept 0 0 pass (@k) } { rebind @k throw @g }") ≡ record { actions = []; pop = 0; push = None; reply = Rebind (KeptValue 0 0) (Pass (constant ∷ [])) } ∷ record { actions = []; pop = 0; push = None; reply = Rebind constant (Throw cell) } ∷ [])
+    × (script_entries sample (codes "{ kept 0x10 kept 010 watch +5 unwatch -0 kept 4294967295 stop }") ≡ record { actions = TellKept 16 ∷ TellKept 8 ∷ Watch 5 true ∷ Watch 0 false ∷ TellKept 4294967295 ∷ []; pop = 0; push = None; reply = Stop } ∷ [])
 unfolding alike leaves_to values_to tables_of tokens_from tokens_within next_of gap_len words directives common_names elements mark name numeral global count action kept_value argument pass way rebind reply inside entry script
 texts_mean = (refl, refl, refl, refl, refl, refl)

@@ -1,5 +1,5 @@
 -- What an event that fits the log has.
-use Rattle.std.proofs.Common.{◌≡◌, ℕ, suc, true, List, ◌∷◌, slice_index, ap, ◌∙◌}
+use Rattle.std.proofs.Common.{◌∷◌, ◌≡◌, ℕ, suc, true, List, slice_index, ap, ◌∙◌}
 use Rattle.std.proofs.lemmas.Bool.{false≢true}
 use Rattle.mu_values.specs.declared.scalars.Scalar.{Scalar}
 use Rattle.heap_cells.specs.declared.cells.CellId.{CellId}

@@ -28,7 +28,7 @@ syn keyword muOperation SHIFTIREF GETVARPARTIREF LOAD STORE CMPXCHG ATOMICRMW FE
 syn keyword muBranch BRANCH BRANCH2 SWITCH CALL TAILCALL RET THROW WATCHPOINT WPBRANCH
 syn keyword muUpdate XCHG NAND MAX MIN UMAX UMIN
 syn keyword muClause VERSION EXC WPEXC KEEPALIVE RET_WITH PASS_VALUES THROW_EXC KILL_OLD THREADLOCAL WEAK NULL
-syn keyword muClient frames kept watch unwatch pass throw rebind exit stop
+syn keyword muClient frames kept watch unwatch pop push pass throw rebind exit stop
 syn keyword muLeftOut float double vector weakref uptr ufuncptr tagref64 framecursorref irbuilderref CCALL ALLOCAHYBRID
 syn keyword muLeftOut EXTRACTELEMENT INSERTELEMENT SHUFFLEVECTOR BITCAST PTRCAST FADD FSUB FMUL FDIV FREM FPTRUNC FPEXT FPTOUI
 syn keyword muLeftOut FPTOSI UITOFP SITOFP FTRUE FFALSE FUNO FUEQ FUNE FULT FULE FUGT FUGE FORD FOEQ FONE FOLT FOLE FOGT FOGE
