@@ -33,7 +33,9 @@ invariant_of-self-3-clause-threads_hold c =
 pub invariant_of-self-3-clause-rows_hold : goal.invariant_of-self-3-clause-rows_hold
 invariant_of-self-3-clause-rows_hold c =
     let views = c.args.self.now in
-    rw c.push.ensures.events (rows-more views.rule views.tape.events c.args.event views.rows c.add.new.self c.args.clock.now c.args.taken.now (rw views.counted at c.add.ensures.added) views.rows_hold c.requires.knows c.requires.taken)
+    let a = (rw views.counted at c.add.ensures.added) in
+    rw c.push.ensures.events (rows-more views.rule views.tape.events c.args.event views.rows c.add.new.self c.args.clock.now c.args.taken.now
+    (record { threads = a.threads; left = a.left; wakes = a.wakes; fenced = a.fenced; pending = a.pending; joined = a.joined; before = a.before; fences = a.fences }) views.rows_hold c.requires.knows c.requires.taken)
 
 pub invariant_of-self-3-clause-fences_hold : goal.invariant_of-self-3-clause-fences_hold
 invariant_of-self-3-clause-fences_hold c =
