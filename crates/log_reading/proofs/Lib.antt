@@ -1,0 +1,8 @@
+pub mod Chains
+pub mod Digits
+pub mod Few
+pub mod Going
+pub mod Meanings
+pub mod NextFields
+pub mod Numbering
+pub mod Splitting
