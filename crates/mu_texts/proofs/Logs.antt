@@ -11,7 +11,7 @@ use Rattle.log_lines.specs.Texts.{ReadLog, text_read}
 use Rattle.log_reading.specs.Answers.{IsRead, HasFewThreads}
 use Rattle.verdicts.specs.declared.types.Verdict.{Verdict}
 use Rattle.verdicts.specs.Verdicts.{verdict}
-use Rattle.log_judge.specs.Threads.{HaveFewThreads}
+use Rattle.verdicts.specs.Threads.{HaveFewThreads}
 use Rattle.mu_texts.specs.declared.stop.Stop.{Stop}
 use Rattle.mu_texts.specs.declared.stop.Stop.TheVariants.{Line, Memory}
 use Rattle.mu_texts.specs.declared.ready.Ready.{Ready}
