@@ -30,9 +30,13 @@ same_before o p (suc k) same =
     rw (before, here) refl
 
 -- an early end stays
-stays : (o : Outcomes) (n : ℕ) (answer : Answer) → first_bundles o n ≡ Err answer → (m : ℕ) → first_bundles o (n + m) ≡ Err answer
-stays o n answer h zero = h
-stays o n answer h (suc m) = let before : first_bundles o (n + m) ≡ Err answer = stays o n answer h m in rw before refl
+stays : (o : Outcomes) (n : ℕ) (answer : Answer) → first_bundles o n ≡ Err answer → (m : ℕ) → n ≤ m → first_bundles o m ≡ Err answer
+stays o n answer h zero l = let none : n ≡ zero = omega arith in subst (λ (k : ℕ). first_bundles o k ≡ Err answer) none h
+stays o n answer h (suc m) l = by (nat_eq n (suc m)) refl (λ k. stays o n answer h m k)
+  where
+    by : (t : Bool) → nat_eq n (suc m) ≡ t → (n ≤ m → first_bundles o m ≡ Err answer) → first_bundles o (suc m) ≡ Err answer
+    by true e rest = let it : n ≡ suc m = grind (arith, nat_tests) in subst (λ (k : ℕ). first_bundles o k ≡ Err answer) it h
+    by false e rest = let low : n ≤ m = grind (arith, nat_tests) in let before : first_bundles o m ≡ Err answer = rest low in rw before refl
 
 -- ---- outcomes before the file with number k, that of this file, and those after it
 
@@ -108,12 +112,10 @@ module _ (told last : Option Files) (before middle now : ℕ → ℕ) (words : L
   one_refused files (Line text status) l le h =
       let some : (j : ℕ) → (o : Outcome) × AllowsFile at_last words (Joined j) (Some (first + j)) o = λ j. some_named at_last words (Joined j) (Some (first + j)) (le j) in
       let more : Outcomes = others_of some in
-      let e : suc k + (files - suc k) ≡ files = omega arith in
       record {
         outcomes = parted so_far.outcomes k h.outcome more;
         allowed = parted_allowed h.outcome more files h.allowed (λ j a b. (some j).1);
-        comes = subst (λ (n : ℕ). first_bundles (parted so_far.outcomes k h.outcome more) n ≡ Err (line text.items status)) e
-            (stays (parted so_far.outcomes k h.outcome more) (suc k) (line text.items status) (parted_comes h.outcome more (Err (line text.items status)) h.comes) (files - suc k));
+        comes = stays (parted so_far.outcomes k h.outcome more) (suc k) (line text.items status) (parted_comes h.outcome more (Err (line text.items status)) h.comes) files (omega arith);
       }
     where
       others_of : ((j : ℕ) → (o : Outcome) × AllowsFile at_last words (Joined j) (Some (first + j)) o) → Outcomes
