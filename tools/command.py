@@ -6,14 +6,17 @@ import typing
 
 from failure import Failure
 
-USAGE, READ_FAULT, REFUSED, SINK_FAULT, STOP, UNDEFINED, HEAP_FULL, THREADS_FULL, ALL_WAITING, BUDGET, MEMORY, TOO_LONG = range(1, 13)
+USAGE, READ_FAULT, REFUSED, SINK_FAULT, STOP, UNDEFINED, HEAP_FULL, THREADS_FULL, ALL_WAITING, BUDGET, MEMORY, TOO_LONG, NO = range(1, 14)
 
 # The options of `run`: what the next word is; None where there is no next word.
 RUN_OPTIONS = {"--entry": "the name of a function, with its `@`", "--hail": "a file with a HAIL script",
                "--client": "a file with a client script",
                "--schedule": "a file with a schedule", "--steps": "a number from 0 to 1000000", "--cells": "a number from 0 to 1000000",
                "--release-sequences": "c11 or rmw", "--auto": None}
-COMMANDS = {"check": "check FILE", "print": "print FILE", "trial": "trial N, with N from 1 to 1000", "run": "run FILE --entry @NAME"}
+JUDGE_OPTION = "--release-sequences"
+COMMANDS = {"check": "check FILE", "print": "print FILE", "trial": "trial N, with N from 1 to 1000", "run": "run FILE --entry @NAME",
+            "judge": "judge FILE", "join": "join FILE .., with 1 to 16 files"}
+MOST_JOINED = 16
 MOST = {"--steps": 1_000_000, "--cells": 1_000_000}
 DEFAULT_STEPS, DEFAULT_CELLS = 200_000, 100_000
 # The files that a refusal may name besides the bundle, each with the option that names it.
@@ -21,19 +24,22 @@ FILES = {"hail": "--hail", "client": "--client", "schedule": "--schedule"}
 
 
 class Call(typing.NamedTuple):
-    """A call that the program takes: its command, its bundle's file, and its options with their values."""
+    """A call that the program takes: its command, its bundle's file, its options with their values, and for `join` all files."""
 
     command: str
     bundle: str
     options: dict
+    joined: tuple = ()
 
     @classmethod
     def of_words(cls, words):
-        """The call that words are, or None where the command has no bundle."""
-        if len(words) < 2 or words[0] not in ("check", "print", "run"):
+        """The call that words are, or None where the command has no file. The file of `judge` stands in the place of the bundle."""
+        if len(words) < 2 or words[0] not in ("check", "print", "run", "judge", "join"):
             return None
+        if words[0] == "join":
+            return cls(words[0], words[1], {}, tuple(words[1:]))
         options, at = {}, 2
-        while words[0] == "run" and at < len(words):
+        while words[0] in ("run", "judge") and at < len(words):
             has_value = RUN_OPTIONS.get(words[at]) is not None
             options[words[at]] = words[at + 1] if has_value and at + 1 < len(words) else ""
             at += 2 if has_value else 1
@@ -60,8 +66,10 @@ class Call(typing.NamedTuple):
         return self.options.get("--release-sequences", "c11")
 
     def file(self, name):
-        """The path of a file that a refusal names: `bundle`, `hail`, `client` or `schedule`."""
-        return self.bundle if name == "bundle" else self.options.get(FILES[name], "")
+        """The path of a file that a refusal names: `bundle`, `hail`, `client`, `schedule`, `log`, or `bundle K` for `join`."""
+        if name.startswith("bundle "):
+            return self.joined[int(name.split()[1])]
+        return self.bundle if name in ("bundle", "log") else self.options.get(FILES[name], "")
 
     def steps(self):
         """How many steps the run may make."""
@@ -101,7 +109,8 @@ def output(program, words):
 
 def explain_file(call, fields):
     """What is wrong with a file that could not be read, or that is too long."""
-    path = call.file(fields[2])
+    name = " ".join(fields[2:])
+    path = call.file(name)
     if fields[0] == "too":
         return [f"{path}: the file has {os.path.getsize(path)} bytes; at most 1048576 are read"]
     try:
@@ -109,7 +118,7 @@ def explain_file(call, fields):
             file.read(1)
     except OSError as error:
         return [f"{path}: {error.strerror}",
-                f"  it is the file of the {fields[2]}" + ("" if fields[2] == "bundle" else f", by {FILES[fields[2]]}")]
+                f"  it is the file of {'' if name.startswith('bundle ') else 'the '}{name}" + (f", by {FILES[name]}" if name in FILES else "")]
     return []
 
 
@@ -139,6 +148,10 @@ def usage_fault(words):
         return 1, [f"expected: {COMMANDS[words[0]]}"]
     if words[0] == "run":
         return run_fault(words)
+    if words[0] == "judge":
+        return judge_fault(words)
+    if words[0] == "join":
+        return 1 + MOST_JOINED, [f"expected: nothing more; at most {MOST_JOINED} files are joined"]
     if words[0] == "trial" and not is_number(words[1], 1, 1000):
         return 1, ["expected: a number from 1 to 1000, in decimal digits"]
     return 2, [f"expected: nothing more; the command is {COMMANDS[words[0]]}"]
@@ -147,6 +160,15 @@ def usage_fault(words):
 def is_number(word, least, most):
     """Whether a word is a number that the program takes: one to ten decimal digits."""
     return word.isascii() and word.isdigit() and len(word) <= 10 and least <= int(word) <= most
+
+
+def judge_fault(words):
+    """The word at fault of `judge ..`."""
+    if len(words) > 2 and words[2] != JUDGE_OPTION:
+        return 2, [f"`{words[2]}` is no option of judge{near(words[2], [JUDGE_OPTION])}", f"expected: {JUDGE_OPTION}, or nothing more"]
+    if len(words) == 3 or len(words) > 3 and words[3] not in ("c11", "rmw"):
+        return 3, [f"expected: after {JUDGE_OPTION} {RUN_OPTIONS[JUDGE_OPTION]}"]
+    return min(len(words), 4), ["expected: nothing more"]
 
 
 def run_fault(words):

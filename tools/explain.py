@@ -22,6 +22,10 @@ EXPLAINED = (command.USAGE, command.READ_FAULT, command.REFUSED, command.STOP, c
              command.ALL_WAITING, command.BUDGET, command.TOO_LONG)
 
 
+# Faults of joining. A file that is joined is not checked, so it has no other `Duplicate`.
+JOINING = ("Duplicate", "OtherType", "OtherSignature")
+
+
 def explain(program, _options, words):
     """Runs the program with the words and explains its answer. Gives its status."""
     if is_printed_nowhere():
@@ -71,14 +75,29 @@ def of_refusal(call, fields):
     """The lines that explain `refused ..`."""
     if fields[0] == "entry":
         return of_entry(call, fields[1])
-    file, place, fault = fields[0], int(fields[1]), fields[2]
+    file, place, fault = " ".join(fields[:-2]), int(fields[-2]), fields[-1]
     path = call.file(file)
     source = Source.of_file(path)
-    if file == "bundle":
+    if file.startswith("bundle ") and fault in JOINING:
+        details = of_joining(call, int(fields[1]), Bundle(source.text), place)
+    elif file == "log":
+        details = []
+    elif file.startswith("bundle"):
         details = refusals.explain(Bundle(source.text), place, fault)
     else:
         details = scripts.explain(file, call, source, place, fault)
     return [*caret.shown(path, source, place), f"{fault}: {faults.FAULTS.get(fault, '')}", *indented(details)]
+
+
+def of_joining(call, number, bundle, place):
+    """Where an earlier file defines the name that cannot go into the joined bundle."""
+    item = next(item for item in reversed(bundle.items) if item.start.start <= place)
+    for path in call.joined[:number]:
+        earlier = Bundle.of_file(path)
+        found = earlier.definition(item.name.text)
+        if found:
+            return [("earlier", f"{path}:{earlier.source.line(found.start.start)} has {item.name.text}")]
+    return []
 
 
 def of_entry(call, fault):

@@ -34,6 +34,10 @@ FAULTS = {
     "OutOfRange": "an index that no part has, or a number that its width does not hold",
     "HeapFull": "more cells than are left",
     "BadToken": "what is no decimal number",
+    "Lex": "a byte in the line of an event that is no space and no printable character of ASCII",
+    "BadNumber": "an event's number that is not the next, or a number that is out of range",
+    "OtherType": "a name that an earlier file gives to another type",
+    "OtherSignature": "a name that an earlier file gives to another signature, or a function that it gives another one",
     "NoBody": "a function that is only declared",
 }
 

@@ -8,6 +8,7 @@ _mu_functions() {
 _mu() {
   local tools='--explain --show --results --picture --step --picks --seed --check-all'
   local own='--proved --build --gate --install --uninstall --version --help'
+  local of_judge='--release-sequences'
   local of_run='--entry --hail --client --auto --schedule --release-sequences --steps --cells'
   # The words before the cursor. bash breaks words at `@` and `:`, so they are taken from the line.
   local line=${COMP_LINE:0:COMP_POINT} words current before at=1 offered=
@@ -38,15 +39,19 @@ _mu() {
   --entry) offered=$(_mu_functions "$file") ;;
   --release-sequences) offered='c11 rmw' ;;
   --steps | --cells | --seed | trial) return ;;
-  --hail | --client | --schedule | --picture | --check-all | check | print | run)
+  --hail | --client | --schedule | --picture | --check-all | check | print | run | judge | join)
     compopt -o default 2> /dev/null
     return
     ;;
   *)
     case $command in
-    '') offered="check print run trial $tools"
+    '') offered="check print run trial judge join $tools"
       [ "${#words[@]}" -gt 1 ] || offered="$offered $own" ;;
     run) offered=$of_run ;;
+    judge) offered=$of_judge ;;
+    join)
+      compopt -o default 2> /dev/null
+      return ;;
     *) return ;;
     esac
     ;;

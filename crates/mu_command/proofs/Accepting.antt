@@ -1,26 +1,26 @@
 -- Why a text was accepted.
-use Rattle.std.proofs.Common.{◌≡◌, ℕ, true, false, List, ap, sym, subst, refl, Option, Some, None}
+use Rattle.std.proofs.Common.{◌≡◌, ℕ, zero, suc, true, false, List, [], ◌∷◌, ◌++◌, ap, sym, subst, refl, Option, Some, None}
 use Rattle.std.specs.Prelude.{Ok, Err}
 use Rattle.mu_base.specs.declared.status.Status.{Status}
 use Rattle.mu_base.specs.declared.status.Status.TheVariants.{Refused, Usage, SinkFault, Memory}
 use Rattle.mu_base.specs.Outcome.{Outcome, got, failed, too_long}
 use Rattle.ir_tree.specs.declared.items.Item.{Item}
 use Rattle.mu_texts.specs.declared.what.What.{What}
-use Rattle.mu_texts.specs.declared.what.What.TheVariants.{Bundle, Hail, Client, Schedule}
+use Rattle.mu_texts.specs.declared.what.What.TheVariants.{Bundle, Hail, Client, Schedule, Log, Joined}
 use Rattle.mu_texts.specs.declared.ready.Ready.{Ready}
 use Rattle.mu_texts.specs.declared.ready.Ready.TheVariants as ready
 use Rattle.mu_texts.specs.declared.ready.Telling.TheVariants.{Lines, Counts}
-use Rattle.mu_texts.specs.Answer.{Answer, no_answer, Part, ◌>>=◌, as_written, accepted, for_check, for_print, entered, loaded, client_part, scheduled, is_end, ready_part}
-use Rattle.mu_texts.proofs.Accepting.{StopsSo, then, writing, accepting, entering_named, loading, scripting, scheduling}
+use Rattle.mu_texts.specs.Answer.{Answer, no_answer, Part, ◌>>=◌, written_in, as_written, accepted, for_check, for_print, for_judge, for_join, entered, loaded, client_part, scheduled, is_end, ready_part}
+use Rattle.mu_texts.proofs.Accepting.{StopsSo, then, writing_in, writing, joining, judging_log, accepting, entering_named, loading, scripting, scheduling}
 use Rattle.mu_command.specs.declared.job.Job.{Job}
 use Rattle.trial_text.specs.Trial.{trial_text}
-use Rattle.mu_command.specs.declared.job.Job.TheVariants.{Check, Print, Run, Trial}
+use Rattle.mu_command.specs.declared.job.Job.TheVariants.{Check, Print, Run, Trial, Judge, Join}
 use Rattle.mu_command.specs.declared.job.RunJob.{RunJob}
 use Rattle.mu_command.specs.Job.{job_of, word}
-use Rattle.mu_command.specs.Answer.{Outcomes, fetched, judged, begun, trial_begun, found, answer_of}
+use Rattle.mu_command.specs.Answer.{Outcomes, fetched, judged, begun, trial_begun, first_bundles, found, answer_of}
 use Rattle.mu_command.specs.Allowed.{Seen, AllowsJob}
 use Rattle.mu_command.specs.Written.{IsWhole, Writes}
-use Rattle.mu_command.proofs.Way.{after_entry, after_objects, after_client, after_picks}
+use Rattle.mu_command.proofs.Way.{after_entry, after_objects, after_client, after_picks, after_bundles}
 use Rattle.mu_command.proofs.Trials.{entry_word, usual_run, no_files}
 use Rattle.mu_command.specs.Central.{Answered, OfJob, IsAccepted}
 
@@ -36,6 +36,13 @@ module _ (P : Answer → Type 0) (refused : (answer : Answer) → answer.status 
       (λ objects. then P (judged Client (client_part code r.auto) (o Client)) (after_client r code o n objects) (judging Client (o Client) (client_part code r.auto) (fetching Client) (scripting P refused memory code r.auto))
       (λ client. then P (judged Schedule scheduled (o Schedule)) (after_picks r code o n objects client) (judging Schedule (o Schedule) scheduled (fetching Schedule) (scheduling P refused memory)) (λ picks. tt))))
 
+  bundling : (o : Outcomes) → ((what : What) → StopsSo P (fetched what (o what))) → (n : ℕ) → StopsSo P (first_bundles o n)
+  bundling o fetching zero = tt
+  bundling o fetching (suc k) =
+      then P (first_bundles o k) (after_bundles o k) (bundling o fetching k)
+      (λ bundles. then P (judged (Joined k) (written_in (Joined k)) (o (Joined k))) (λ bundle. Ok (bundles ++ bundle ∷ []))
+      (judging (Joined k) (o (Joined k)) (written_in (Joined k)) (fetching (Joined k)) (writing_in P refused memory (Joined k))) (λ bundle. tt))
+
   pub finding_all : (words : List (List ℕ)) (o : Outcomes) → ((what : What) → StopsSo P (fetched what (o what))) → (job : Job) → StopsSo P (found words job o)
   finding_all words o fetching (Check file) =
       judging Bundle (o Bundle) for_check (fetching Bundle) (λ bytes. then P (accepted bytes) (λ code. Ok ready.Accepted) (accepting P refused memory bytes) (λ code. tt))
@@ -47,6 +54,8 @@ module _ (P : Answer → Type 0) (refused : (answer : Answer) → answer.status 
   finding_all words o fetching (Trial n) =
       then P (accepted (trial_text n)) (λ code. trial_begun code >>= λ start. Ok (ready.Entered code start (Counts n))) (accepting P refused memory (trial_text n))
       (λ code. then P (trial_begun code) (λ start. Ok (ready.Entered code start (Counts n))) (beginning entry_word no_files (λ what. tt) usual_run code) (λ start. tt))
+  finding_all words o fetching (Judge file rule) = judging Log (o Log) (for_judge rule) (fetching Log) (judging_log P refused memory rule)
+  finding_all words o fetching (Join first files) = then P (first_bundles o files) for_join (bundling o fetching files) (joining P refused memory)
 
 -- ---- no early end has a status of what is accepted
 

@@ -8,7 +8,7 @@ use Rattle.mu_base.specs.Outcome.{Outcome, got}
 use Rattle.mu_base.proofs.Outcomes.{some_outcome}
 use Rattle.mu_model.specs.Clients as clients
 use Rattle.mu_texts.specs.declared.what.What.{What}
-use Rattle.mu_texts.specs.declared.what.What.TheVariants.{Bundle, Hail, Client, Schedule}
+use Rattle.mu_texts.specs.declared.what.What.TheVariants.{Bundle, Hail, Client, Schedule, Log, Joined}
 use Rattle.mu_texts.specs.declared.stop.Stop.{Stop}
 use Rattle.mu_texts.specs.declared.stop.Stop.TheVariants.{Line, Memory}
 use Rattle.mu_texts.specs.What.{slot_of}
@@ -49,6 +49,8 @@ outcomes_with h k s Bundle = got []
 outcomes_with h k s Hail = h
 outcomes_with h k s Client = k
 outcomes_with h k s Schedule = s
+outcomes_with h k s Log = got []
+outcomes_with h k s (Joined n) = got []
 
 module _ (last : Seen) (words : List (List ℕ)) (r : RunJob) (code : List Item) (le : (s : ℕ) → last.before s ≤ last.now s) where
   -- no function is entered

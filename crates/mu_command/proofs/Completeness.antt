@@ -1,16 +1,17 @@
 -- Where files are told and nothing fails, there is one answer.
-use Rattle.std.proofs.Common.{◌≡◌, ap, ℕ, ◌-◌, ◌^◌, ◌<◌, ◌≤◌, List, length, refl, sym, ◌∙◌, subst, inl, inr, Option, Some, None, true, false, arith}
+use Rattle.std.proofs.Common.{◌≡◌, ap, ℕ, zero, suc, ◌-◌, ◌^◌, ◌<◌, ◌≤◌, List, length, refl, sym, ◌∙◌, subst, inl, inr, Option, Some, None, true, false, arith}
 use Rattle.std.specs.Prelude.{nat_le, IsSomeAnd}
 use Rattle.std.proofs.lemmas.Bool.Decides.{nat_tests}
 use Rattle.mu_base.specs.declared.status.Status.{Status}
 use Rattle.mu_base.specs.Files.{Files, file}
 use Rattle.mu_base.specs.Outcome.{Outcome, got, failed, too_long, Allows}
+use Rattle.ir_tree.specs.declared.items.Item.{Item}
 use Rattle.mu_command.specs.declared.job.Job.{Job}
-use Rattle.mu_command.specs.declared.job.Job.TheVariants.{Check, Print, Run, Trial}
-use Rattle.mu_texts.specs.Answer.{ready_part}
-use Rattle.mu_command.specs.Answer.{Outcomes, found, answer_of}
+use Rattle.mu_command.specs.declared.job.Job.TheVariants.{Check, Print, Run, Trial, Judge, Join}
+use Rattle.mu_texts.specs.Answer.{Part, ◌>>=◌, for_join, ready_part}
+use Rattle.mu_command.specs.Answer.{Outcomes, first_bundles, found, answer_of}
 use Rattle.mu_texts.specs.declared.what.What.{What}
-use Rattle.mu_texts.specs.declared.what.What.TheVariants.{Bundle, Hail, Client, Schedule}
+use Rattle.mu_texts.specs.declared.what.What.TheVariants.{Bundle, Hail, Client, Schedule, Log, Joined}
 use Rattle.mu_command.specs.Allowed.{Seen, AllowsJob, AllowsFile}
 use Rattle.mu_texts.specs.What.{slot_of}
 use Rattle.mu_command.specs.Job.{job_of, file_of}
@@ -39,12 +40,18 @@ named_is_told : (seen : Seen) (files : Files) (words : List (List ℕ)) (what : 
 named_is_told seen files words what None o told quiet h = h
 named_is_told seen files words what (Some n) o told quiet h = allowed_is_told files _ (seen.before (slot_of what)) (seen.now (slot_of what)) o (rw told at h) quiet.0 quiet.1
 
--- what is found rests on the outcomes alone
+-- what is found rests on the outcomes only
+same_bundles : (o p : Outcomes) → ((what : What) → o what ≡ p what) → (n : ℕ) → first_bundles o n ≡ first_bundles p n
+same_bundles o p same zero = refl
+same_bundles o p same (suc k) = rw (same_bundles o p same k, same (Joined k)) refl
+
 same_found : (words : List (List ℕ)) (job : Job) (o p : Outcomes) → ((what : What) → o what ≡ p what) → ready_part (found words job o) ≡ ready_part (found words job p)
 same_found words (Check file) o p same = rw (same Bundle) refl
 same_found words (Print file) o p same = rw (same Bundle) refl
 same_found words (Run r) o p same = rw (same Bundle, same Hail, same Client, same Schedule) refl
 same_found words (Trial n) o p same = refl
+same_found words (Judge file rule) o p same = rw (same Log) refl
+same_found words (Join first files) o p same = ap (λ (bundles : Part (List (List Item))). ready_part (bundles >>= for_join)) (same_bundles o p same files)
 
 outcomes_are_told : (seen : Seen) (files : Files) (words : List (List ℕ)) (job : Option Job) (o : Outcomes) → seen.told ≡ Some files → ((s : ℕ) → IsQuiet seen s) →
     AllowsJob seen words job o → answer_of words job o ≡ answer_of words job (outcomes_of files words job)

@@ -1,9 +1,11 @@
 pub mod Way
 pub mod Together
+pub mod Bundles
 pub mod Puts
 pub mod Answering
 pub mod Completeness
 pub mod Accepting
+pub mod Verdicts
 pub mod Causes
 pub mod InSteps
 pub mod Beginning

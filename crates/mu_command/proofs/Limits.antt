@@ -4,11 +4,12 @@ use Rattle.std.specs.Prelude.{IfSome, codes, bytes_eq, is_some, ◌||◌}
 use Rattle.std.specs.Option.{unwrap_or, option_map, option_and_then}
 use Rattle.std.proofs.lemmas.Bool.{and_parts}
 use Rattle.std.proofs.lemmas.Bool.Decides.{nat_tests}
+use Rattle.mem_axioms.specs.declared.types.Rule.{Rule}
 use Rattle.mem_axioms.specs.declared.types.Rule.TheVariants as Rules
-use Rattle.mu_command.specs.declared.job.Job.TheVariants.{Check, Print, Run, Trial}
+use Rattle.mu_command.specs.declared.job.Job.TheVariants.{Check, Print, Run, Trial, Judge, Join}
 use Rattle.mu_command.specs.declared.job.RunJob.{RunJob}
 use Rattle.mu_command.specs.declared.options.Options.{Options}
-use Rattle.mu_command.specs.Job.{digits_up_to, given_once, is_digit, is_word, job_of, most_cells, most_steps, no_options, number_up_to, pairs_asked, rule_named, run_with, usual_cells, usual_steps, with_all, with_auto, with_cells, with_client, with_entry, with_hail, with_option, with_rule, with_schedule, with_steps, word}
+use Rattle.mu_command.specs.Job.{digits_up_to, given_once, is_digit, is_word, job_of, join_of, judge_with, most_bundles, most_cells, most_steps, no_options, number_up_to, pairs_asked, rule_named, run_with, usual_cells, usual_steps, with_all, with_auto, with_cells, with_client, with_entry, with_hail, with_option, with_rule, with_schedule, with_steps, word}
 use Rattle.mu_command.specs.Judged.{WordsAskForLittle}
 
 digits_few : (limit n m : ℕ) (bs : List ℕ) → n ≤ limit → digits_up_to limit n bs ≡ Some m → m ≤ limit
@@ -121,22 +122,42 @@ run_few (Some x) r few h = by x.entry h
         let same : job entry ≡ r = cc in
         subst AsksLittle same (unwrapped x.steps usual_steps most_steps (omega arith) (few x refl).0, unwrapped x.cells usual_cells most_cells (omega arith) (few x refl).1)
 
+named_no_run : (r : RunJob) (t : Bool) (rule : Option Rule) → (if t then option_map (Judge 1) rule else None) ≡ Some (Run r) → ⊥
+named_no_run r true None h = cc
+named_no_run r true (Some rule) h = cc
+named_no_run r false rule h = cc
+
+judge_no_run : (r : RunJob) (more : List (List ℕ)) → judge_with more ≡ Some (Run r) → ⊥
+judge_no_run r [] h = cc
+judge_no_run r (name ∷ []) h = cc
+judge_no_run r (name ∷ value ∷ []) h = named_no_run r (bytes_eq name (codes "--release-sequences")) (rule_named value) h
+judge_no_run r (name ∷ value ∷ next ∷ more) h = cc
+
 pub words_few : WordsAskForLittle
 unfolding job_of AsksLittle
 words_few words r h =
-    by (nat_eq (length words) 2 && is_word words 0 (codes "check")) (nat_eq (length words) 2 && is_word words 0 (codes "print")) (nat_eq (length words) 2 && is_word words 0 (codes "trial")) (nat_le 2 (length words) && is_word words 0 (codes "run")) h
+    by (nat_eq (length words) 2 && is_word words 0 (codes "check")) (nat_eq (length words) 2 && is_word words 0 (codes "print")) (nat_eq (length words) 2 && is_word words 0 (codes "trial")) (nat_le 2 (length words) && is_word words 0 (codes "run"))
+    (nat_le 2 (length words) && is_word words 0 (codes "judge")) (nat_le 2 (length words) && is_word words 0 (codes "join")) h
   where
     trial : (o : Option ℕ) → option_map Trial o ≡ Some (Run r) → AsksLittle r
     trial None k = cc
     trial (Some n) k = cc
 
-    by : (a b c d : Bool) →
+    join : (t : Bool) → (if t then Some (Join 1 (length words - 1)) else None) ≡ Some (Run r) → AsksLittle r
+    join true k = cc
+    join false k = cc
+
+    by : (a b c d e f : Bool) →
         (if a then Some (Check 1)
         else (if b then Some (Print 1)
         else (if c then option_map Trial (pairs_asked (word words 1))
-        else (if d then option_and_then run_with (with_all no_options 2 (drop 2 words)) else None)))) ≡ Some (Run r) → AsksLittle r
-    by true b c d k = cc
-    by false true c d k = cc
-    by false false true d k = trial (pairs_asked (word words 1)) k
-    by false false false true k = run_few (with_all no_options 2 (drop 2 words)) r (λ x e. all_few no_options 2 (drop 2 words) x (tt, tt) e) k
-    by false false false false k = cc
+        else (if d then option_and_then run_with (with_all no_options 2 (drop 2 words))
+        else (if e then judge_with (drop 2 words)
+        else (if f then join_of (length words) else None)))))) ≡ Some (Run r) → AsksLittle r
+    by true b c d e f k = cc
+    by false true c d e f k = cc
+    by false false true d e f k = trial (pairs_asked (word words 1)) k
+    by false false false true e f k = run_few (with_all no_options 2 (drop 2 words)) r (λ x e. all_few no_options 2 (drop 2 words) x (tt, tt) e) k
+    by false false false false true f k = absurd (judge_no_run r (drop 2 words) k)
+    by false false false false false true k = join (nat_le (length words) (1 + most_bundles)) k
+    by false false false false false false k = cc

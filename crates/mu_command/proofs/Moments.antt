@@ -23,24 +23,27 @@ use Rattle.text_programs.specs.Laws.{EnteredRunsHaveAnEnding}
 use Rattle.mu_model.specs.Clients as clients
 use Rattle.text_programs.specs.Moments.{IsSoundMoment, MomentsAreSound, MomentsOfTextsAreSound}
 use Rattle.loaded_programs.specs.Laws.{loaded_objects, carried_out, IsScripted, LoadedSettingsFit}
+use Rattle.bundle_join.specs.Joined.{joined}
+use Rattle.log_lines.specs.Texts.{ReadLog, text_read}
+use Rattle.verdicts.specs.Verdicts.{verdict}
 use Rattle.mu_texts.specs.declared.what.What.{What}
-use Rattle.mu_texts.specs.declared.what.What.TheVariants.{Bundle, Hail, Client, Schedule}
+use Rattle.mu_texts.specs.declared.what.What.TheVariants.{Bundle, Hail, Client, Schedule, Log}
 use Rattle.mu_texts.specs.declared.ready.Ready.{Ready}
 use Rattle.mu_texts.specs.declared.ready.Ready.TheVariants as ready
 use Rattle.mu_texts.specs.declared.ready.Telling.{Telling}
 use Rattle.mu_texts.specs.declared.ready.Telling.TheVariants.{Lines, Counts}
 use Rattle.mu_texts.specs.Start.{Started}
 use Rattle.mu_texts.specs.Refusals.{hail_fault_name, load_fault_name, script_fault_name}
-use Rattle.mu_texts.specs.Answer.{Part, ◌>>=◌, accepted, as_written, for_check, for_print, entered, hail_part, filled_part, loaded, client_part, scheduled, started, run_of, run_answer, trial_answer, ready_answer}
+use Rattle.mu_texts.specs.Answer.{Part, ◌>>=◌, accepted, as_written, for_check, for_print, for_judge, for_join, joined_part, log_part, entered, hail_part, filled_part, loaded, client_part, scheduled, started, run_of, run_answer, trial_answer, ready_answer}
 use Rattle.mu_texts.specs.Comes.{IsLoaded}
 use Rattle.mu_texts.proofs.Runnable.{goes_on, was_met, was_entered, loaded_runs_end}
 use Rattle.mu_texts.proofs.Moments.{moments_of_run}
 use Rattle.trial_text.specs.Trial.{trial_text}
 use Rattle.mu_command.specs.declared.job.Job.{Job}
-use Rattle.mu_command.specs.declared.job.Job.TheVariants.{Check, Print, Run, Trial}
+use Rattle.mu_command.specs.declared.job.Job.TheVariants.{Check, Print, Run, Trial, Judge, Join}
 use Rattle.mu_command.specs.declared.job.RunJob.{RunJob}
 use Rattle.mu_command.specs.Job.{word}
-use Rattle.mu_command.specs.Answer.{Outcomes, fetched, judged, begun, trial_begun, trial_found, found}
+use Rattle.mu_command.specs.Answer.{Outcomes, fetched, judged, begun, trial_begun, trial_found, first_bundles, found}
 use Rattle.mu_command.specs.Central.{EachMoment, EachRunEnds, HasItsEnding}
 use Rattle.mu_command.proofs.Trials.{entry_word, usual_run, no_files}
 use Rattle.mu_command.proofs.Way.{after_entry, after_objects, after_client, after_picks}
@@ -103,6 +106,7 @@ is_loaded words r code o start b = record { objects = record { commands = hail_c
 abbrev OfRun : (List Item → Started → Type 0) → Ready → Type 0
 OfRun Q ready.Accepted = Unit {0}
 OfRun Q (ready.Canonical bundle) = Unit {0}
+OfRun Q (ready.Judged v) = Unit {0}
 OfRun Q (ready.Entered code start telling) = Q code start
 
 -- it holds of each run of an accepted text that begins by some words
@@ -138,6 +142,16 @@ module _ (Q : List Item → Started → Type 0) (law : OfBegun Q) where
       subst (OfRun Q) same tt
   of_job words (Run r) o what h = of_run words r o what h
   of_job words (Trial n) o what h = of_trial n what h
+  of_job words (Judge file rule) o what h =
+      let bytes = from_bytes Log (for_judge rule) (o Log) what h in
+      let last = goes_on (log_part (text_read bytes.0)) (λ r. Ok (ready.Judged (verdict rule r.log))) what bytes.2 in
+      let same : ready.Judged (verdict rule last.0.log) ≡ what = let e = last.2 in cc in
+      subst (OfRun Q) same tt
+  of_job words (Join first files) o what h =
+      let bundles = goes_on (first_bundles o files) for_join what h in
+      let last = goes_on (joined_part (joined bundles.0)) (λ bundle. Ok (ready.Canonical bundle)) what bundles.2 in
+      let same : ready.Canonical last.0 ≡ what = let e = last.2 in cc in
+      subst (OfRun Q) same tt
 
 -- ---- its moments are sound
 

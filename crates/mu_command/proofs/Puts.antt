@@ -8,7 +8,9 @@ use Rattle.mu_base.specs.declared.status.Status.{Status}
 use Rattle.mu_base.specs.declared.status.Status.TheVariants.{Memory}
 use Rattle.mu_base.specs.Files.{IsPrefix}
 use Rattle.mu_base.specs.Sink.{AppendsPrefix, MarksEnd}
-use Rattle.mu_texts.specs.Answer.{Answer, in_one_piece}
+use Rattle.verdicts.specs.declared.types.Verdict.{Verdict}
+use Rattle.verdicts.specs.declared.types.Verdict.TheVariants as verdicts
+use Rattle.mu_texts.specs.Answer.{Answer, in_one_piece, verdict_status}
 use Rattle.mu_command.specs.Written.{cuts_from, AppendsEnds, Wrote, IsWhole, Writes, stopped}
 use Rattle.mu_base.specs.declared.sink.PutFault.{PutFault}
 use Rattle.mu_base.specs.declared.sink.PutFault.TheVariants.{Fault, Memory as NoMemory}
@@ -135,5 +137,13 @@ one_piece (b ∷ text) some = refl
 -- an empty text is put by no piece
 pub no_piece : (answer : Answer) (w e : Option (List ℕ)) (status : Status) → answer.pieces ≡ [] → status ≡ answer.status → Writes answer w w e e status
 no_piece answer w e status is same = all_put answer w w e e status same (rw is (nothing_put w e))
+
+-- the status of a verdict is that of a whole text
+pub whole_verdict : (v : Verdict) → IsWhole (verdict_status v)
+whole_verdict (verdicts.Yes n) = ((λ e. cc), (λ e. cc))
+whole_verdict (verdicts.Form j) = ((λ e. cc), (λ e. cc))
+whole_verdict (verdicts.Axiom1 i j) = ((λ e. cc), (λ e. cc))
+whole_verdict (verdicts.Axiom3 a b) = ((λ e. cc), (λ e. cc))
+whole_verdict (verdicts.Race i j) = ((λ e. cc), (λ e. cc))
 
 pub ruleset puts = (only_put, both_put, first_put_stops, second_put_stops)

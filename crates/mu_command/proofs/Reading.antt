@@ -1,10 +1,12 @@
 -- The options of a run, read one by one.
 use Rattle.std.proofs.Common.{◌≡◌, ◌∙◌, ℕ, ◌+◌, ◌<◌, ◌≤◌, List, [], ◌∷◌, length, drop, true, false, refl, ap, arith, Option, Some, None}
 use Rattle.std.specs.Prelude.{Bool, IfSome, bytes_eq, codes, is_some, ◌||◌, if◌then◌else◌}
-use Rattle.std.specs.Option.{option_and_then}
+use Rattle.std.specs.Option.{option_and_then, option_map}
 use Rattle.std.proofs.lemmas.List.{drop_more, drop_all}
+use Rattle.mem_axioms.specs.declared.types.Rule.TheVariants.{C11}
+use Rattle.mu_command.specs.declared.job.Job.TheVariants.{Judge}
 use Rattle.mu_command.specs.declared.options.Options.{Options}
-use Rattle.mu_command.specs.Job.{word, with_option, with_auto, with_all, OptionsAreThere}
+use Rattle.mu_command.specs.Job.{word, with_option, with_auto, with_all, judge_with, rule_named, OptionsAreThere}
 
 -- whether a name is that of the option without a value
 abbrev is_auto : List ℕ → Bool
@@ -72,6 +74,31 @@ module _ (words : List (List ℕ)) (options : Options) (n : ℕ) where
   pub no_word : length words ≤ n → with_all options n (drop n words) ≡ Some options
   no_word past = ap (with_all options n) (drop_all n words past)
 
+-- the words of a log that is judged
+pub judge_plain : (words : List (List ℕ)) → length words ≡ 2 → judge_with (drop 2 words) ≡ Some (Judge 1 C11)
+judge_plain words h = ap judge_with (drop_all 2 words (omega arith))
+
+judge_words : (words : List (List ℕ)) → length words ≡ 4 → drop 2 words ≡ word words 2 ∷ word words 3 ∷ []
+judge_words words h =
+    let two : drop 2 words ≡ word words 2 ∷ drop 3 words = drop_more words 2 [] (omega arith) in
+    let three : drop 3 words ≡ word words 3 ∷ drop 4 words = drop_more words 3 [] (omega arith) in
+    let none : drop 4 words ≡ [] = drop_all 4 words (omega arith) in
+    two ∙ ap (λ (ws : List (List ℕ)). word words 2 ∷ ws) (three ∙ ap (λ (ws : List (List ℕ)). word words 3 ∷ ws) none)
+
+pub judge_named : (words : List (List ℕ)) → length words ≡ 4 → bytes_eq (word words 2) (codes "--release-sequences") ≡ true → judge_with (drop 2 words) ≡ option_map (Judge 1) (rule_named (word words 3))
+judge_named words h e = ap judge_with (judge_words words h) ∙ rw e refl
+
+pub judge_other : (words : List (List ℕ)) → length words ≡ 4 → bytes_eq (word words 2) (codes "--release-sequences") ≡ false → judge_with (drop 2 words) ≡ None
+judge_other words h e = ap judge_with (judge_words words h) ∙ rw e refl
+
+pub judge_none : (words : List (List ℕ)) → 2 ≤ length words → (length words ≡ 2 → ⊥) → (length words ≡ 4 → ⊥) → judge_with (drop 2 words) ≡ None
+judge_none [] l a b = absurd (omega arith)
+judge_none (x ∷ []) l a b = absurd (omega arith)
+judge_none (x ∷ file ∷ []) l a b = absurd (a refl)
+judge_none (x ∷ file ∷ name ∷ []) l a b = refl
+judge_none (x ∷ file ∷ name ∷ value ∷ []) l a b = absurd (b refl)
+judge_none (x ∷ file ∷ name ∷ value ∷ next ∷ more) l a b = refl
+
 -- the words of the options are there as before
 pub auto_there : (count : ℕ) (options : Options) (o : Option Options) → OptionsAreThere count options → o ≡ with_auto options → IfSome o (OptionsAreThere count)
 auto_there count options o there e = rw e (so (options.auto || is_some options.client))
@@ -81,3 +108,5 @@ auto_there count options o there e = rw e (so (options.auto || is_some options.c
     so false = record { entry = there.entry; hail = there.hail; client = there.client; schedule = there.schedule; steps = there.steps }
 
 pub ruleset reading = (one_more, auto_more, no_more, no_auto, no_value, no_word, auto_there)
+
+pub ruleset judging_words = (judge_plain, judge_named, judge_other, judge_none)

@@ -4,17 +4,18 @@ use Rattle.std.specs.Prelude.{Result, Ok, Err, codes}
 use Rattle.mu_base.specs.declared.status.Status.TheVariants.{Usage}
 use Rattle.mu_base.specs.Outcome.{Outcome, got}
 use Rattle.ir_tree.specs.declared.items.Item.{Item}
+use Rattle.mem_axioms.specs.declared.types.Rule.{Rule}
 use Rattle.mu_texts.specs.declared.what.What.{What}
-use Rattle.mu_texts.specs.declared.what.What.TheVariants.{Bundle, Hail, Client, Schedule}
+use Rattle.mu_texts.specs.declared.what.What.TheVariants.{Bundle, Hail, Client, Schedule, Log, Joined}
 use Rattle.mu_texts.specs.declared.stop.Stop.{Stop}
 use Rattle.mu_texts.specs.declared.stop.Stop.TheVariants.{Line, Memory}
 use Rattle.mu_texts.specs.declared.ready.Ready.{Ready}
 use Rattle.mu_texts.specs.declared.ready.Ready.TheVariants.{Entered}
 use Rattle.mu_texts.specs.declared.ready.Telling.TheVariants.{Lines}
 use Rattle.mu_texts.specs.Start.{Started}
-use Rattle.mu_texts.specs.Answer.{Answer, Part, ◌>>=◌, line, for_check, for_print, accepted, ready_part, ready_answer}
+use Rattle.mu_texts.specs.Answer.{Answer, Part, ◌>>=◌, line, for_check, for_print, for_judge, accepted, ready_part, ready_answer}
 use Rattle.mu_command.specs.declared.job.Job.{Job}
-use Rattle.mu_command.specs.declared.job.Job.TheVariants.{Check, Print, Run, Trial}
+use Rattle.mu_command.specs.declared.job.Job.TheVariants.{Check, Print, Run, Trial, Judge}
 use Rattle.mu_command.specs.declared.job.RunJob.{RunJob}
 use Rattle.mu_command.specs.Job.{job_of, file_of}
 use Rattle.mu_texts.specs.Comes.{Comes}
@@ -24,7 +25,7 @@ use Rattle.mu_command.specs.Parts.{IsJudged, IsBegun, IsAnswer, IsFound, OfFile,
 use Rattle.mu_command.proofs.Beginnings.{same_slot, some_named, outcomes_with}
 
 -- allowed outcomes, and the answer to them
-together : (seen : Seen) (words : List (List ℕ)) (job : Job) (o : Outcomes) (answer : Answer) → job_of words ≡ Some job →
+pub together : (seen : Seen) (words : List (List ℕ)) (job : Job) (o : Outcomes) (answer : Answer) → job_of words ≡ Some job →
     ((what : What) → AllowsFile seen words what (file_of job what) (o what)) → answer ≡ ready_part (found words job o) → IsAnswer seen words answer
 together seen words job o answer is allowed e = record { outcomes = o; allowed = rw is allowed; is = rw is e }
 
@@ -39,12 +40,16 @@ module _ (seen : Seen) (words : List (List ℕ)) (file : ℕ) where
   check_allowed o h Hail = refl
   check_allowed o h Client = refl
   check_allowed o h Schedule = refl
+  check_allowed o h Log = refl
+  check_allowed o h (Joined k) = refl
 
   print_allowed : (o : Outcome) → AllowsFile seen words Bundle (Some file) o → (what : What) → AllowsFile seen words what (file_of (Print file) what) (only o what)
   print_allowed o h Bundle = h
   print_allowed o h Hail = refl
   print_allowed o h Client = refl
   print_allowed o h Schedule = refl
+  print_allowed o h Log = refl
+  print_allowed o h (Joined k) = refl
 
   pub check_found : (r : Result Ready Stop) → job_of words ≡ Some (Check file) → IsJudged seen words Bundle (Some file) for_check r → IsFound seen words r
   check_found (Ok ready) is h = together seen words (Check file) (only h.outcome) _ is (check_allowed h.outcome h.allowed) (rw h.comes refl)
@@ -56,12 +61,33 @@ module _ (seen : Seen) (words : List (List ℕ)) (file : ℕ) where
   print_found (Err (Line text status)) is h = together seen words (Print file) (only h.outcome) _ is (print_allowed h.outcome h.allowed) (rw h.comes refl)
   print_found (Err Memory) is h = tt
 
+-- a log that is judged
+abbrev only_log : Outcome → Outcomes
+only_log o Log = o
+only_log o _ = got []
+
+module _ (seen : Seen) (words : List (List ℕ)) (file : ℕ) (rule : Rule) where
+  judge_allowed : (o : Outcome) → AllowsFile seen words Log (Some file) o → (what : What) → AllowsFile seen words what (file_of (Judge file rule) what) (only_log o what)
+  judge_allowed o h Bundle = refl
+  judge_allowed o h Hail = refl
+  judge_allowed o h Client = refl
+  judge_allowed o h Schedule = refl
+  judge_allowed o h Log = h
+  judge_allowed o h (Joined k) = refl
+
+  pub judge_found : (r : Result Ready Stop) → job_of words ≡ Some (Judge file rule) → IsJudged seen words Log (Some file) (for_judge rule) r → IsFound seen words r
+  judge_found (Ok ready) is h = together seen words (Judge file rule) (only_log h.outcome) _ is (judge_allowed h.outcome h.allowed) (rw h.comes refl)
+  judge_found (Err (Line text status)) is h = together seen words (Judge file rule) (only_log h.outcome) _ is (judge_allowed h.outcome h.allowed) (rw h.comes refl)
+  judge_found (Err Memory) is h = tt
+
 -- a trial, which has no file
 none_allowed : (seen : Seen) (words : List (List ℕ)) (n : ℕ) (what : What) → AllowsFile seen words what (file_of (Trial n) what) (got [])
 none_allowed seen words n Bundle = refl
 none_allowed seen words n Hail = refl
 none_allowed seen words n Client = refl
 none_allowed seen words n Schedule = refl
+none_allowed seen words n Log = refl
+none_allowed seen words n (Joined k) = refl
 
 pub trial_is_found : (seen : Seen) (words : List (List ℕ)) (n : ℕ) (r : Result Ready Stop) → job_of words ≡ Some (Trial n) → Comes (trial_found n) r → IsFound seen words r
 trial_is_found seen words n (Ok ready) is h = together seen words (Trial n) (λ what. got []) _ is (none_allowed seen words n) (rw h refl)
@@ -74,6 +100,8 @@ with_bundle o more Bundle = o
 with_bundle o more Hail = more Hail
 with_bundle o more Client = more Client
 with_bundle o more Schedule = more Schedule
+with_bundle o more Log = got []
+with_bundle o more (Joined k) = got []
 
 run_allowed : (seen : Seen) (words : List (List ℕ)) (r : RunJob) (o : Outcome) (more : Outcomes) → AllowsFile seen words Bundle (Some r.file) o → AllowsFile seen words Hail r.hail (more Hail) →
     AllowsFile seen words Client r.client (more Client) → AllowsFile seen words Schedule r.schedule (more Schedule) → (what : What) → AllowsFile seen words what (file_of (Run r) what) (with_bundle o more what)
@@ -81,6 +109,8 @@ run_allowed seen words r o more a b c d Bundle = a
 run_allowed seen words r o more a b c d Hail = b
 run_allowed seen words r o more a b c d Client = c
 run_allowed seen words r o more a b c d Schedule = d
+run_allowed seen words r o more a b c d Log = refl
+run_allowed seen words r o more a b c d (Joined k) = refl
 
 module _ (last : Seen) (words : List (List ℕ)) (r : RunJob) (is : job_of words ≡ Some (Run r)) where
   -- the bundle is refused
@@ -115,4 +145,4 @@ module _ (last : Seen) (words : List (List ℕ)) (r : RunJob) (is : job_of words
 pub no_job : (seen : Seen) (words : List (List ℕ)) (text : List ℕ) → text ≡ codes "usage" → job_of words ≡ None → IsAnswer seen words (line text Usage)
 no_job seen words text e is = record { outcomes = only (got []); allowed = rw is tt; is = rw (is, e) refl }
 
-pub ruleset together_rules = (check_found, print_found, trial_is_found, no_code, not_begun, run_found, no_job)
+pub ruleset together_rules = (check_found, print_found, judge_found, trial_is_found, no_code, not_begun, run_found, no_job)

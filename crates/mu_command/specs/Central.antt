@@ -1,11 +1,15 @@
 -- The one statement about the program, and the causes of its statuses.
-use Rattle.std.specs.Prelude.{true, ◌≡◌, ◌≢◌, ◌⊎◌, ℕ, ◌-◌, ◌^◌, ◌<◌, List, [], length, Option, None, Some, Ok, Err, nat_le, if◌then◌else◌}
+use Rattle.std.specs.Prelude.{true, false, ◌≡◌, ◌↔◌, ◌≢◌, ◌⊎◌, ℕ, ◌-◌, ◌^◌, ◌<◌, List, [], length, Option, None, Some, Ok, Err, nat_le, if◌then◌else◌}
 use Rattle.mu_base.specs.declared.status.Status.{Status}
-use Rattle.mu_base.specs.declared.status.Status.TheVariants.{Refused}
+use Rattle.mu_base.specs.declared.status.Status.TheVariants.{Refused, No}
 use Rattle.mu_base.specs.Faults.{Rose}
 use Rattle.mu_base.specs.Files.{Files, file, IsMissing}
 use Rattle.mu_base.specs.Outcome.{Outcome, got, failed, too_long, IsLonger}
 use Rattle.mu_command.specs.declared.job.Job.{Job}
+use Rattle.mu_command.specs.declared.job.Job.TheVariants.{Judge}
+use Rattle.mem_axioms.specs.declared.types.Rule.{Rule}
+use Rattle.log_lines.specs.Texts.{ReadLog, text_read}
+use Rattle.verdicts.specs.Verdicts.{verdict}
 use Rattle.ir_tree.specs.declared.items.Item.{Item}
 use Rattle.mu_model.specs.Programs.{named}
 use Rattle.mu_model.specs.Acts.{Program}
@@ -24,12 +28,13 @@ use Rattle.mu_texts.specs.declared.ready.Ready.{Ready}
 use Rattle.mu_texts.specs.declared.ready.Ready.TheVariants.{Entered}
 use Rattle.mu_texts.specs.declared.ready.Telling.{Telling}
 use Rattle.mu_texts.specs.declared.what.What.{What}
+use Rattle.mu_texts.specs.declared.what.What.TheVariants.{Log}
 use Rattle.mu_texts.specs.What.{slot_of}
 use Rattle.mu_command.specs.Job.{job_of, file_of, word}
 use Rattle.mu_texts.specs.Start.{Started}
-use Rattle.mu_texts.specs.Answer.{Answer, ready_answer, run_of}
+use Rattle.mu_texts.specs.Answer.{Answer, is_yes, verdict_answer, ready_answer, run_of}
 use Rattle.mu_command.specs.Answer.{Outcomes, found, answer_of}
-use Rattle.mu_command.specs.Allowed.{Seen, AllowsJob, file_limit}
+use Rattle.mu_command.specs.Allowed.{Seen, AllowsWord, AllowsJob, file_limit}
 use Rattle.mu_command.specs.Written.{Writes}
 
 -- There are outcomes that the inputs allow, and the answer to them is what is written.
@@ -78,6 +83,23 @@ pub record IsRefused (seen : Seen) (words : List (List ℕ)) (written new_writte
   pub is : found words job outcomes ≡ Err refusal
   pub status : refusal.status ≡ Refused
   pub writes : Writes refusal written new_written marks new_marks Refused
+
+-- ---- the verdict on a log
+
+-- The file that is judged has a text that is a log, the line of the verdict on it is what is written, and the status is No exactly where
+-- the verdict is not Yes.
+pub record HasVerdict (seen : Seen) (words : List (List ℕ)) (written new_written marks new_marks : Option (List ℕ)) (status : Status) (file : ℕ) (rule : Rule) : Type 0 where
+  pub text : List ℕ
+  pub allowed : AllowsWord seen words Log file (got text)
+  pub log : ReadLog
+  pub read : text_read text ≡ Ok log
+  pub no : (status ≡ No) ↔ (is_yes (verdict rule log.log) ≡ false)
+  pub writes : Writes (verdict_answer (verdict rule log.log)) written new_written marks new_marks status
+
+-- That is so of a job that judges a log. No other job ends with No.
+abbrev pub FollowsVerdict : Seen → List (List ℕ) → Option (List ℕ) → Option (List ℕ) → Option (List ℕ) → Option (List ℕ) → Status → Job → Type 0
+FollowsVerdict seen words written new_written marks new_marks status (Judge file rule) = HasVerdict seen words written new_written marks new_marks status file rule
+FollowsVerdict seen words written new_written marks new_marks status _ = status ≢ No
 
 -- of the job, where there is one
 abbrev pub OfJob : (Job → Type 0) → Option Job → Type 0

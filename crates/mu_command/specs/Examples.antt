@@ -1,10 +1,11 @@
 -- Worked examples.
-use Rattle.std.specs.Prelude.{◌≡◌, true, false, ℕ, List, [], ◌∷◌, Some, None, codes, refl}
-use Rattle.mu_base.specs.declared.status.Status.TheVariants.{Usage, ReadFault, TooLong}
+use Rattle.std.specs.Prelude.{◌≡◌, true, false, ℕ, List, [], ◌∷◌, ◌++◌, Some, None, codes, refl}
+use Rattle.std.specs.Fmt.{digits}
+use Rattle.mu_base.specs.declared.status.Status.TheVariants.{Done, Usage, ReadFault, TooLong}
 use Rattle.mu_base.specs.Outcome.{got, failed, too_long}
 use Rattle.mem_axioms.specs.declared.types.Rule.TheVariants.{C11, Rmw}
-use Rattle.mu_texts.specs.declared.what.What.TheVariants.{Bundle, Hail, Client, Schedule}
-use Rattle.mu_command.specs.declared.job.Job.TheVariants.{Run, Trial}
+use Rattle.mu_texts.specs.declared.what.What.TheVariants.{Bundle, Hail, Client, Schedule, Joined}
+use Rattle.mu_command.specs.declared.job.Job.TheVariants.{Run, Trial, Judge, Join}
 use Rattle.mu_command.specs.declared.job.RunJob.{RunJob}
 use Rattle.mu_command.specs.Job.{job_of, file_of}
 use Rattle.mu_command.specs.Answer.{answer_of}
@@ -58,9 +59,53 @@ no_entry : job_of (codes "run" ∷ codes "b" ∷ []) ≡ None
 unfolding job_of
 no_entry = refl
 
-another_command : job_of (codes "judge" ∷ codes "b" ∷ codes "--entry" ∷ codes "@main" ∷ []) ≡ None
+another_command : job_of (codes "list" ∷ codes "b" ∷ codes "--entry" ∷ codes "@main" ∷ []) ≡ None
 unfolding job_of
 another_command = refl
+
+a_log : job_of (codes "judge" ∷ codes "l" ∷ []) ≡ Some (Judge 1 C11)
+unfolding job_of
+a_log = refl
+
+a_log_by_rmw : job_of (codes "judge" ∷ codes "l" ∷ codes "--release-sequences" ∷ codes "rmw" ∷ []) ≡ Some (Judge 1 Rmw)
+unfolding job_of
+a_log_by_rmw = refl
+
+a_log_by_another_rule : job_of (codes "judge" ∷ codes "l" ∷ codes "--release-sequences" ∷ codes "c20" ∷ []) ≡ None
+unfolding job_of
+a_log_by_another_rule = refl
+
+a_log_with_an_entry : job_of (codes "judge" ∷ codes "b" ∷ codes "--entry" ∷ codes "@main" ∷ []) ≡ None
+unfolding job_of
+a_log_with_an_entry = refl
+
+two_rules : job_of (codes "judge" ∷ codes "l" ∷ codes "--release-sequences" ∷ codes "c11" ∷ codes "--release-sequences" ∷ codes "c11" ∷ []) ≡ None
+unfolding job_of
+two_rules = refl
+
+one_bundle : job_of (codes "join" ∷ codes "a" ∷ []) ≡ Some (Join 1 1)
+unfolding job_of
+one_bundle = refl
+
+-- each word after the first names a file, whatever it is
+two_bundles : job_of (codes "join" ∷ codes "a" ∷ codes "--auto" ∷ []) ≡ Some (Join 1 2)
+unfolding job_of
+two_bundles = refl
+
+no_bundle : job_of (codes "join" ∷ []) ≡ None
+unfolding job_of
+no_bundle = refl
+
+abbrev four : List (List ℕ)
+four = codes "a" ∷ codes "b" ∷ codes "c" ∷ codes "d" ∷ []
+
+sixteen_bundles : job_of (codes "join" ∷ four ++ four ++ four ++ four) ≡ Some (Join 1 16)
+unfolding job_of
+sixteen_bundles = refl
+
+seventeen_bundles : job_of (codes "join" ∷ codes "e" ∷ four ++ four ++ four ++ four) ≡ None
+unfolding job_of
+seventeen_bundles = refl
 
 a_trial : job_of (codes "trial" ∷ codes "1000" ∷ []) ≡ Some (Trial 1000)
 unfolding job_of
@@ -82,6 +127,18 @@ no_such_file = refl
 
 a_long_file : answer_of words (Some (Run (plain 3 200000 100000))) (λ _. too_long) ≡ record { pieces = codes "too long bundle\n" ∷ []; status = TooLong }
 a_long_file = refl
+
+-- the first of two files is not there
+no_first_file : answer_of words (Some (Join 1 2)) (λ _. failed) ≡ record { pieces = codes "read fault bundle 0\n" ∷ []; status = ReadFault }
+unfolding digits
+no_first_file = refl
+
+a_long_log : answer_of words (Some (Judge 1 C11)) (λ _. too_long) ≡ record { pieces = codes "too long log\n" ∷ []; status = TooLong }
+a_long_log = refl
+
+no_event : answer_of words (Some (Judge 1 C11)) (λ _. got (codes "done\n")) ≡ record { pieces = codes "yes 0\n" ∷ []; status = Done }
+unfolding digits
+no_event = refl
 
 -- the other files, and the rule of release sequences
 all_files : job_of (codes "run" ∷ codes "b" ∷ codes "--schedule" ∷ codes "s" ∷ codes "--release-sequences" ∷ codes "rmw" ∷ codes "--hail" ∷ codes "h" ∷ codes "--entry" ∷ codes "@main" ∷ codes "--client" ∷ codes "k" ∷ [])
@@ -126,6 +183,12 @@ client_then_auto = refl
 
 no_client : file_of (Run (plain 3 200000 100000)) Client ≡ None
 no_client = refl
+
+the_last_bundle : file_of (Join 1 2) (Joined 1) ≡ Some 2
+the_last_bundle = refl
+
+no_third_bundle : file_of (Join 1 2) (Joined 2) ≡ None
+no_third_bundle = refl
 
 no_script : file_of (Run (plain 3 200000 100000)) Hail ≡ None
 no_script = refl

@@ -1,14 +1,14 @@
 -- What the words of a command line ask for, and the files of that.
-use Rattle.std.specs.Prelude.{ℕ, ◌+◌, ◌-◌, ◌*◌, ◌<◌, ◌≤◌, IfSome, Bool, true, false, nat_eq, nat_le, List, [], ◌∷◌, length, Option, None, Some, codes, bytes_eq, if◌then◌else◌, ◌&&◌, ◌||◌, is_some, drop, slice_index_or}
+use Rattle.std.specs.Prelude.{◌≡◌, ℕ, ◌+◌, ◌-◌, ◌*◌, ◌<◌, ◌≤◌, IfSome, Bool, true, false, nat_eq, nat_le, nat_lt, List, [], ◌∷◌, length, Option, None, Some, codes, bytes_eq, if◌then◌else◌, ◌&&◌, ◌||◌, is_some, drop, slice_index_or}
 use Rattle.std.specs.Option.{unwrap_or, option_map, option_and_then}
 use Rattle.mem_axioms.specs.declared.types.Rule.{Rule}
 use Rattle.mem_axioms.specs.declared.types.Rule.TheVariants.{C11, Rmw}
 use Rattle.mu_command.specs.declared.job.Job.{Job}
 use Rattle.mu_command.specs.declared.job.RunJob.{RunJob}
-use Rattle.mu_command.specs.declared.job.Job.TheVariants.{Check, Print, Run, Trial}
+use Rattle.mu_command.specs.declared.job.Job.TheVariants.{Check, Print, Run, Trial, Judge, Join}
 use Rattle.mu_command.specs.declared.options.Options.{Options}
 use Rattle.mu_texts.specs.declared.what.What.{What}
-use Rattle.mu_texts.specs.declared.what.What.TheVariants.{Bundle, Hail, Client, Schedule}
+use Rattle.mu_texts.specs.declared.what.What.TheVariants.{Bundle, Hail, Client, Schedule, Log, Joined}
 
 -- the word with that number
 abbrev pub word : List (List ℕ) → ℕ → List ℕ
@@ -134,22 +134,39 @@ from_one n = if nat_le 1 n then Some n else None
 abbrev pub pairs_asked : List ℕ → Option ℕ
 pairs_asked text = option_and_then from_one (number_up_to most_pairs text)
 
--- `check FILE`, `print FILE`, `trial N`, and `run FILE` with options in any order, each at most once: `--entry NAME`, which is required,
--- `--hail F`, `--client F` or `--auto`, `--schedule F`, `--release-sequences c11` or `rmw`, `--steps N` and `--cells N`; all other words
--- ask for nothing
+-- the judging of the file that word 1 names, by the rule that the words after it name; without such words by `c11`
+abbrev pub judge_with : List (List ℕ) → Option Job
+judge_with [] = Some (Judge 1 C11)
+judge_with (name ∷ value ∷ []) = if bytes_eq name (codes "--release-sequences") then option_map (Judge 1) (rule_named value) else None
+judge_with _ = None
+
+-- how many bundles may be joined
+abbrev pub most_bundles : ℕ
+most_bundles = 16
+
+-- the joining of the files that all words after the first name, of so many words
+abbrev pub join_of : ℕ → Option Job
+join_of count = if nat_le count (1 + most_bundles) then Some (Join 1 (count - 1)) else None
+
+-- `check FILE`, `print FILE`, `trial N`, `run FILE` with options in any order, each at most once: `--entry NAME`, which is required,
+-- `--hail F`, `--client F` or `--auto`, `--schedule F`, `--release-sequences c11` or `rmw`, `--steps N` and `--cells N`; `judge FILE`, with
+-- `--release-sequences c11` or `rmw` after it or not; and `join` with 1 to 16 files. All other words ask for nothing.
 unfoldable pub job_of : List (List ℕ) → Option Job
 job_of words =
     if nat_eq (length words) 2 && is_word words 0 (codes "check") then Some (Check 1)
     else (if nat_eq (length words) 2 && is_word words 0 (codes "print") then Some (Print 1)
     else (if nat_eq (length words) 2 && is_word words 0 (codes "trial") then option_map Trial (pairs_asked (word words 1))
-    else (if nat_le 2 (length words) && is_word words 0 (codes "run") then option_and_then run_with (with_all no_options 2 (drop 2 words)) else None)))
+    else (if nat_le 2 (length words) && is_word words 0 (codes "run") then option_and_then run_with (with_all no_options 2 (drop 2 words))
+    else (if nat_le 2 (length words) && is_word words 0 (codes "judge") then judge_with (drop 2 words)
+    else (if nat_le 2 (length words) && is_word words 0 (codes "join") then join_of (length words) else None)))))
 
--- the words that name the bundle, the script that fills the heap, the one that is the client, and the schedule
+-- the words that name the bundle, the script that fills the heap, the one that is the client, the schedule, the log that is judged, and
+-- the bundle with number k of those that are joined
 abbrev pub bundle_word : Job → Option ℕ
 bundle_word (Check file) = Some file
 bundle_word (Print file) = Some file
 bundle_word (Run r) = Some r.file
-bundle_word (Trial n) = None
+bundle_word _ = None
 
 abbrev pub hail_word : Job → Option ℕ
 hail_word (Run r) = r.hail
@@ -163,12 +180,22 @@ abbrev pub schedule_word : Job → Option ℕ
 schedule_word (Run r) = r.schedule
 schedule_word _ = None
 
+abbrev pub log_word : Job → Option ℕ
+log_word (Judge file rule) = Some file
+log_word _ = None
+
+abbrev pub joined_word : Job → ℕ → Option ℕ
+joined_word (Join first files) k = if nat_lt k files then Some (first + k) else None
+joined_word _ k = None
+
 -- the word that names a file of the job, where the job has that file
 abbrev pub file_of : Job → What → Option ℕ
 file_of job Bundle = bundle_word job
 file_of job Hail = hail_word job
 file_of job Client = client_word job
 file_of job Schedule = schedule_word job
+file_of job Log = log_word job
+file_of job (Joined k) = joined_word job k
 
 -- the words of a run are there, of so many, and no more steps are asked than may be
 pub record IsThere (count : ℕ) (r : RunJob) : Type 0 where
@@ -179,12 +206,21 @@ pub record IsThere (count : ℕ) (r : RunJob) : Type 0 where
   pub schedule : IfSome r.schedule (λ n. n < count)
   pub budget : r.budget ≤ most_steps
 
+-- the words of the files that are joined are there, from word 1 on, at least one and at most so many as may be joined
+pub record FilesAreThere (count first files : ℕ) : Type 0 where
+  pub from : first ≡ 1
+  pub last : first + files ≤ count
+  pub some : 1 ≤ files
+  pub few : files ≤ most_bundles
+
 -- the same of a job
 abbrev pub AreThere : List (List ℕ) → Job → Type 0
 AreThere words (Check file) = file < length words
 AreThere words (Print file) = file < length words
 AreThere words (Run r) = IsThere (length words) r
 AreThere words (Trial n) = Unit {0}
+AreThere words (Judge file rule) = file < length words
+AreThere words (Join first files) = FilesAreThere (length words) first files
 
 -- the same of options
 pub record OptionsAreThere (count : ℕ) (options : Options) : Type 0 where

@@ -1,12 +1,12 @@
 -- What the functions that find an answer tell their callers.
-use Rattle.std.specs.Prelude.{◌≡◌, ℕ, List, Vec, Option, Result, Ok, Err, ⊤}
+use Rattle.std.specs.Prelude.{◌≡◌, ℕ, ◌+◌, ◌<◌, Some, List, Vec, Option, Result, Ok, Err, ⊤}
 use Rattle.std.specs.declared.alloc.Global.{Global}
 use Rattle.mu_base.specs.Outcome.{Outcome, got}
 use Rattle.ir_tree.specs.declared.items.Item.{Item}
 use Rattle.typed_heap.specs.Objects.{HeapObject}
 use Rattle.typed_heap.specs.Heap.{HeapContents}
 use Rattle.mu_texts.specs.declared.what.What.{What}
-use Rattle.mu_texts.specs.declared.what.What.TheVariants.{Hail, Client, Schedule}
+use Rattle.mu_texts.specs.declared.what.What.TheVariants.{Hail, Client, Schedule, Joined}
 use Rattle.mu_texts.specs.What.{slot_of}
 use Rattle.mu_texts.specs.declared.stop.Stop.{Stop}
 use Rattle.mu_texts.specs.declared.stop.Stop.TheVariants.{Line, Memory}
@@ -15,7 +15,7 @@ use Rattle.mu_texts.specs.Answer.{Answer, Part, line, ready_answer}
 use Rattle.mu_texts.specs.Start.{Started}
 use Rattle.mu_command.specs.declared.job.RunJob.{RunJob}
 use Rattle.mu_command.specs.Job.{job_of}
-use Rattle.mu_command.specs.Answer.{Outcomes, fetched, judged, begun, answer_of}
+use Rattle.mu_command.specs.Answer.{Outcomes, fetched, judged, begun, first_bundles, answer_of}
 use Rattle.mu_command.specs.Allowed.{Seen, AllowsFile, AllowsJob}
 
 -- what was seen of one slot is what was seen of it at last
@@ -59,6 +59,22 @@ abbrev pub IsBegun : Seen → List (List ℕ) → RunJob → List Item → Resul
 IsBegun seen words r code (Ok start) = OfRun seen words r code (Ok start)
 IsBegun seen words r code (Err (Line text status)) = OfRun seen words r code (Err (line text.items status))
 IsBegun seen words r code (Err Memory) = ⊤
+
+-- outcomes that the inputs allow for the first n of the files that are joined, with which their bundles come to this
+pub record OfBundles (seen : Seen) (words : List (List ℕ)) (first n : ℕ) (is : Part (List (List Item))) : Type 0 where
+  pub outcomes : Outcomes
+  pub allowed : (k : ℕ) → k < n → AllowsFile seen words (Joined k) (Some (first + k)) (outcomes (Joined k))
+  pub comes : first_bundles outcomes n ≡ is
+
+abbrev pub AreRead : Seen → List (List ℕ) → ℕ → ℕ → Result (List (List Item)) Stop → Type 0
+AreRead seen words first n (Ok bundles) = OfBundles seen words first n (Ok bundles)
+AreRead seen words first n (Err (Line text status)) = OfBundles seen words first n (Err (line text.items status))
+AreRead seen words first n (Err Memory) = ⊤
+
+-- what was gathered in a list, where no file stopped it
+abbrev pub gathered : Result (Unit {0}) Stop → List (List Item) → Result (List (List Item)) Stop
+gathered (Ok done) bundles = Ok bundles
+gathered (Err stop) bundles = Err stop
 
 -- the inputs allow outcomes to which this is the answer
 pub record IsAnswer (seen : Seen) (words : List (List ℕ)) (answer : Answer) : Type 0 where

@@ -3,21 +3,23 @@ ghost use Rattle.std.specs.Prelude.{◌≡◌, ◌≢◌, ◌<◌, ◌≤◌, �
 ghost use Rattle.demands.specs.Demands.{first_unmet};
 ghost use Rattle.mu_texts.specs.What.{slot_of};
 ghost use Rattle.loaded_programs.specs.Laws.{IsScripted};
-ghost use Rattle.mu_texts.specs.Answer.{for_check, for_print, accepted, loaded, client_part, scheduled};
+ghost use Rattle.mu_texts.specs.Answer.{for_check, for_print, for_judge, accepted, loaded, client_part, scheduled};
 ghost use Rattle.mu_texts.specs.Comes.{IsFilled, IsRunnable, LoadedRunsEnd, CanRun};
 ghost use Rattle.mu_command.specs.Job.{job_of, AreThere, IsThere};
 ghost use Rattle.mu_command.specs.Parts.{IsJudged, IsBegun, IsFound, objects_in};
 
 use crate::job::{Job, RunJob};
+use crate::joining::find_joined;
 use crate::loading::load;
 use crate::made::find_trial;
 use crate::words::read_words;
 use bundle_check::Checked;
 use client_script::RunClient;
+use mem_axioms::Rule;
 use mu_base::{Inputs, Status, Words};
 use mu_texts::{
     Ready, Start, Stop, Telling, What, enter, judge_client, judge_for_check, judge_for_print,
-    judge_for_run, judge_heap_script, judge_schedule,
+    judge_for_run, judge_heap_script, judge_log, judge_schedule,
 };
 use mu_threads::Schedule;
 use std::alloc::Global;
@@ -60,6 +62,26 @@ fn find_printed<I: Inputs>(
 {
     let bytes = load(alloc, words, What::Bundle, Some(file), inputs)?;
     judge_for_print(alloc, &bytes)
+}
+
+// Fetches a log and judges it.
+#[tactic(auto, using(crate::proofs::Files::files))]
+fn find_verdict<I: Inputs>(
+    alloc: Global,
+    words: &Words,
+    file: usize,
+    rule: Rule,
+    inputs: &mut I,
+) -> Result<Ready, Stop>
+    requires { file < length words.now }
+    ensures same { I.holds inputs.new ≡ I.holds inputs.old }
+    ensures other_slots { (s : ℕ) → s ≢ slot_of What.Log → I.faults inputs.new s ≡ I.faults inputs.old s }
+    ensures never_falls { (s : ℕ) → I.faults inputs.old s ≤ I.faults inputs.new s }
+    ensures judged { IsJudged (record { told = I.holds inputs.old; before = I.faults inputs.old; now = I.faults inputs.new }) words.now What.Log (Some file) (for_judge rule) result }
+    ensures there { IfOk result CanRun }
+{
+    let bytes = load(alloc, words, What::Log, Some(file), inputs)?;
+    judge_log(alloc, rule, &bytes)
 }
 
 // Fetches a bundle and judges it, for a run.
@@ -223,6 +245,8 @@ fn find_job<I: Inputs>(
         Job::Print { file } => find_printed(alloc, words, file, inputs),
         Job::Run(run) => find_run(alloc, words, run, inputs),
         Job::Trial { n } => find_trial(alloc, n),
+        Job::Judge { file, rule } => find_verdict(alloc, words, file, rule, inputs),
+        Job::Join { first, files } => find_joined(alloc, words, first, files, inputs),
     }
 }
 

@@ -12,6 +12,10 @@ pub enum Job {
     Run(RunJob),
     /// Runs the made bundle with `n` pairs, and tells of the run in one line. It has no file.
     Trial { n: u32 },
+    /// Says whether the log in a file meets the axioms of memory without a race, by the rule of release sequences.
+    Judge { file: usize, rule: Rule },
+    /// Writes the bundles in so many files, from the word with number `first` on, joined to one.
+    Join { first: usize, files: usize },
 }
 
 /// A run of the bundle in a file, from the function with that name, over the heap that the script in a file fills, with the client

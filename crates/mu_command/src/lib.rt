@@ -4,6 +4,7 @@
 mod counting;
 mod finding;
 mod job;
+mod joining;
 mod loading;
 mod made;
 mod options;

@@ -15,7 +15,7 @@ fn naming(alloc: Global, text: &str, what: What) -> Result<Vec<u8>, AllocError>
     ensures { IfOk result (λ all. all.items ≡ text.now ++ name_of what) }
 {
     let mut all = Vec::from_slice(alloc, text.as_bytes())?;
-    all.extend_from_slice(what.text().as_bytes())?;
+    what.append_name(&mut all)?;
     Ok(all)
 }
 
@@ -27,7 +27,8 @@ fn load_named<I: Inputs>(
     n: usize,
     inputs: &mut I,
 ) -> Result<Vec<u8>, Stop>
-    requires { n < length words.now }
+    requires slot { slot_of what < 16 }
+    requires there { n < length words.now }
     ensures same { I.holds inputs.new ≡ I.holds inputs.old }
     ensures other_slots { (s : ℕ) → s ≢ slot_of what → I.faults inputs.new s ≡ I.faults inputs.old s }
     ensures never_falls { (s : ℕ) → I.faults inputs.old s ≤ I.faults inputs.new s }
@@ -56,7 +57,8 @@ pub fn load<I: Inputs>(
     n: Option<usize>,
     inputs: &mut I,
 ) -> Result<Vec<u8>, Stop>
-    requires { IfSome n (λ n. n < length words.now) }
+    requires slot { slot_of what < 16 }
+    requires there { IfSome n (λ n. n < length words.now) }
     ensures same { I.holds inputs.new ≡ I.holds inputs.old }
     ensures other_slots { (s : ℕ) → s ≢ slot_of what → I.faults inputs.new s ≡ I.faults inputs.old s }
     ensures never_falls { (s : ℕ) → I.faults inputs.old s ≤ I.faults inputs.new s }

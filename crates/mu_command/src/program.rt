@@ -6,7 +6,7 @@ ghost use Rattle.text_programs.specs.Moments.{EndsSoundly};
 ghost use Rattle.text_programs.specs.Offers.{OffersExactly};
 ghost use Rattle.mu_texts.specs.Answer.{is_end};
 ghost use Rattle.mu_command.specs.Answer.{answer_of, read_fault_line, too_long_line};
-ghost use Rattle.mu_command.specs.Central.{Answered, MayFail, IsPast, IsUnfetched, OfJob, IsAccepted, IsRefused, IsQuiet, outcomes_of, OneAnswer, EachMoment, EachRunEnds, HasSoundLog, HasOneOwner, IsNotStuck, AutoGoesOn};
+ghost use Rattle.mu_command.specs.Central.{Answered, MayFail, IsPast, IsUnfetched, OfJob, IsAccepted, IsRefused, FollowsVerdict, IsQuiet, outcomes_of, OneAnswer, EachMoment, EachRunEnds, HasSoundLog, HasOneOwner, IsNotStuck, AutoGoesOn};
 ghost use Rattle.mu_command.specs.Job.{job_of};
 ghost use Rattle.mu_command.specs.Written.{IsWhole, Writes};
 
@@ -45,6 +45,10 @@ fn answer<I: Inputs, S: Sink>(alloc: Global, words: &Words, inputs: &mut I, out:
 /// - `trial N`, for a number N from 1 to 1,000: a bundle with N pairs of a value and a flag is made, read, checked, and run from `@main`
 ///   as `run` does without options; one line is written, `trial N steps S events E ENDING`, which tells how many steps were made, of how
 ///   many events their lines tell, and the ending. The status is that of the ending.
+/// - `judge FILE`: the file is read as the text of a log, as `run` prints it, and judged by the axioms of memory. One line is written:
+///   `yes EVENTS`; or `no form J`, `no axiom 1 I J`, `no axiom 3 A B` or `no race I J`, with the numbers of events and the status `No`.
+///   `--release-sequences c11` or `--release-sequences rmw` may follow the file; without it the rule is `c11`.
+/// - `join` with 1 to 16 files: each is read as a bundle, in their order, and the joined bundle is written as its canonical text.
 ///
 /// The options of a run come in any order, each at most once:
 ///
@@ -58,7 +62,8 @@ fn answer<I: Inputs, S: Sink>(alloc: Global, words: &Words, inputs: &mut I, out:
 ///   script among them. Each N is at most 1,000,000; where they are not given there are 200,000 steps and 100,000 cells.
 ///
 /// The files are fetched and judged in the order bundle, entry, script for the heap, script of the client, schedule, each before the next
-/// is fetched.
+/// is fetched. Those of `join` are fetched and read in the order of their words, each before the next is fetched, and are joined after
+/// that.
 ///
 /// Else one line is written that names the first fault of what was given. After every status a prefix of the text was written;
 /// after each but `SinkFault` and `Memory` it is the whole text.
@@ -84,6 +89,10 @@ pub fn mu<I: Inputs, S: Sink>(alloc: Global, words: &Words, inputs: &mut I, out:
         (S.written out.old) (S.written out.new) (S.ends out.old) (S.ends out.new)) (job_of words.now) }
     ensures accepted { is_end result ≡ true → OfJob
         (IsAccepted (record { told = I.holds inputs.old; before = I.faults inputs.old; now = I.faults inputs.new }) words.now
+        (S.written out.old) (S.written out.new) (S.ends out.old) (S.ends out.new) result) (job_of words.now) }
+    // No comes exactly where the file that is judged has a log, and the verdict on it is not Yes.
+    ensures no { is_end result ≡ true → OfJob
+        (FollowsVerdict (record { told = I.holds inputs.old; before = I.faults inputs.old; now = I.faults inputs.new }) words.now
         (S.written out.old) (S.written out.new) (S.ends out.old) (S.ends out.new) result) (job_of words.now) }
     ensures sink_fault { result ≡ Status.SinkFault → Rose (S.faults out.old) (S.faults out.new) }
 

@@ -6,7 +6,7 @@ ghost use Rattle.mu_model.specs.Outcomes.{Stuck};
 ghost use Rattle.mu_model.specs.Programs.{named};
 ghost use Rattle.mu_model.specs.Run.{first_configuration, run};
 ghost use Rattle.run_texts.specs.Texts.{ending_status};
-ghost use Rattle.mu_texts.specs.Answer.{Answer, run_of, run_answer, told_answer, ready_answer};
+ghost use Rattle.mu_texts.specs.Answer.{Answer, run_of, run_answer, told_answer, verdict_answer, ready_answer};
 ghost use Rattle.model_laws.specs.Bounds.{HasEnding};
 ghost use Rattle.mu_texts.specs.Comes.{IsRunnable, CanRun};
 ghost use Rattle.mu_texts.specs.declared.ready.Ready.TheVariants as ready;
@@ -25,11 +25,12 @@ use mem_views::ViewMemory;
 use mu_base::{PutFault, Sink, Status};
 use mu_model::{Ending, Line, StepEnd};
 use mu_step::Machine;
-use mu_texts::{Ready, Start, Telling};
+use mu_texts::{Ready, Start, Telling, verdict_status, verdict_text};
 use run_print::{ending_status, ending_text, lines_text};
 use std::alloc::{AllocError, Global};
 use std::mem;
 use thread_acts::RunInputs;
+use verdicts::Verdict;
 
 // Puts a text in one piece; a put that fails gives the status that goes with it.
 fn put<S: Sink>(out: &mut S, text: &[u8]) -> Result<(), Status>
@@ -278,6 +279,19 @@ fn write_canonical<S: Sink>(alloc: Global, bundle: &Bundle, out: &mut S) -> Stat
     }
 }
 
+// Writes the line of a verdict.
+#[tactic(auto, using(crate::proofs::Puts::no_memory, crate::proofs::Puts::whole_verdict))]
+fn write_verdict<S: Sink>(alloc: Global, verdict: Verdict, out: &mut S) -> Status
+    ensures writes { Writes (verdict_answer verdict) (S.written out.old) (S.written out.new) (S.ends out.old) (S.ends out.new) result }
+    ensures never_falls { S.faults out.old ≤ S.faults out.new }
+    ensures fault { result ≡ Status.SinkFault → Rose (S.faults out.old) (S.faults out.new) }
+{
+    match verdict_text(alloc, verdict) {
+        Ok(text) => put_line(out, text, verdict_status(verdict)),
+        Err(_) => Status::Memory,
+    }
+}
+
 /// Writes what was found.
 pub fn write<S: Sink>(alloc: Global, ready: Ready, out: &mut S) -> Status
     requires { CanRun ready }
@@ -295,6 +309,7 @@ pub fn write<S: Sink>(alloc: Global, ready: Ready, out: &mut S) -> Status
             mem::forget(bundle);
             status
         }
+        Ready::Judged(verdict) => write_verdict(alloc, verdict, out),
         Ready::Entered {
             code,
             start,

@@ -1,6 +1,6 @@
 // Reads the words of the command line.
 ghost use Rattle.std.specs.Prelude.{◌≡◌, ◌<◌, ◌≤◌, IfSome, length, drop};
-ghost use Rattle.mu_command.specs.Job.{word, is_digit, digits_up_to, number_up_to, pairs_asked, no_options, with_option, with_all, rule_named, run_with, job_of, AreThere, OptionsAreThere};
+ghost use Rattle.mu_command.specs.Job.{word, is_digit, digits_up_to, number_up_to, pairs_asked, judge_with, join_of, no_options, with_option, with_all, rule_named, run_with, job_of, AreThere, OptionsAreThere};
 
 use crate::job::{Job, RunJob};
 use crate::options::Options;
@@ -68,6 +68,9 @@ fn pairs_asked(text: &[u8]) -> Option<u32>
     let n = number_up_to(MOST_PAIRS, text)?;
     if 1 <= n { Some(n) } else { None }
 }
+
+// How many bundles may be joined.
+const MOST_BUNDLES: usize = 16;
 
 // The rule of release sequences that a word names.
 fn rule_named(text: &str) -> Option<Rule>
@@ -159,10 +162,49 @@ fn run_with(options: Options) -> Option<Job>
     }))
 }
 
+// The judging of the file that word 1 names, by the rule that the words after it name.
+#[tactic(auto, using(crate::proofs::Reading::judging_words))]
+fn judge_with(words: &Words) -> Option<Job>
+    requires { 2 ≤ length words.now }
+    ensures job { result ≡ judge_with (drop 2 words.now) }
+    ensures there { IfSome result (AreThere words.now) }
+{
+    let count = words.len();
+    if count == 2 {
+        Some(Job::Judge {
+            file: 1,
+            rule: Rule::C11,
+        })
+    } else if count == 4 && words.word(2) == "--release-sequences" {
+        let rule = rule_named(words.word(3))?;
+        Some(Job::Judge { file: 1, rule })
+    } else {
+        None
+    }
+}
+
+// The joining of the files that all words after the first name.
+fn join_of(words: &Words) -> Option<Job>
+    requires { 2 ≤ length words.now }
+    ensures job { result ≡ join_of (length words.now) }
+    ensures there { IfSome result (AreThere words.now) }
+{
+    let count = words.len();
+    if count <= 1 + MOST_BUNDLES {
+        Some(Job::Join {
+            first: 1,
+            files: count - 1,
+        })
+    } else {
+        None
+    }
+}
+
 /// What the words ask for: `check FILE`, `print FILE`, `trial N`, or `run FILE` with options in any order, each at most once:
 /// `--entry NAME`, which is required, `--hail F`, `--client F` or `--auto`, `--schedule F`, `--release-sequences c11` or `rmw`, `--steps N`
 /// and `--cells N`. `--auto` has no value; the value of another option is the next word, whatever it is. The N of a trial is a number from
-/// 1 to 1,000. None exactly where they are no such words. It takes no memory.
+/// 1 to 1,000. Or `judge FILE`, with `--release-sequences c11` or `rmw` after the file or not; or `join` with 1 to 16 files. None exactly
+/// where they are no such words. It takes no memory.
 #[tactic(auto, unfolding(crate::specs::Job::job_of))]
 pub fn read_words(words: &Words) -> Option<Job>
     ensures job { result ≡ job_of words.now }
@@ -182,6 +224,10 @@ pub fn read_words(words: &Words) -> Option<Job>
             Some(options) => run_with(options),
             None => None,
         }
+    } else if 2 <= words.len() && words.word(0) == "judge" {
+        judge_with(words)
+    } else if 2 <= words.len() && words.word(0) == "join" {
+        join_of(words)
     } else {
         None
     }

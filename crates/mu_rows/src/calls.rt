@@ -55,11 +55,16 @@ pub fn file(alloc: Global, bytes: Vec<u8>, failing: &[u32]) -> Result<MemoryInpu
     Ok(MemoryInputs::new(files, Vec::from_slice(alloc, failing)?))
 }
 
-// The file `b` with those bytes, and the file `f` with that text.
-fn two_files(alloc: Global, bytes: Vec<u8>, text: &str) -> Result<MemoryInputs, AllocError> {
+/// The file `b` with those bytes, and the file `f` with that text. The fetches with those numbers fail.
+pub fn two_files(
+    alloc: Global,
+    bytes: Vec<u8>,
+    text: &str,
+    failing: &[u32],
+) -> Result<MemoryInputs, AllocError> {
     let other = Vec::from_slice(alloc, text.as_bytes())?;
     let files = vec![in alloc; named(alloc, "b", bytes)?, named(alloc, "f", other)?]?;
-    Ok(MemoryInputs::new(files, Vec::new(alloc)))
+    Ok(MemoryInputs::new(files, Vec::from_slice(alloc, failing)?))
 }
 
 /// What the program writes, and its status.
@@ -145,7 +150,7 @@ pub fn each_answers_beside(
 ) -> Result<(), AllocError> {
     for (bundle, text, status) in rows {
         let bytes = behind_definitions(alloc, bundle)?;
-        let inputs = two_files(alloc, bytes, other)?;
+        let inputs = two_files(alloc, bytes, other, &[])?;
         let out = MemorySink::new(alloc, Vec::new(alloc));
         let wanted = Wanted {
             text: *text,
@@ -166,7 +171,7 @@ pub fn each_text_answers(
 ) -> Result<(), AllocError> {
     for (other, text, status) in texts {
         let bytes = behind_definitions(alloc, bundle)?;
-        let inputs = two_files(alloc, bytes, other)?;
+        let inputs = two_files(alloc, bytes, other, &[])?;
         let out = MemorySink::new(alloc, Vec::new(alloc));
         let wanted = Wanted {
             text: *text,

@@ -10,6 +10,10 @@ mod clients;
 #[cfg(test)]
 mod faults;
 #[cfg(test)]
+mod joins;
+#[cfg(test)]
+mod judged;
+#[cfg(test)]
 mod objects;
 #[cfg(test)]
 mod refusals;

@@ -20,10 +20,18 @@ use Rattle.client_script.specs.Texts.{script_demands, script_entries}
 use Rattle.loaded_programs.specs.Laws.{carried_out, loaded_objects}
 use Rattle.mu_model.specs.Clients as clients
 use Rattle.mu_threads.specs.ScheduleTexts.{schedule_demands, schedule_numbers}
+use Rattle.mem_axioms.specs.declared.types.Rule.{Rule}
+use Rattle.bundle_join.specs.declared.fault.JoinFault.{JoinFault}
+use Rattle.bundle_join.specs.declared.fault.JoinFault.TheVariants as join_faults
+use Rattle.bundle_join.specs.Joined.{joined}
+use Rattle.log_lines.specs.declared.types.LogKind.{LogKind}
+use Rattle.log_lines.specs.Texts.{ReadLog, text_read}
+use Rattle.verdicts.specs.Verdicts.{verdict}
+use Rattle.mu_texts.specs.declared.ready.Ready.TheVariants as ready
 use Rattle.mu_texts.specs.declared.what.What.{What}
 use Rattle.mu_texts.specs.declared.what.What.TheVariants.{Bundle, Hail, Client, Schedule}
 use Rattle.mu_texts.specs.Refusals.{name_fault_name, check_fault_name, hail_fault_name, load_fault_name, script_fault_name, schedule_fault_name}
-use Rattle.mu_texts.specs.Answer.{Answer, no_answer, Part, ◌>>=◌, read_part, met_part, named, checked, as_written, accepted, entry_part, entered, hail_part, filled_part, loaded, client_part, scheduled}
+use Rattle.mu_texts.specs.Answer.{Answer, no_answer, Part, ◌>>=◌, read_part, met_part, named, checked, written_in, as_written, joined_part, for_join, log_part, for_judge, accepted, entry_part, entered, hail_part, filled_part, loaded, client_part, scheduled}
 
 -- an answer that ends the way is so
 abbrev pub StopsSo : (Answer → Type 0) → {A : Type 0} → Part A → Type 0
@@ -36,10 +44,10 @@ then P (Err answer) more s m = s
 
 -- what is asked of a text ends with a refusal alone
 module _ (P : Answer → Type 0) (refused : (answer : Answer) → answer.status ≡ Refused → P answer) (memory : P no_answer) where
-  reading : (r : Result (List Item) TextFault) → StopsSo P (read_part r)
-  reading (Ok bundle) = tt
-  reading (Err (text_faults.At kind place)) = refused _ refl
-  reading (Err text_faults.Memory) = memory
+  reading : (what : What) (r : Result (List Item) TextFault) → StopsSo P (read_part what r)
+  reading what (Ok bundle) = tt
+  reading what (Err (text_faults.At kind place)) = refused _ refl
+  reading what (Err text_faults.Memory) = memory
 
   meeting : {K A : Type 0} (what : What) (name : K → List ℕ) (x : A) (fault : Option (Fault K)) → StopsSo P (met_part what name x fault)
   meeting what name x None = tt
@@ -53,12 +61,33 @@ module _ (P : Answer → Type 0) (refused : (answer : Answer) → answer.status 
   pub accepting : (bytes : List ℕ) → StopsSo P (accepted bytes)
   accepting bytes =
       then P (as_written bytes >>= named) checked
-      (then P (as_written bytes) named (reading (text_answer bytes)) (λ bundle. meeting Bundle name_fault_name bundle (first_unmet (name_demands bundle))))
+      (then P (as_written bytes) named (reading Bundle (text_answer bytes)) (λ bundle. meeting Bundle name_fault_name bundle (first_unmet (name_demands bundle))))
       (λ bundle. meeting Bundle check_fault_name bundle (first_unmet (check_demands bundle)))
 
   -- a text that is a bundle
+  pub writing_in : (what : What) (bytes : List ℕ) → StopsSo P (written_in what bytes)
+  writing_in what bytes = reading what (text_answer bytes)
+
   pub writing : (bytes : List ℕ) → StopsSo P (as_written bytes)
-  writing bytes = reading (text_answer bytes)
+  writing bytes = writing_in Bundle bytes
+
+  -- bundles that are joined
+  joined_so : (r : Result (List Item) JoinFault) → StopsSo P (joined_part r)
+  joined_so (Ok bundle) = tt
+  joined_so (Err (join_faults.At kind k place)) = refused _ refl
+  joined_so (Err join_faults.Memory) = memory
+
+  pub joining : (bundles : List (List Item)) → StopsSo P (for_join bundles)
+  joining bundles = then P (joined_part (joined bundles)) (λ bundle. Ok (ready.Canonical bundle)) (joined_so (joined bundles)) (λ bundle. tt)
+
+  -- a log that is judged
+  logging : (r : Result ReadLog (Fault LogKind)) → StopsSo P (log_part r)
+  logging (Ok log) = tt
+  logging (Err (faults.At kind place)) = refused _ refl
+  logging (Err faults.Memory) = memory
+
+  pub judging_log : (rule : Rule) (bytes : List ℕ) → StopsSo P (for_judge rule bytes)
+  judging_log rule bytes = then P (log_part (text_read bytes)) (λ r. Ok (ready.Judged (verdict rule r.log))) (logging (text_read bytes)) (λ r. tt)
 
   -- a function that is entered
   pub entering_named : (bundle : List Item) (name : List ℕ) → StopsSo P (entered bundle name)

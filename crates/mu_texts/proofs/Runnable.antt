@@ -40,7 +40,7 @@ goes_on (Err answer) more b h = cc
 abbrev read_as : List Item → Result (List Item) TextFault
 read_as bundle = Ok bundle
 
-was_read : (r : Result (List Item) TextFault) (bundle : List Item) → read_part r ≡ Ok bundle → r ≡ Ok bundle
+was_read : (r : Result (List Item) TextFault) (bundle : List Item) → read_part Bundle r ≡ Ok bundle → r ≡ Ok bundle
 was_read (Ok code) bundle h = let same : code ≡ bundle = cc in ap read_as same
 was_read (Err (text_faults.At kind place)) bundle h = cc
 was_read (Err text_faults.Memory) bundle h = cc

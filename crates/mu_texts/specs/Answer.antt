@@ -1,9 +1,9 @@
 -- What the texts of files come to, and what is written then.
-use Rattle.std.specs.Prelude.{ℕ, ◌+◌, Bool, true, false, List, [], ◌∷◌, ◌++◌, length, sum_by, Option, None, Some, Result, Ok, Err, codes, decimal}
+use Rattle.std.specs.Prelude.{ℕ, ◌+◌, Bool, true, false, List, [], ◌∷◌, ◌++◌, length, sum_by, Option, None, Some, Result, Ok, Err, codes, decimal, if◌then◌else◌}
 use Rattle.std.specs.List.{count_by}
 use Rattle.mu_base.specs.declared.status.Status.{Status}
 use Rattle.mu_base.specs.declared.status.Status.TheVariants as statuses
-use Rattle.mu_base.specs.declared.status.Status.TheVariants.{Done as Finished, Refused, Memory}
+use Rattle.mu_base.specs.declared.status.Status.TheVariants.{Done as Finished, Refused, Memory, No}
 use Rattle.ir_text.specs.declared.fault.TextFault.{TextFault}
 use Rattle.ir_text.specs.declared.fault.TextFault.TheVariants as text_faults
 use Rattle.ir_text.specs.TextAnswers.{text_answer}
@@ -24,6 +24,15 @@ use Rattle.hail_load.specs.Texts.{hail_demands, hail_commands}
 use Rattle.loaded_programs.specs.Laws.{carried_out, loaded_objects}
 use Rattle.client_script.specs.Texts.{script_demands, script_entries}
 use Rattle.mu_threads.specs.ScheduleTexts.{schedule_demands, schedule_numbers}
+use Rattle.mem_axioms.specs.declared.types.Rule.{Rule}
+use Rattle.bundle_join.specs.declared.fault.JoinFault.{JoinFault}
+use Rattle.bundle_join.specs.declared.fault.JoinFault.TheVariants as join_faults
+use Rattle.bundle_join.specs.Joined.{joined}
+use Rattle.log_lines.specs.declared.types.LogKind.{LogKind}
+use Rattle.log_lines.specs.Texts.{ReadLog, text_read}
+use Rattle.verdicts.specs.declared.types.Verdict.{Verdict}
+use Rattle.verdicts.specs.declared.types.Verdict.TheVariants as verdicts
+use Rattle.verdicts.specs.Verdicts.{verdict}
 use Rattle.mu_model.specs.declared.lines.Line.{Line}
 use Rattle.mu_model.specs.declared.lines.Line.TheVariants as lines
 use Rattle.mu_model.specs.Clients as clients
@@ -31,14 +40,14 @@ use Rattle.mu_model.specs.Run.{Setting, cells_left, Run, Ends, Breaks, Unfinishe
 use Rattle.run_texts.specs.Texts.{ending_text, ending_status}
 use Rattle.run_texts.specs.Pieces.{pieces_of}
 use Rattle.mu_texts.specs.declared.what.What.{What}
-use Rattle.mu_texts.specs.declared.what.What.TheVariants.{Bundle, Hail, Client, Schedule}
+use Rattle.mu_texts.specs.declared.what.What.TheVariants.{Bundle, Hail, Client, Schedule, Log, Joined}
 use Rattle.mu_texts.specs.declared.ready.Ready.{Ready}
 use Rattle.mu_texts.specs.declared.ready.Ready.TheVariants as ready
 use Rattle.mu_texts.specs.declared.ready.Telling.{Telling}
 use Rattle.mu_texts.specs.declared.ready.Telling.TheVariants.{Lines, Counts}
 use Rattle.mu_texts.specs.Start.{Started}
 use Rattle.mu_texts.specs.What.{name_of}
-use Rattle.mu_texts.specs.Refusals.{text_fault_name, name_fault_name, check_fault_name, entry_fault_name, hail_fault_name, load_fault_name, script_fault_name, schedule_fault_name}
+use Rattle.mu_texts.specs.Refusals.{text_fault_name, name_fault_name, check_fault_name, entry_fault_name, hail_fault_name, load_fault_name, script_fault_name, schedule_fault_name, log_fault_name, join_fault_name}
 
 -- What is to be written, in the pieces that are put one by one, and the status that goes with it.
 pub record Answer : Type 0 where
@@ -66,11 +75,11 @@ abbrev pub ◌>>=◌ : {A B : Type 0} → Part A → (A → Part B) → Part B
 abbrev pub refused : What → ℕ → List ℕ → Answer
 refused what place fault = line (codes "refused " ++ name_of what ++ codes " " ++ decimal place ++ codes " " ++ fault) Refused
 
--- a text is a bundle, or has a first fault
-abbrev pub read_part : Result (List Item) TextFault → Part (List Item)
-read_part (Ok bundle) = Ok bundle
-read_part (Err (text_faults.At kind place)) = Err (refused Bundle place (text_fault_name kind))
-read_part (Err text_faults.Memory) = Err no_answer
+-- the text of a file is a bundle, or has a first fault
+abbrev pub read_part : What → Result (List Item) TextFault → Part (List Item)
+read_part what (Ok bundle) = Ok bundle
+read_part what (Err (text_faults.At kind place)) = Err (refused what place (text_fault_name kind))
+read_part what (Err text_faults.Memory) = Err no_answer
 
 -- what a file stands for, or the first fault that was found in it, of a kind that has a name
 abbrev pub met_part : {K A : Type 0} → What → (K → List ℕ) → A → Option (Fault K) → Part A
@@ -85,9 +94,12 @@ named bundle = met_part Bundle name_fault_name bundle (first_unmet (name_demands
 abbrev pub checked : List Item → Part (List Item)
 checked bundle = met_part Bundle check_fault_name bundle (first_unmet (check_demands bundle))
 
--- the bundle that a text is
+-- the bundle that the text of a file is, and that of the one bundle of a job
+abbrev pub written_in : What → List ℕ → Part (List Item)
+written_in what bytes = read_part what (text_answer bytes)
+
 abbrev pub as_written : List ℕ → Part (List Item)
-as_written bytes = read_part (text_answer bytes)
+as_written bytes = written_in Bundle bytes
 
 -- the bundle that a text is, where it meets its demands
 abbrev pub accepted : List ℕ → Part (List Item)
@@ -107,6 +119,30 @@ for_check bytes = accepted bytes >>= λ code. Ok ready.Accepted
 
 abbrev pub for_print : List ℕ → Part Ready
 for_print bytes = as_written bytes >>= λ bundle. Ok (ready.Canonical bundle)
+
+-- ---- bundles that are joined
+
+-- the joined bundle, or the first item that cannot go into it, in the file of its bundle
+abbrev pub joined_part : Result (List Item) JoinFault → Part (List Item)
+joined_part (Ok bundle) = Ok bundle
+joined_part (Err (join_faults.At kind k place)) = Err (refused (Joined k) place (join_fault_name kind))
+joined_part (Err join_faults.Memory) = Err no_answer
+
+-- what `mu join` asks of bundles
+abbrev pub for_join : List (List Item) → Part Ready
+for_join bundles = joined_part (joined bundles) >>= λ bundle. Ok (ready.Canonical bundle)
+
+-- ---- a log that is judged
+
+-- a text is that of a log, or has a first fault
+abbrev pub log_part : Result ReadLog (Fault LogKind) → Part ReadLog
+log_part (Ok r) = Ok r
+log_part (Err (faults.At kind place)) = Err (refused Log place (log_fault_name kind))
+log_part (Err faults.Memory) = Err no_answer
+
+-- what `mu judge` asks of a text: a log, which is judged by the rule of release sequences
+abbrev pub for_judge : Rule → List ℕ → Part Ready
+for_judge rule bytes = log_part (text_read bytes) >>= λ r. Ok (ready.Judged (verdict rule r.log))
 
 -- ---- what a run is given
 
@@ -172,9 +208,33 @@ abbrev pub in_one_piece : List ℕ → List (List ℕ)
 in_one_piece [] = []
 in_one_piece (b ∷ text) = (b ∷ text) ∷ []
 
--- the statuses that an answer to what was accepted may have: Done, and those of the endings of runs
+-- ---- the verdict on a log
+
+-- `yes EVENTS`, or what is first wrong, with the numbers of events
+abbrev pub verdict_text : Verdict → List ℕ
+verdict_text (verdicts.Yes events) = codes "yes " ++ decimal events
+verdict_text (verdicts.Form event) = codes "no form " ++ decimal event
+verdict_text (verdicts.Axiom1 earlier event) = codes "no axiom 1 " ++ decimal earlier ++ codes " " ++ decimal event
+verdict_text (verdicts.Axiom3 a b) = codes "no axiom 3 " ++ decimal a ++ codes " " ++ decimal b
+verdict_text (verdicts.Race earlier event) = codes "no race " ++ decimal earlier ++ codes " " ++ decimal event
+
+abbrev pub is_yes : Verdict → Bool
+is_yes (verdicts.Yes events) = true
+is_yes _ = false
+
+-- the status No goes with each verdict but Yes
+abbrev pub verdict_status : Verdict → Status
+verdict_status v = if is_yes v then Finished else No
+
+abbrev pub verdict_answer : Verdict → Answer
+verdict_answer v = line (verdict_text v) (verdict_status v)
+
+-- ---- what is written
+
+-- the statuses that an answer to what was accepted may have: Done, those of the endings of runs, and No
 abbrev pub is_end : Status → Bool
 is_end Finished = true
+is_end No = true
 is_end statuses.Stop = true
 is_end statuses.Undefined = true
 is_end statuses.HeapFull = true
@@ -183,10 +243,11 @@ is_end statuses.AllWaiting = true
 is_end statuses.Budget = true
 is_end _ = false
 
--- what is written then: `ok`, the canonical text in one piece, or what is told of the run
+-- what is written then: `ok`, the canonical text in one piece, the line of a verdict, or what is told of the run
 abbrev pub ready_answer : Ready → Answer
 ready_answer ready.Accepted = line (codes "ok") Finished
 ready_answer (ready.Canonical bundle) = record { pieces = in_one_piece (bundle_text bundle); status = Finished }
+ready_answer (ready.Judged v) = verdict_answer v
 ready_answer (ready.Entered code start telling) = told_answer telling code (run_of code start.entry start.setting)
 
 abbrev pub ready_part : Part Ready → Answer

@@ -77,4 +77,5 @@ pub record IsRunnable (code : List Item) (start : Started) : Type 0 where
 abbrev pub CanRun : Ready → Type 0
 CanRun ready.Accepted = ⊤
 CanRun (ready.Canonical bundle) = ⊤
+CanRun (ready.Judged v) = ⊤
 CanRun (ready.Entered code start telling) = IsRunnable code start

@@ -18,6 +18,10 @@ use Rattle.hail_load.specs.declared.fault.LoadKind.{LoadKind}
 use Rattle.hail_load.specs.declared.fault.LoadKind.TheVariants as load_kinds
 use Rattle.client_script.specs.declared.fault.ScriptKind.{ScriptKind}
 use Rattle.client_script.specs.declared.fault.ScriptKind.TheVariants as script_kinds
+use Rattle.log_lines.specs.declared.types.LogKind.{LogKind}
+use Rattle.log_lines.specs.declared.types.LogKind.TheVariants as log_kinds
+use Rattle.bundle_join.specs.declared.fault.JoinKind.{JoinKind}
+use Rattle.bundle_join.specs.declared.fault.JoinKind.TheVariants as join_kinds
 use Rattle.mu_threads.specs.declared.reading.ScheduleKind.{ScheduleKind}
 use Rattle.mu_threads.specs.declared.reading.ScheduleKind.TheVariants as schedule_kinds
 
@@ -85,3 +89,16 @@ script_fault_name script_kinds.Unknown = codes "Unknown"
 abbrev pub schedule_fault_name : ScheduleKind → List ℕ
 schedule_fault_name schedule_kinds.BadToken = codes "BadToken"
 schedule_fault_name schedule_kinds.NumberTooLarge = codes "NumberTooLarge"
+
+-- what is wrong with the text of a log
+abbrev pub log_fault_name : LogKind → List ℕ
+log_fault_name log_kinds.Lex = codes "Lex"
+log_fault_name log_kinds.Unexpected = codes "Unexpected"
+log_fault_name log_kinds.BadNumber = codes "BadNumber"
+
+-- why an item cannot go into the joined bundle
+abbrev pub join_fault_name : JoinKind → List ℕ
+join_fault_name join_kinds.Duplicate = codes "Duplicate"
+join_fault_name join_kinds.OtherType = codes "OtherType"
+join_fault_name join_kinds.OtherSignature = codes "OtherSignature"
+join_fault_name join_kinds.TooMany = codes "TooMany"

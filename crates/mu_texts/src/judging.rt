@@ -1,7 +1,7 @@
 // Reads the texts of files, and judges them.
 ghost use Rattle.std.specs.Prelude.{◌≡◌, ◌≤◌, None, Ok, IfOk, OnOk};
 ghost use Rattle.demands.specs.Demands.{first_unmet};
-ghost use Rattle.mu_texts.specs.Answer.{as_written, named, checked, accepted, entered, for_check, for_print, hail_part, client_part, scheduled};
+ghost use Rattle.mu_texts.specs.Answer.{written_in, as_written, named, checked, accepted, entered, for_check, for_print, hail_part, client_part, scheduled};
 ghost use Rattle.loaded_programs.specs.Laws.{IsScripted};
 ghost use Rattle.mu_texts.specs.Comes.{Comes, met_alone, IsRefusal, LoadedRunsEnd, CanBegin, CanRun};
 
@@ -33,20 +33,24 @@ pub fn refused(alloc: Global, what: What, place: usize, fault: &str) -> Result<S
     Ok(Stop::Line(text, Status::Refused))
 }
 
-// Reads a bundle.
-fn read(alloc: Global, bytes: &[u8]) -> Result<Bundle, Stop>
-    ensures { Comes (as_written bytes.now) result }
+/// The bundle that the text of a file spells.
+pub fn read_written(alloc: Global, what: What, bytes: &[u8]) -> Result<Bundle, Stop>
+    ensures { Comes (written_in what bytes.now) result }
 {
     match read_bundle(alloc, bytes) {
         Ok(bundle) => Ok(bundle),
         Err(TextFault::Memory) => Err(Stop::Memory),
-        Err(TextFault::At { kind, place }) => Err(refused(
-            alloc,
-            What::Bundle,
-            place,
-            text_fault_name(kind),
-        )?),
+        Err(TextFault::At { kind, place }) => {
+            Err(refused(alloc, what, place, text_fault_name(kind))?)
+        }
     }
+}
+
+// Reads the one bundle of a job.
+fn read(alloc: Global, bytes: &[u8]) -> Result<Bundle, Stop>
+    ensures { Comes (as_written bytes.now) result }
+{
+    read_written(alloc, What::Bundle, bytes)
 }
 
 // Judges the names of a bundle.

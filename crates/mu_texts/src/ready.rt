@@ -2,6 +2,7 @@
 use crate::start::Start;
 use bundle_check::Checked;
 use ir_tree::Bundle;
+use verdicts::Verdict;
 
 /// What is told of a run.
 #[derive(Clone, Copy, Debug, PartialEq, Eq)]
@@ -19,6 +20,8 @@ pub enum Ready {
     Accepted,
     /// The bundle in canonical text.
     Canonical(Bundle),
+    /// The verdict on a log.
+    Judged(Verdict),
     /// What is told of a run of a checked bundle. One variant serves every telling, since each place that drops what is ready is proved
     /// part by part.
     Entered {

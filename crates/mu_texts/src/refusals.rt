@@ -1,15 +1,17 @@
 // The lines of refusals.
 ghost use Rattle.std.specs.Prelude.{◌≡◌, ◌++◌, IfOk, codes, decimal};
 ghost use Rattle.mu_texts.specs.What.{name_of};
-ghost use Rattle.mu_texts.specs.Refusals.{text_fault_name, name_fault_name, type_fault_name, const_fault_name, check_fault_name, entry_fault_name, hail_fault_name, load_fault_name, script_fault_name, schedule_fault_name};
+ghost use Rattle.mu_texts.specs.Refusals.{text_fault_name, name_fault_name, type_fault_name, const_fault_name, check_fault_name, entry_fault_name, hail_fault_name, load_fault_name, script_fault_name, schedule_fault_name, log_fault_name, join_fault_name};
 
 use crate::what::What;
 use bundle_check::EntryFault;
+use bundle_join::JoinKind;
 use bundle_names::NameKind;
 use check_tables::CheckKind;
 use client_script::ScriptKind;
 use hail_load::{HailKind, LoadKind};
 use itoa::Buffer;
+use log_lines::LogKind;
 use mu_threads::ScheduleKind;
 use mu_types::TypeKind;
 use mu_values::ConstKind;
@@ -137,13 +139,36 @@ pub fn schedule_fault_name(kind: ScheduleKind) -> &'static str
     }
 }
 
+/// The name of a fault of a log's text in refusals.
+pub fn log_fault_name(kind: LogKind) -> &'static str
+    ensures { result.now ≡ log_fault_name kind }
+{
+    match kind {
+        LogKind::Lex => "Lex",
+        LogKind::Unexpected => "Unexpected",
+        LogKind::BadNumber => "BadNumber",
+    }
+}
+
+/// The name of what keeps an item from going into a joined bundle, in refusals.
+pub fn join_fault_name(kind: JoinKind) -> &'static str
+    ensures { result.now ≡ join_fault_name kind }
+{
+    match kind {
+        JoinKind::Duplicate => "Duplicate",
+        JoinKind::OtherType => "OtherType",
+        JoinKind::OtherSignature => "OtherSignature",
+        JoinKind::TooMany => "TooMany",
+    }
+}
+
 /// `refused WHAT PLACE FAULT`
 pub fn refusal(alloc: Global, what: What, place: usize, fault: &str) -> Result<Vec<u8>, AllocError>
     ensures { IfOk result (λ text. text.items ≡ codes "refused " ++ name_of what ++ codes " " ++ decimal place ++ codes " " ++ fault.now) }
 {
     let mut buffer = Buffer::new();
     let mut text = Vec::from_slice(alloc, b"refused ")?;
-    text.extend_from_slice(what.text().as_bytes())?;
+    what.append_name(&mut text)?;
     text.extend_from_slice(b" ")?;
     text.extend_from_slice(buffer.format(place).as_bytes())?;
     text.extend_from_slice(b" ")?;

@@ -1,5 +1,8 @@
 // The files of a job.
-ghost use Rattle.std.specs.Prelude.{◌≡◌};
+ghost use Rattle.std.specs.Prelude.{◌≡◌, ◌++◌, OnOk};
+
+use itoa::Buffer;
+use std::alloc::AllocError;
 
 /// A file of a job.
 #[derive(Clone, Copy, Debug, PartialEq, Eq)]
@@ -12,6 +15,10 @@ pub enum What {
     Client,
     /// The numbers that decide the picks of the run.
     Schedule,
+    /// The log that is judged.
+    Log,
+    /// One of the bundles that are joined, by its number among them, from 0 on.
+    Joined(u32),
 }
 
 impl What {
@@ -26,18 +33,26 @@ impl What {
             What::Hail => 1,
             What::Client => 2,
             What::Schedule => 3,
+            What::Log => 0,
+            What::Joined(k) => k,
         }
     }
 
-    /// Its name in texts.
-    pub fn text(self) -> &'static str
-        ensures { result.now ≡ name_of self }
+    /// Appends its name in texts. After a refusal a part of it may have been appended.
+    pub fn append_name(self, out: &mut Vec<u8>) -> Result<(), AllocError>
+        ensures { OnOk result (out.new.items ≡ out.old.items ++ name_of self) }
     {
         match self {
-            What::Bundle => "bundle",
-            What::Hail => "hail",
-            What::Client => "client",
-            What::Schedule => "schedule",
+            What::Bundle => out.extend_from_slice(b"bundle"),
+            What::Hail => out.extend_from_slice(b"hail"),
+            What::Client => out.extend_from_slice(b"client"),
+            What::Schedule => out.extend_from_slice(b"schedule"),
+            What::Log => out.extend_from_slice(b"log"),
+            What::Joined(k) => {
+                let mut buffer = Buffer::new();
+                out.extend_from_slice(b"bundle ")?;
+                out.extend_from_slice(buffer.format(k).as_bytes())
+            }
         }
     }
 }

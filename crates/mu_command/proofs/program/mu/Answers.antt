@@ -1,6 +1,7 @@
 use Rattle.mu_command.proofs.Accepting.{accepted_cause}
 use Rattle.mu_command.proofs.Causes.{read_fault_cause, refused_cause, too_long_cause}
 use Rattle.mu_command.proofs.Completeness.{complete}
+use Rattle.mu_command.proofs.Verdicts.{verdict_cause}
 use Rattle.mu_command.proofs.AutoClient.{auto_goes_on}
 use Rattle.mu_command.proofs.Moments.{of_sound}
 use Rattle.mu_command.specs.Central.{AutoGoesOn, HasSoundLog, HasOneOwner, IsNotStuck}
@@ -16,6 +17,9 @@ returns-clause-complete g c = λ files told quiet. complete _ files _ _ _ _ _ _ 
 
 pub returns-clause-accepted : goal.returns-clause-accepted
 returns-clause-accepted g c = λ s. accepted_cause _ _ _ _ _ _ _ c.answer.ensures.answered s
+
+pub returns-clause-no : goal.returns-clause-no
+returns-clause-no g c = λ s. verdict_cause _ _ _ _ _ _ _ c.answer.ensures.answered s
 
 pub returns-clause-sound_logs : goal.returns-clause-sound_logs
 returns-clause-sound_logs g c = of_sound HasSoundLog (λ p c m. m.log) c.args.words.now (c.runs_are_sound.ensures c.args.words.now)

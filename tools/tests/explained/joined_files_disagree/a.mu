@@ -1,0 +1,2 @@
+.typedef @i = int<8>
+.global @g <@i>
