@@ -8,7 +8,7 @@ use Rattle.frames.specs.Activations.{Value, Goal, Activation}
 use Rattle.typed_heap.specs.Places.{with_some}
 use Rattle.mu_model.specs.declared.endings.Case.{Case}
 use Rattle.mu_model.specs.declared.endings.Case.TheVariants.{StackTypes}
-use Rattle.mu_model.specs.Clients.{Classed, With, Pass, Throw, Reply, Resume, Rebind, Exit, Stop, Answer}
+use Rattle.mu_model.specs.Clients.{Classed, With, Pass, Throw, Reply, Resume, Rebind, Exit, Stop, Answer, Edit}
 use Rattle.mu_model.specs.Configuration.{Stack, Ready, Configuration}
 use Rattle.mu_model.specs.Acts.{Passes, Program}
 use Rattle.mu_model.specs.Frames.{passed}
@@ -17,7 +17,8 @@ use Rattle.mu_model.specs.Outcomes.{Outcome, Next, Asks, on, tried, View}
 use Rattle.mu_model.specs.Exceptions.{EnteredFrames}
 use Rattle.mu_model.specs.EnteringStacks.{entered, enters, ready, ready_at, leaving}
 use Rattle.mu_model.specs.Changes.{noted}
-use Rattle.mu_model.specs.Traps.{answered, replied, taken, trap_note, trapped}
+use Rattle.mu_model.specs.Edits.{edited}
+use Rattle.mu_model.specs.Traps.{answered, edits, replied, taken, trap_note, trapped}
 use Rattle.client_hooks.specs.Handlers.{PassesAsked, ResumesAsked, OnlyResumes}
 use Rattle.client_hooks.specs.AutoAnswers.{GoesOn}
 
@@ -81,20 +82,22 @@ abbrev view_at : Turn → Option ℕ → List ℕ → Activation → View
 view_at u n cs f = record { thread = u.thread; watchpoint = n; asked = cs; frames = f ∷ u.below }
 
 abbrev goes_from : Program → Configuration → Turn → Option ℕ → Activation → Option Answer → Outcome
-goes_from p c u n f = answered p (noted (trap_note u n) (leaving u f c)) u
+goes_from p c u n f = answered p (noted (trap_note u n) (leaving u f c)) u (f ∷ u.below)
 
 -- an answer that only resumes
 pub goes_on : (p : Program) (c : Configuration) (u : Turn) (n : Option ℕ) (cs : List ℕ) (view : View) (go : Option Answer → Outcome) (o : Option Answer) (a : Answer) → trapped p c u n cs ≡ Asks view go → o ≡ Some a → OnlyResumes p.tables view a → GoesOn (go o)
-unfolding on
+unfolding on tried
 goes_on p c u n cs view go o a e is only = by u.doing.exceptional u.doing.kept e
   where
     asked : (f : Activation) → cs ≡ f.waits → Asks (view_at u n cs f) (goes_from p c u n f) ≡ Asks view go → GoesOn (go o)
     asked f waits e =
         let same : view_at u n cs f ≡ view = ap (view_or view) e in
         let goes : goes_from p c u n f ≡ go = ap (go_or go) e in
+        let d : Configuration = taken a (noted (trap_note u n) (leaving u f c)) in
         subst (λ (g : Option Answer → Outcome). GoesOn (g o)) goes
         (subst (λ (x : Option Answer). GoesOn (goes_from p c u n f x)) (sym is)
-        (answers_on p (taken a (noted (trap_note u n) (leaving u f c))) u c.stacks f view a.reply refl (sym (ap (λ (v : View). v.asked) same) ∙ waits) only.1))
+        (subst (λ (e : Edit). GoesOn (tried p d u (edited p e (f ∷ u.below)) (λ r. replied p (edits u r d) u a.reply))) (sym only.1)
+        (answers_on p (edits u (record { frames = f ∷ u.below; ended = [] }) d) u d.stacks f view a.reply refl (sym (ap (λ (v : View). v.asked) same) ∙ waits) only.2)))
 
     by : (h : Option (Option Goal)) (kept : Option TypedValues)
         → on (with_some h (λ h. with_some kept (λ ks. Some (record u.top { waits = cs; handler = h; kept = ks })))) (λ f. Asks (view_at u n cs f) (goes_from p c u n f)) ≡ Asks view go → GoesOn (go o)

@@ -2,7 +2,7 @@
 use Rattle.std.specs.Prelude.{◌≡◌, []}
 use Rattle.mu_values.specs.Slots.{TypedValues}
 use Rattle.check_tables.specs.declared.tables.Tables.{Tables}
-use Rattle.mu_model.specs.Clients.{Classed, With, Pass, Throw, Reply, Resume, Rebind, Exit, Stop, Answer}
+use Rattle.mu_model.specs.Clients.{Classed, With, Pass, Throw, Reply, Resume, Rebind, Exit, Stop, Answer, no_edit}
 use Rattle.mu_model.specs.Outcomes.{View}
 use Rattle.client_hooks.specs.Told.{AreTold}
 
@@ -18,6 +18,6 @@ ResumesAsked p view (Rebind t w) = ⊥
 ResumesAsked p view Exit = ⊥
 ResumesAsked p view Stop = ⊥
 
--- and nothing is recorded
+-- nothing is recorded, no frame is popped or pushed, and then the trapped stack is entered so
 abbrev pub OnlyResumes : Tables → View → Answer → Type 0
-OnlyResumes p view a = (a.notes ≡ []) × ResumesAsked p view a.reply
+OnlyResumes p view a = (a.notes ≡ []) × (a.edit ≡ no_edit) × ResumesAsked p view a.reply

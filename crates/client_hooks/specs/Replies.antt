@@ -1,5 +1,7 @@
 -- Which answer of the abstract machine a reply is, and which stack it hands back.
-use Rattle.std.specs.Prelude.{⊤}
+use Rattle.std.specs.Prelude.{◌≡◌, ◌≤◌, ⊤}
+use Rattle.frames.specs.Chains.{frames_in}
+use Rattle.client_hooks.specs.declared.reply.Edit.{Edit}
 use Rattle.mu_values.specs.Slots.{TypedValues}
 use Rattle.stacks.specs.Stacks.{Unbound}
 use Rattle.mu_model.specs.Clients as clients
@@ -26,8 +28,18 @@ end_of (ends.Rebind stack target with_) = clients.Rebind (classed target) (way_o
 end_of (ends.Exit stack) = clients.Exit
 end_of (ends.Stop stack) = clients.Stop
 
+abbrev pub edit_of : Edit → clients.Edit
+edit_of e = record { pop = e.pop; push = e.push }
+
 abbrev pub answer_in : Reply → Answer
-answer_in r = record { notes = r.notes; watches = r.watches; reply = end_of r.end }
+answer_in r = record { notes = r.notes; watches = r.watches; edit = edit_of r.edit; reply = end_of r.end }
+
+-- a stack is handed back as it was given, with at least the room for frames that it had
+pub record IsBack (given back : Unbound) : Type 0 where
+  pub number : back.number ≡ given.number
+  pub frames : frames_in back.frames ≡ frames_in given.frames
+  pub waits : back.waits ≡ given.waits
+  pub room : given.frames.spare ≤ back.frames.spare
 
 -- the stack that is handed back
 abbrev pub stack_of : ReplyEnd → Unbound

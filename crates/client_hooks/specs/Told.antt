@@ -1,10 +1,11 @@
 -- Where the values of an answer come from.
-use Rattle.std.specs.Prelude.{◌≡◌, ℕ, List, Some, ⊤}
+use Rattle.std.specs.Prelude.{◌≡◌, ℕ, List, [], ◌∷◌, Option, Some, None, ⊤}
+use Rattle.mu_values.specs.declared.scalars.Scalar.TheVariants.{Func}
 use Rattle.std.specs.List.{Contains}
 use Rattle.mu_values.specs.Slots.{TypedValues}
 use Rattle.check_tables.specs.declared.tables.Tables.{Tables}
 use Rattle.check_tables.specs.Types.{stackref}
-use Rattle.mu_model.specs.Clients.{Classed, With, Pass, Throw, Reply, Resume, Rebind, Exit, Stop, KeptValue}
+use Rattle.mu_model.specs.Clients.{Classed, With, Pass, Throw, Reply, Resume, Rebind, Exit, Stop, KeptValue, Answer}
 use Rattle.mu_model.specs.Outcomes.{View}
 use Rattle.mu_model.specs.Answers.{typed_value_at, argument_value, blank}
 
@@ -28,3 +29,11 @@ RepliesTold p view held (Resume w) = EntersWithTold p view held w
 RepliesTold p view held (Rebind t w) = (t.0 ≡ stackref p.types) × IsTold p view held t × EntersWithTold p view held w
 RepliesTold p view held Exit = ⊤
 RepliesTold p view held Stop = ⊤
+
+-- a function that is pushed is one that the client holds, with its class
+abbrev pub PushIsHeld : List Classed → Option ℕ → Type 0
+PushIsHeld held None = ⊤
+PushIsHeld held (Some f) = (c : ℕ) × Contains held (c, Func f ∷ [])
+
+abbrev pub AnswerIsTold : Tables → View → List Classed → Answer → Type 0
+AnswerIsTold p view held a = PushIsHeld held a.edit.push × RepliesTold p view held a.reply

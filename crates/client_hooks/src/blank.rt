@@ -8,7 +8,7 @@ use crate::copying::copy_values;
 use crate::determined::Determined;
 use crate::hook::{Handler, Hook};
 use crate::notes::{Notes, Watches};
-use crate::reply::{Reply, ReplyEnd, With};
+use crate::reply::{NO_EDIT, Reply, ReplyEnd, With};
 use crate::view::TrapView;
 use stacks::ReadyStack;
 use std::alloc::{AllocError, Global};
@@ -32,6 +32,7 @@ impl Handler for PassBlank {
             Ok(values) => Ok(Reply {
                 notes: Notes::new(alloc),
                 watches: Watches::new(alloc),
+                edit: NO_EDIT,
                 end: ReplyEnd::Resume {
                     stack,
                     with: With::Pass(values),

@@ -4,7 +4,7 @@ ghost use Rattle.check_tables.specs.declared.tables.Tables.{Tables};
 ghost use Rattle.mu_model.specs.Clients.{Answer};
 ghost use Rattle.mu_model.specs.Outcomes.{View};
 ghost use Rattle.client_hooks.specs.Traps.{view_of};
-ghost use Rattle.client_hooks.specs.Replies.{answer_in, stack_of};
+ghost use Rattle.client_hooks.specs.Replies.{answer_in, stack_of, IsBack};
 ghost use Rattle.client_hooks.specs.Handlers.{OnlyResumes};
 
 use crate::client::Client;
@@ -18,7 +18,7 @@ pub trait Handler {
     /// Which answers it may give to a view, in a run of the bundle with these tables.
     ghost promises: { Self → Tables → View → Answer → Type 0 };
 
-    /// Replies, or finds no memory; both hand the given stack back.
+    /// Replies, or finds no memory; both hand the given stack back, with at least the room for frames that it had.
     fn handle(
         &self,
         alloc: Global,
@@ -26,16 +26,16 @@ pub trait Handler {
         stack: ReadyStack,
     ) -> Result<Reply, (ReadyStack, AllocError)>
         ensures reply { IfOk result (λ r. promises self.now view.now.tables (view_of view.now stack) (answer_in r)) }
-        ensures stack { IfOk result (λ r. stack_of r.end ≡ stack) }
+        ensures stack { IfOk result (λ r. IsBack stack (stack_of r.end)) }
 
-        ensures stack_back { IfErr result (λ e. e.0 ≡ stack) };
+        ensures stack_back { IfErr result (λ e. IsBack stack e.0) };
 
-    /// The fact beside the handler: each of its answers records nothing, and enters the given stack by passing values of the types that
-    /// are asked, which are zero and NULL or kept by a frame.
+    /// The fact beside the handler: each of its answers records nothing, edits nothing, and enters the given stack by passing values of the
+    /// types that are asked, which are zero and NULL or kept by a frame.
     ghost resumes: { (h : Self) (p : Tables) (view : View) (a : Answer) → promises h p view a → OnlyResumes p view a };
 }
 
-/// A client by a handler, which stays as it is from trap to trap. It holds no values, and never answers `Misuse`.
+/// A client by a handler, which stays as it is from trap to trap. It holds no values, is never spent, and never answers `Misuse`.
 #[derive(Drop)]
 pub struct Hook<H: Handler> {
     handler: H,
@@ -51,7 +51,9 @@ impl<H: Handler> Hook<H> {
 }
 
 impl<H: Handler> Client for Hook<H> {
-    ghost use Rattle.std.specs.Prelude.{[]};
+    ghost use Rattle.std.specs.Prelude.{[], false};
+
+    ghost is_spent = { λ _. false };
 
     ghost holds = { λ _. [] };
 
@@ -69,6 +71,10 @@ impl<H: Handler> Client for Hook<H> {
             Ok(reply) => Ok(reply),
             Err((stack, _refusal)) => Err(ClientFault::Memory(stack)),
         }
+    }
+
+    fn spent(&self) -> bool {
+        false
     }
 
     fn advance(&mut self) {}

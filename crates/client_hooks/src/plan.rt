@@ -4,7 +4,7 @@ ghost use Rattle.client_hooks.specs.Replies.{answer_in, end_of, stack_of};
 ghost use Rattle.client_hooks.specs.Plans.{end_planned, planned};
 
 use crate::notes::{Notes, Watches};
-use crate::reply::{ClassedValue, Reply, ReplyEnd, With};
+use crate::reply::{ClassedValue, Edit, Reply, ReplyEnd, With};
 use stacks::ReadyStack;
 
 /// How an answer ends, without the stack that is handed back.
@@ -65,6 +65,8 @@ pub struct Plan {
     pub notes: Notes,
     /// Which watchpoints are enabled or not from then on, in order.
     pub watches: Watches,
+    /// What is done to the frames of the trapped stack after that.
+    pub edit: Edit,
     pub end: End,
 }
 
@@ -78,6 +80,7 @@ impl Plan {
         Reply {
             notes: self.notes,
             watches: self.watches,
+            edit: self.edit,
             end,
         }
     }
@@ -93,6 +96,7 @@ impl Reply {
         let plan = Plan {
             notes: self.notes,
             watches: self.watches,
+            edit: self.edit,
             end,
         };
         (plan, stack)

@@ -44,6 +44,17 @@ pub enum ReplyEnd {
     },
 }
 
+/// What an answer does to the frames of the trapped stack. `pop` is the number of a frame, from the top down: the frames above it end, and
+/// 0 ends none. Then a frame of the function with the number `push` is put on top, where there is one.
+#[derive(Clone, Copy, Debug, PartialEq, Eq)]
+pub struct Edit {
+    pub pop: u32,
+    pub push: Option<u32>,
+}
+
+/// Nothing: no frame is popped, and none is pushed.
+pub const NO_EDIT: Edit = Edit { pop: 0, push: None };
+
 /// An answer.
 #[derive(Drop)]
 pub struct Reply {
@@ -51,6 +62,8 @@ pub struct Reply {
     pub notes: Notes,
     /// Which watchpoints are enabled or not from then on, in order.
     pub watches: Watches,
+    /// What is done to the frames of the trapped stack after that.
+    pub edit: Edit,
     pub end: ReplyEnd,
 }
 

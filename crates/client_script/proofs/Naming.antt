@@ -1,17 +1,18 @@
 -- Each value of a script's answer is named by it, or kept by a frame.
-use Rattle.std.specs.Prelude.{◌≡◌, ℕ, zero, suc, Bool, true, false, ◌==◌, List, [], ◌∷◌, ◌++◌, Option, Some, None, map, flat_map, slice_get, drop, refl, if◌then◌else◌}
+use Rattle.std.specs.Prelude.{◌≡◌, ℕ, zero, suc, Bool, true, false, ◌==◌, List, [], ◌∷◌, ◌++◌, Option, Some, None, map, flat_map, slice_get, drop, option_map, refl, if◌then◌else◌}
 use Rattle.std.specs.List.{Contains}
 use Rattle.std.proofs.Common.{sym, ◌∙◌, ap, subst, arith}
 use Rattle.check_tables.specs.declared.tables.Tables.{Tables}
 use Rattle.check_tables.specs.Types.{stackref}
+use Rattle.mu_values.specs.declared.scalars.Scalar.TheVariants.{Func}
 use Rattle.mu_values.specs.Slots.{TypedValues}
 use Rattle.typed_heap.specs.Places.{with_some}
-use Rattle.mu_model.specs.Clients.{Classed, With, Pass, Throw, Reply, Resume, Rebind, Exit, Stop, Argument, Told, KeptValue, ScriptEntry, Answer}
+use Rattle.mu_model.specs.Clients.{Classed, With, Pass, Throw, Reply, Resume, Rebind, Exit, Stop, Argument, Told, KeptValue, ClassedFunction, ScriptEntry, Edit, Answer}
 use Rattle.mu_model.specs.Outcomes.{View}
 use Rattle.mu_model.specs.Operands.{all_some}
-use Rattle.mu_model.specs.Answers.{typed, typed_value_at, argument_value, with_of, reply_of, entry_answer, answer_of, plain_answer, notes_of}
-use Rattle.client_hooks.specs.Told.{IsTold, is_kept, is_held, AreTold, EntersWithTold, RepliesTold}
-use Rattle.client_script.specs.ScriptClients.{named_by, named_with, named_in, values_named, client_of}
+use Rattle.mu_model.specs.Answers.{typed, typed_value_at, argument_value, with_of, reply_of, edit_of, entry_answer, answer_of, plain_answer, notes_of}
+use Rattle.client_hooks.specs.Told.{IsTold, is_kept, is_held, AreTold, EntersWithTold, RepliesTold, PushIsHeld, AnswerIsTold}
+use Rattle.client_script.specs.ScriptClients.{named_by, named_with, named_in, named_push, entry_names, values_named, client_of}
 use Rattle.client_script.proofs.Partial.{there, in_head, in_first, in_second}
 
 -- some values are among others
@@ -79,22 +80,33 @@ abbrev reply_or : Reply TypedValues Classed → Option Answer → Reply TypedVal
 reply_or r None = r
 reply_or r (Some a) = a.reply
 
-entry_told : (p : Tables) (view : View) (held : List Classed) (e : ScriptEntry) (a : Answer) → Within (named_in e.reply) held → entry_answer p view.frames e ≡ Some a → RepliesTold p view held a.reply
+abbrev edit_or : Edit → Option Answer → Edit
+edit_or x None = x
+edit_or x (Some a) = a.edit
+
+push_held : (held : List Classed) (push : Option ClassedFunction) → Within (named_push push) held → PushIsHeld held (option_map (λ (f : ClassedFunction). f.1) push)
+push_held held None within = tt
+push_held held (Some f) within = (f.0, within (f.0, Func f.1 ∷ []) (in_head (f.0, Func f.1 ∷ []) []))
+
+entry_told : (p : Tables) (view : View) (held : List Classed) (e : ScriptEntry) (a : Answer) → Within (entry_names e) held → entry_answer p view.frames e ≡ Some a → AnswerIsTold p view held a
 entry_told p view held e a within is =
     let ns = there (all_some (map (notes_of view.frames) e.actions)) _ a is in
     let r = there (reply_of p view.frames e.reply) _ a ns.2 in
     let same : r.0 ≡ a.reply = ap (λ (o : Option Answer). reply_or r.0 o) r.2 in
-    subst (RepliesTold p view held) same (reply_told p view held e.reply r.0 within r.1)
+    let edits : edit_of e ≡ a.edit = ap (λ (o : Option Answer). edit_or (edit_of e) o) r.2 in (
+      subst (λ (x : Edit). PushIsHeld held x.push) edits (push_held held e.push (first_within (named_push e.push) (named_in e.reply) held within)),
+      subst (RepliesTold p view held) same (reply_told p view held e.reply r.0 (second_within (named_push e.push) (named_in e.reply) held within) r.1),
+    )
 
 -- the values of a script's answer are told
-pub script_told : (p : Tables) (view : View) (es : List ScriptEntry) (a : Answer) → Some a ≡ answer_of p view (client_of es) → RepliesTold p view (values_named es) a.reply
-script_told p view [] a is = let same : plain_answer Stop ≡ a = cc in subst (λ (x : Answer). RepliesTold p view [] x.reply) same tt
-script_told p view (e ∷ es) a is = entry_told p view (values_named (e ∷ es)) e a (λ v c. in_first (named_in e.reply) (values_named es) v c) (sym is)
+pub script_told : (p : Tables) (view : View) (es : List ScriptEntry) (a : Answer) → Some a ≡ answer_of p view (client_of es) → AnswerIsTold p view (values_named es) a
+script_told p view [] a is = let same : plain_answer Stop ≡ a = cc in subst (AnswerIsTold p view []) same (tt, tt)
+script_told p view (e ∷ es) a is = entry_told p view (values_named (e ∷ es)) e a (λ v c. in_first (entry_names e) (values_named es) v c) (sym is)
 
 -- a script that is further on holds no more
 pub held_before : (es : List ScriptEntry) (v : Classed) → Contains (values_named (drop 1 es)) v → Contains (values_named es) v
 held_before [] v c = c
-held_before (e ∷ es) v c = in_second (named_in e.reply) (values_named es) v c
+held_before (e ∷ es) v c = in_second (entry_names e) (values_named es) v c
 
 -- the first entry answers
 pub answers_first : (p : Tables) (view : View) (es : List ScriptEntry) (e : ScriptEntry) (a : Answer) → Some e ≡ slice_get es 0 → entry_answer p view.frames e ≡ Some a → Some a ≡ answer_of p view (client_of es)

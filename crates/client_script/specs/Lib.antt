@@ -2,6 +2,7 @@ pub mod Numbers
 pub mod Told
 pub mod Grammar
 pub mod Demands
+pub mod Mentions
 pub mod Meaning
 pub mod ScriptClients
 pub mod Plans

@@ -1,5 +1,5 @@
 -- The entries that a script means, as a client has them.
-use Rattle.std.specs.Prelude.{List, map}
+use Rattle.std.specs.Prelude.{None, List, map}
 use Rattle.mu_model.specs.Clients as clients
 use Rattle.mu_model.specs.Clients.{ScriptEntry}
 use Rattle.client_script.specs.declared.tree.Argument.{Argument}
@@ -32,7 +32,7 @@ reply_meant replies.Exit = clients.Exit
 reply_meant replies.Stop = clients.Stop
 
 abbrev pub entry_meant : Entry → ScriptEntry
-entry_meant e = record { actions = map action_meant e.actions; reply = reply_meant e.reply }
+entry_meant e = record { actions = map action_meant e.actions; pop = 0; push = None; reply = reply_meant e.reply }
 
 abbrev pub entries_meant : List Entry → List ScriptEntry
 entries_meant es = map entry_meant es

@@ -1,5 +1,5 @@
 //! A script as a client.
-ghost use Rattle.std.specs.Prelude.{◌≡◌, Some};
+ghost use Rattle.std.specs.Prelude.{◌≡◌, Some, IfOk, length, nat_eq};
 ghost use Rattle.frames.specs.Chains.{frames_in};
 ghost use Rattle.mu_model.specs.Answers.{entry_answer, answer_of, advanced, plain_answer};
 ghost use Rattle.mu_model.specs.Clients as clients;
@@ -15,7 +15,7 @@ use crate::script::Script;
 use crate::tree::Entry;
 use crate::values::end;
 use client_hooks::{
-    Client, ClientFault, Determined, Notes, Plan, Reply, ReplyEnd, TrapView, Watches,
+    Client, ClientFault, Determined, NO_EDIT, Notes, Plan, Reply, ReplyEnd, TrapView, Watches,
 };
 use frames::Frames;
 use stacks::ReadyStack;
@@ -23,7 +23,8 @@ use std::alloc::Global;
 
 /// The answer of an entry.
 fn plan(alloc: Global, view: &TrapView, frames: &Frames, entry: &Entry) -> Result<Plan, Refusal>
-    ensures { Makes planned (entry_answer view.now.tables (frames_in frames.now) (entry_meant entry.now)) result }
+    ensures is { Makes planned (entry_answer view.now.tables (frames_in frames.now) (entry_meant entry.now)) result }
+    ensures keeps { IfOk result (λ x. (planned x).edit ≡ clients.no_edit) }
 {
     let notes = notes(alloc, frames, entry.actions.as_slice())?;
     let end = end(alloc, view, frames, &entry.reply)?;
@@ -31,6 +32,7 @@ fn plan(alloc: Global, view: &TrapView, frames: &Frames, entry: &Entry) -> Resul
     Ok(Plan {
         notes,
         watches,
+        edit: NO_EDIT,
         end,
     })
 }
@@ -43,6 +45,7 @@ fn stop(alloc: Global, stack: ReadyStack) -> Reply
     Reply {
         notes: Notes::new(alloc),
         watches: Watches::new(alloc),
+        edit: NO_EDIT,
         end: ReplyEnd::Stop { stack },
     }
 }
@@ -53,6 +56,8 @@ impl Client for Script {
     ghost holds = { values_named };
 
     ghost may = { λ s p view answer. answer ≡ answer_of p view (client_of s) };
+
+    ghost is_spent = { λ es. nat_eq (length es) 0 };
 
     ghost advances = { λ old new. client_of new ≡ advanced (client_of old) };
 
@@ -70,6 +75,10 @@ impl Client for Script {
             Err(Refusal::Misuse) => Err(ClientFault::Misuse(stack)),
             Err(Refusal::Memory) => Err(ClientFault::Memory(stack)),
         }
+    }
+
+    fn spent(&self) -> bool {
+        self.is_empty()
     }
 
     fn advance(&mut self) {

@@ -3,9 +3,9 @@ ghost use Rattle.text_forms.specs.Reading.{read, whole};
 ghost use Rattle.text_forms.specs.Answers.{Gives, GivesAll};
 ghost use Rattle.client_script.specs.Grammar.{inside, entry, script};
 
+use crate::mentions::Shared;
 use crate::parts::{action, reply};
 use crate::tree::Entry;
-use bundle_check::Checked;
 use ir_lex::Cursor;
 use std::alloc::Global;
 use text_forms::{Listing, ReadError, Symbol};
@@ -20,7 +20,7 @@ const REPLIES: [Symbol; 5] = [
 ];
 
 /// `action* reply`
-fn inside(cursor: &mut Cursor, alloc: Global, code: &Checked) -> Result<Entry, ReadError>
+fn inside(cursor: &mut Cursor, alloc: Global, code: &Shared) -> Result<Entry, ReadError>
     ensures { Gives result cursor.new (read (inside code.now) cursor.old) }
 {
     let mut actions = Listing::new(alloc);
@@ -33,7 +33,7 @@ fn inside(cursor: &mut Cursor, alloc: Global, code: &Checked) -> Result<Entry, R
 
 /// `{ action* reply }`
 #[tactic(auto, unfolding(crate::specs::Grammar::entry))]
-fn entry(cursor: &mut Cursor, alloc: Global, code: &Checked) -> Result<Entry, ReadError>
+fn entry(cursor: &mut Cursor, alloc: Global, code: &Shared) -> Result<Entry, ReadError>
     ensures { Gives result cursor.new (read (entry code.now) cursor.old) }
 {
     cursor.mark(Symbol::BraceOpen)?;
@@ -46,7 +46,7 @@ fn entry(cursor: &mut Cursor, alloc: Global, code: &Checked) -> Result<Entry, Re
 pub fn entries(
     cursor: &mut Cursor,
     alloc: Global,
-    code: &Checked,
+    code: &Shared,
 ) -> Result<Listing<Entry>, ReadError>
     ensures { GivesAll result (whole (script code.now) cursor.old) }
 {

@@ -21,7 +21,7 @@ use ir_lex::Cursor;
 use text_forms::{FaultKind, Symbol};
 
 /// Nothing stands behind a token of these.
-const LAST: [Symbol; 5] = [
+pub(crate) const LAST: [Symbol; 5] = [
     Symbol::End,
     Symbol::BadByte,
     Symbol::BadName,

@@ -7,6 +7,7 @@ mod entries;
 mod fault;
 mod judging;
 mod laws;
+mod mentions;
 mod parts;
 mod reading;
 mod refusal;
@@ -18,6 +19,7 @@ mod values;
 
 pub use fault::{ScriptFault, ScriptKind};
 pub use laws::{answer_is_one, script_is_grammar, texts_are_answered, values_are_told};
+pub use mentions::Mention;
 pub use reading::read_script;
 pub use run_client::RunClient;
 pub use script::Script;

@@ -8,9 +8,9 @@ ghost use Rattle.ir_tree.specs.Lists.{global};
 ghost use Rattle.client_script.specs.Numbers.{is_count, count_in};
 ghost use Rattle.client_script.specs.Grammar.{count, action, kept_value, argument, pass, way, rebind, reply};
 
+use crate::mentions::Shared;
 use crate::told::told;
 use crate::tree::{Action, Argument, Reply, With};
-use bundle_check::Checked;
 use ir_lex::{Cursor, Name, Number, Numeral};
 use std::alloc::Global;
 use text_forms::{Listing, ReadError, Symbol};
@@ -106,7 +106,7 @@ fn kept_value(cursor: &mut Cursor) -> Result<Argument, ReadError>
 
 /// `G | kept N N`
 #[tactic(auto, unfolding(crate::specs::Grammar::argument))]
-fn argument(cursor: &mut Cursor, alloc: Global, code: &Checked) -> Result<Argument, ReadError>
+fn argument(cursor: &mut Cursor, alloc: Global, code: &Shared) -> Result<Argument, ReadError>
     ensures { Gives result cursor.new (read (argument code.now) cursor.old) }
 {
     if cursor.at(Symbol::Kept) {
@@ -123,7 +123,7 @@ fn argument(cursor: &mut Cursor, alloc: Global, code: &Checked) -> Result<Argume
 fn arguments(
     cursor: &mut Cursor,
     alloc: Global,
-    code: &Checked,
+    code: &Shared,
 ) -> Result<Listing<Argument>, ReadError>
     ensures { Gives result cursor.new (read (until (symbols.Close ∷ []) (argument code.now)) cursor.old) }
 {
@@ -137,7 +137,7 @@ fn arguments(
 
 /// `pass ( arg* )`
 #[tactic(auto, unfolding(crate::specs::Grammar::pass))]
-fn pass(cursor: &mut Cursor, alloc: Global, code: &Checked) -> Result<With, ReadError>
+fn pass(cursor: &mut Cursor, alloc: Global, code: &Shared) -> Result<With, ReadError>
     ensures { Gives result cursor.new (read (pass code.now) cursor.old) }
 {
     cursor.mark(Symbol::Pass)?;
@@ -148,7 +148,7 @@ fn pass(cursor: &mut Cursor, alloc: Global, code: &Checked) -> Result<With, Read
 
 /// `pass ( arg* ) | throw arg`
 #[tactic(auto, unfolding(crate::specs::Grammar::way))]
-fn way(cursor: &mut Cursor, alloc: Global, code: &Checked) -> Result<With, ReadError>
+fn way(cursor: &mut Cursor, alloc: Global, code: &Shared) -> Result<With, ReadError>
     ensures { Gives result cursor.new (read (way code.now) cursor.old) }
 {
     if cursor.at(Symbol::Pass) {
@@ -162,7 +162,7 @@ fn way(cursor: &mut Cursor, alloc: Global, code: &Checked) -> Result<With, ReadE
 
 /// `rebind arg with`
 #[tactic(auto, unfolding(crate::specs::Grammar::rebind))]
-fn rebind(cursor: &mut Cursor, alloc: Global, code: &Checked) -> Result<Reply, ReadError>
+fn rebind(cursor: &mut Cursor, alloc: Global, code: &Shared) -> Result<Reply, ReadError>
     ensures { Gives result cursor.new (read (rebind code.now) cursor.old) }
 {
     cursor.mark(Symbol::Rebind)?;
@@ -173,7 +173,7 @@ fn rebind(cursor: &mut Cursor, alloc: Global, code: &Checked) -> Result<Reply, R
 
 /// `with | rebind arg with | exit | stop`
 #[tactic(auto, unfolding(crate::specs::Grammar::reply))]
-pub fn reply(cursor: &mut Cursor, alloc: Global, code: &Checked) -> Result<Reply, ReadError>
+pub fn reply(cursor: &mut Cursor, alloc: Global, code: &Shared) -> Result<Reply, ReadError>
     ensures { Gives result cursor.new (read (reply code.now) cursor.old) }
 {
     if cursor.at(Symbol::Rebind) {

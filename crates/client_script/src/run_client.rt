@@ -1,5 +1,5 @@
 //! The client of a run.
-ghost use Rattle.std.specs.Prelude.{◌≡◌};
+ghost use Rattle.std.specs.Prelude.{◌≡◌, ◌&&◌, not, length, nat_eq};
 ghost use Rattle.mu_model.specs.Answers.{answer_of, advanced};
 ghost use Rattle.client_script.specs.ScriptClients.{values_named};
 
@@ -47,6 +47,8 @@ impl Client for RunClient {
 
     ghost may = { λ k p view answer. answer ≡ answer_of p view k };
 
+    ghost is_spent = { λ k. not k.auto && nat_eq (length k.entries) 0 };
+
     ghost advances = { λ old new. new ≡ advanced old };
 
     fn answer(
@@ -59,6 +61,10 @@ impl Client for RunClient {
             Some(hook) if self.script.is_empty() => hook.answer(alloc, view, stack),
             _ => self.script.answer(alloc, view, stack),
         }
+    }
+
+    fn spent(&self) -> bool {
+        self.auto.is_none() && self.script.is_empty()
     }
 
     fn advance(&mut self) {

@@ -1,12 +1,12 @@
 // A script as it is read: a name is what it stands for in the bundle.
-use mu_values::Scalar;
+use crate::mentions::Mention;
 use text_forms::Listing;
 
 /// A value that a script gives.
 #[derive(Drop)]
 pub enum Argument {
     /// A constant, a global or a function: the class of its type, and its scalars
-    Told { class: u32, value: Listing<Scalar> },
+    Told { class: u32, value: Mention },
     /// A kept value of a frame, by the numbers of the frame, where 0 is the top, and of the value
     KeptValue { frame: u32, value: u32 },
 }

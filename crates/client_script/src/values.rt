@@ -9,8 +9,8 @@ ghost use Rattle.client_hooks.specs.Plans.{end_planned};
 ghost use Rattle.client_script.specs.Plans.{Makes, passed};
 ghost use Rattle.client_script.specs.declared.tree.Reply.TheVariants as tree;
 
+use crate::mentions::copied;
 use crate::refusal::Refusal;
-use crate::told::copied;
 use crate::tree::{Argument, Reply, With};
 use client_hooks::{ClassedValue, End, TrapView, With as Way};
 use frames::Frames;
@@ -53,7 +53,7 @@ fn argument(alloc: Global, frames: &Frames, argument: &Argument) -> Result<Class
 {
     match argument {
         Argument::Told { class, value } => {
-            let value = copied(alloc, value.as_slice())?;
+            let value = value.scalars(alloc)?;
             Ok(ClassedValue {
                 class: *class,
                 value,

@@ -1,6 +1,6 @@
 // The pieces of sources.
-ghost use Rattle.std.specs.Prelude.{◌≡◌, [], ◌∷◌, ◌++◌, OnOk, OnErr, IfOk};
-ghost use Rattle.hail_load.specs.Sources.{alone, is_open, source_count};
+ghost use Rattle.std.specs.Prelude.{◌≡◌, ◌<◌, ◌≤◌, [], ◌∷◌, ◌++◌, length, drop, slice_set, OnOk, OnErr};
+ghost use Rattle.hail_load.specs.Sources.{is_open, source_count};
 
 use crate::tree::Piece;
 use std::alloc::{AllocError, Global};
@@ -21,6 +21,23 @@ impl Model for Pieces {
     ghost view = { λ p. p.pieces.items };
 }
 
+/// Whether an index may come next: behind a reference alone, or an index alone.
+pub(crate) fn is_open(pieces: &[Piece]) -> bool
+    ensures { result ≡ is_open pieces.now }
+{
+    matches!(pieces, [Piece::Reference { .. } | Piece::Index(_)])
+}
+
+/// How many sources the pieces of one element are: none where they are an index.
+pub(crate) fn source_count(element: &[Piece]) -> usize
+    ensures { result ≡ source_count (element.now ∷ []) }
+{
+    match element {
+        [Piece::Index(_)] => 0,
+        _ => 1,
+    }
+}
+
 impl Pieces {
     /// No pieces. It takes no memory yet.
     pub fn new(alloc: Global) -> Pieces
@@ -31,13 +48,11 @@ impl Pieces {
         }
     }
 
-    /// One piece.
-    pub fn alone(alloc: Global, piece: Piece) -> Result<Pieces, AllocError>
-        ensures { IfOk result (λ ps. ps ≡ alone piece) }
+    /// How many pieces there are.
+    pub fn len(&self) -> usize
+        ensures { result ≡ length self.now }
     {
-        let mut pieces = Pieces::new(alloc);
-        pieces.push(piece)?;
-        Ok(pieces)
+        self.pieces.len()
     }
 
     /// Adds a piece at the end. When out of memory, the pieces are as before.
@@ -49,14 +64,12 @@ impl Pieces {
         Ok(())
     }
 
-    /// Adds more pieces at the end. When out of memory, the pieces are as before.
-    pub fn append(&mut self, more: Pieces) -> Result<(), AllocError>
-        ensures ok { OnOk result (self.new ≡ self.old ++ more) }
-        ensures same { OnErr result (self.new ≡ self.old) }
+    /// Puts a piece in the place of one that is there.
+    pub(crate) fn set(&mut self, n: usize, piece: Piece)
+        requires { n < length self.old }
+        ensures { self.new ≡ slice_set self.old n piece }
     {
-        let mut more = more.pieces;
-        self.pieces.append(&mut more)?;
-        Ok(())
+        self.pieces[n] = piece;
     }
 
     /// The pieces in a row.
@@ -66,23 +79,18 @@ impl Pieces {
         self.pieces.as_slice()
     }
 
+    /// The pieces from one on, in a row.
+    pub(crate) fn from(&self, n: usize) -> &[Piece]
+        requires { n ≤ length self.now }
+        ensures { result.now ≡ drop n self.now }
+    {
+        &self.pieces[n..]
+    }
+
     /// Whether an index may come next: behind a reference alone, or an index alone.
     pub fn is_open(&self) -> bool
         ensures { result ≡ is_open self.now }
     {
-        matches!(
-            self.pieces.as_slice(),
-            [Piece::Reference { .. } | Piece::Index(_)]
-        )
-    }
-
-    /// How many sources the pieces of one element are: none where they are an index.
-    pub fn sources(&self) -> usize
-        ensures { result ≡ source_count (self.now ∷ []) }
-    {
-        match self.pieces.as_slice() {
-            [Piece::Index(_)] => 0,
-            _ => 1,
-        }
+        is_open(self.as_slice())
     }
 }

@@ -114,14 +114,16 @@ fn reference(cursor: &mut Cursor, alloc: Global) -> Result<Piece, ReadError>
 pub fn plain(cursor: &mut Cursor, alloc: Global) -> Result<Piece, ReadError>
     ensures { Gives result cursor.new (read plain cursor.old) }
 {
-    match cursor.symbol() {
-        Symbol::Number => Ok(Piece::Number(cursor.numeral()?)),
-        Symbol::Null => {
-            let place = cursor.mark(Symbol::Null)?;
-            Ok(Piece::Null { place })
-        }
-        Symbol::Object => Ok(Piece::Object(object(cursor, alloc)?)),
-        Symbol::Ampersand => reference(cursor, alloc),
-        _ => Ok(Piece::Global(global(cursor, alloc)?)),
+    if cursor.at(Symbol::Number) {
+        Ok(Piece::Number(cursor.numeral()?))
+    } else if cursor.at(Symbol::Null) {
+        let place = cursor.mark(Symbol::Null)?;
+        Ok(Piece::Null { place })
+    } else if cursor.at(Symbol::Object) {
+        Ok(Piece::Object(object(cursor, alloc)?))
+    } else if cursor.at(Symbol::Ampersand) {
+        reference(cursor, alloc)
+    } else {
+        Ok(Piece::Global(global(cursor, alloc)?))
     }
 }

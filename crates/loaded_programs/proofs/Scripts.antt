@@ -28,7 +28,7 @@ use Rattle.typed_heap.specs.Fits.{World}
 use Rattle.mu_model.specs.Types.{type_graph}
 use Rattle.mu_model.specs.Clients.{ScriptEntry, Client}
 use Rattle.model_laws.specs.Values.{HasGlobals}
-use Rattle.model_laws.specs.ClientsFit.{ArgumentFits, ArgumentsFit, EntryFits, ClientFits}
+use Rattle.model_laws.specs.ClientsFit.{ArgumentFits, ArgumentsFit, EntryFits, ScriptEntryFits, ClientFits}
 use Rattle.text_forms.specs.declared.fault.FaultKind.TheVariants as kinds
 use Rattle.client_script.specs.declared.fault.ScriptKind.TheVariants.{Text, Unknown}
 use Rattle.client_script.specs.declared.tree.Argument.{Argument}
@@ -133,7 +133,7 @@ module _ (bundle : List Item) (names : first_unmet (name_demands bundle) ≡ Non
   IsGoodReply r = EntryFits (type_graph (bundle_tables bundle)) w (reply_meant r)
 
   abbrev IsGoodEntry : Entry → Type 0
-  IsGoodEntry e = IsGoodReply e.reply
+  IsGoodEntry e = ScriptEntryFits (bundle_tables bundle) w (entry_meant e)
 
   kept_gives : Gives known IsGood kept_value
   unfolding kept_value
@@ -192,7 +192,7 @@ module _ (bundle : List Item) (names : first_unmet (name_demands bundle) ≡ Non
   unfolding inside
   inside_gives ts x good d =
       let rest = of_rest known action (λ (s : Unit {0}) (v : List Tok). Derives (reply bundle) v d.0.1) ts d.0.0 good d.1 in
-      subst IsGoodEntry (sym d.2) (reply_gives rest.0 d.0.1 rest.1 rest.2)
+      subst IsGoodEntry (sym d.2) (tt, reply_gives rest.0 d.0.1 rest.1 rest.2)
 
   entry_gives : Gives known IsGoodEntry (entry bundle)
   unfolding entry
@@ -204,12 +204,12 @@ module _ (bundle : List Item) (names : first_unmet (name_demands bundle) ≡ Non
 
   -- a text that is no script has no entries
   entries_fit : (ts : List Tok) (r : Result (List Entry) Fault) → ((es : List Entry) → r ≡ Ok es → Derives (script bundle) ts es) → first_unmet (demands_by known ts r) ≡ None →
-      All (λ (e : ScriptEntry). EntryFits (type_graph (bundle_tables bundle)) w e.reply) (entries_meant (entries_in r))
-  entries_fit ts (Ok es) derived met = All-map (λ (e : ScriptEntry). EntryFits (type_graph (bundle_tables bundle)) w e.reply) entry_meant es (script_gives ts es (all_met (token_demands known ts) met) (derived es refl))
-  entries_fit ts (Err f) derived met = All-nil (λ (e : ScriptEntry). EntryFits (type_graph (bundle_tables bundle)) w e.reply)
+      All (ScriptEntryFits (bundle_tables bundle) w) (entries_meant (entries_in r))
+  entries_fit ts (Ok es) derived met = All-map (ScriptEntryFits (bundle_tables bundle) w) entry_meant es (script_gives ts es (all_met (token_demands known ts) met) (derived es refl))
+  entries_fit ts (Err f) derived met = All-nil (ScriptEntryFits (bundle_tables bundle) w)
 
 pub scripted_fits : (bundle : List Item) → first_unmet (name_demands bundle) ≡ None → first_unmet (check_demands bundle) ≡ None → (k : Client) → IsScripted bundle k → ClientFits (bundle_tables bundle) k
 scripted_fits bundle names checked k s w told_globals =
     let ts : List Tok = tokens_from s.text 0 in
-    subst (λ (es : List ScriptEntry). All (λ (e : ScriptEntry). EntryFits (type_graph (bundle_tables bundle)) w e.reply) es) (sym s.entries)
+    subst (λ (es : List ScriptEntry). All (ScriptEntryFits (bundle_tables bundle) w) es) (sym s.entries)
     (entries_fit bundle names checked w told_globals ts (whole (script bundle) ts) (λ es is. whole_ok (script bundle) (is_grammar bundle) ts es (texts_end s.text) is) s.accepted)

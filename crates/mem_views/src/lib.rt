@@ -12,6 +12,16 @@
 //! happens before the event, and races are judged by it. Then the event gives its clock: to its stack, its wake, its position, the thread
 //! that it makes. That two events are SEQ_CST joins no clocks.
 //!
+//! | Clock | What it knows |
+//! |---|---|
+//! | of a thread | what happens before whatever the thread does next |
+//! | of a stack; of a wake | what its last leaving or making knew; what the wake knew |
+//! | of a position of a cell | what an acquire of the position gets: the releases whose sequences have it |
+//! | of a cell and a thread | the same of the newest position, of heads by that thread only, so one sequence can go on while others end |
+//! | of a thread, at its last release fence | what an atomic write after it gives, where the write is no release |
+//! | of a thread, pending | what its atomic reads left for its next acquire fence |
+//! | of all SEQ_CST fences, and of those before each such fence | what raises the floor of a load after the fence |
+//!
 //! The floor of a load is found by three look-ups for each thread u. It is the greatest position of u's last access that the loading thread
 //! knows; of u's last SEQ_CST access before the load, or, if the load is not SEQ_CST, before the last SEQ_CST fence that it knows; and of
 //! u's last access that is known to some SEQ_CST fence before that same point. A race is found by one look-up for each other thread. The

@@ -6,13 +6,13 @@ use Rattle.std.proofs.lemmas.List.Elements.{All-head, All-tail}
 use Rattle.check_tables.specs.Types.{stackref}
 use Rattle.type_laws.specs.declared.definition.TypeDef.{TypeDef}
 use Rattle.frames.specs.Activations.{Activation, Value}
-use Rattle.model_laws.specs.ClientsFit.{AnswerFits, ArgumentFits, ArgumentsFit, ClientFits, EntryFits, ReplyFits, ViewFits, WithFits}
+use Rattle.model_laws.specs.ClientsFit.{AnswerFits, ArgumentFits, ArgumentsFit, ClientFits, EntryFits, PushFits, ReplyFits, ScriptEntryFits, ViewFits, WithFits}
 use Rattle.model_laws.specs.Places.{Places}
 use Rattle.model_laws.specs.Programs.{IsTyped}
 use Rattle.model_laws.specs.Values.{HasGlobals, TypedFit, ValuesFit, world}
 use Rattle.model_laws.specs.WellTyped.{GoesWell, Settles, WellTyped}
 use Rattle.mu_model.specs.Acts.{Program}
-use Rattle.mu_model.specs.Answers.{advanced, answer_by, answer_of, argument_value, entry_answer, notes_of, reply_of, typed, typed_value_at, with_of}
+use Rattle.mu_model.specs.Answers.{advanced, answer_by, answer_of, argument_value, edit_of, entry_answer, notes_of, reply_of, typed, typed_value_at, with_of}
 use Rattle.mu_model.specs.Clients.{Answer, Argument, Classed, Client, ScriptEntry, Exit, KeptValue, Pass, Rebind, Reply, Resume, Stop, Throw, Told, With}
 use Rattle.mu_model.specs.Configuration.{Configuration}
 use Rattle.mu_model.specs.Operands.{all_some}
@@ -77,12 +77,15 @@ module _ (p : Program) (w : World) (fs : List Activation) (shown : All (λ (f : 
   reply_fits Exit h = tt
   reply_fits Stop h = tt
 
-  entry_fits : (e : ScriptEntry) → EntryFits (type_graph p.tables) w e.reply → AnswerFits p.tables w (entry_answer p.tables fs e)
-  entry_fits e h = told_of (entry_answer p.tables fs e)
-      (maybe_then (all_some (map (notes_of fs) e.actions)) _ (λ ns. Unit {0}) (λ (a : Answer). ReplyFits p.tables w a.reply) (anything (all_some (map (notes_of fs) e.actions))) (λ ns u.
-      maybe_then (reply_of p.tables fs e.reply) _ (ReplyFits p.tables w) (λ (a : Answer). ReplyFits p.tables w a.reply) (reply_fits e.reply h) (λ r k. k)))
+  abbrev Fits : Answer → Type 0
+  Fits a = PushFits p.tables a.edit.push × ReplyFits p.tables w a.reply
+
+  entry_fits : (e : ScriptEntry) → PushFits p.tables (edit_of e).push → EntryFits (type_graph p.tables) w e.reply → AnswerFits p.tables w (entry_answer p.tables fs e)
+  entry_fits e push h = told_of (entry_answer p.tables fs e)
+      (maybe_then (all_some (map (notes_of fs) e.actions)) _ (λ ns. Unit {0}) Fits (anything (all_some (map (notes_of fs) e.actions))) (λ ns u.
+      maybe_then (reply_of p.tables fs e.reply) _ (ReplyFits p.tables w) Fits (reply_fits e.reply h) (λ r k. (push, k))))
     where
-      told_of : (o : Option Answer) → Maybe o (λ (a : Answer). ReplyFits p.tables w a.reply) → AnswerFits p.tables w o
+      told_of : (o : Option Answer) → Maybe o Fits → AnswerFits p.tables w o
       told_of None k = tt
       told_of (Some a) k = k
 
@@ -94,18 +97,18 @@ blank_fits p t typed w (c ∷ cs) = (typed.zeros w c, blank_fits p t typed w cs)
 pub answer_fits : (p : Program) (t : Places) → IsTyped p t → (w : World) → HasGlobals p.tables w → (view : View) (k : Client) → ViewFits (type_graph p.tables) w view → ClientFits p.tables k → AnswerFits p.tables w (answer_of p.tables view k)
 answer_fits p t typed w globals view k shown client = by k.auto k.entries (client w globals)
   where
-    by : (auto : Bool) (es : List ScriptEntry) → All (λ (e : ScriptEntry). EntryFits (type_graph p.tables) w e.reply) es → AnswerFits p.tables w (answer_by p.tables view auto es)
-    by auto (e ∷ es) h = entry_fits p w view.frames shown e (All-head (λ (e : ScriptEntry). EntryFits (type_graph p.tables) w e.reply) e es h)
-    by true [] h = blank_fits p t typed w view.asked
-    by false [] h = tt
+    by : (auto : Bool) (es : List ScriptEntry) → All (ScriptEntryFits p.tables w) es → AnswerFits p.tables w (answer_by p.tables view auto es)
+    by auto (e ∷ es) h = let here = All-head (ScriptEntryFits p.tables w) e es h in entry_fits p w view.frames shown e here.0 here.1
+    by true [] h = (tt, blank_fits p t typed w view.asked)
+    by false [] h = (tt, tt)
 
 -- a client past its first entry
 advanced_fits : (p : Program) (k : Client) → ClientFits p.tables k → ClientFits p.tables (advanced k)
 advanced_fits p k h = λ w globals. by w k.entries (h w globals)
   where
-    by : (w : World) (es : List ScriptEntry) → All (λ (e : ScriptEntry). EntryFits (type_graph p.tables) w e.reply) es → All (λ (e : ScriptEntry). EntryFits (type_graph p.tables) w e.reply) (drop 1 es)
+    by : (w : World) (es : List ScriptEntry) → All (ScriptEntryFits p.tables w) es → All (ScriptEntryFits p.tables w) (drop 1 es)
     by w [] h = h
-    by w (e ∷ es) h = All-tail (λ (e : ScriptEntry). EntryFits (type_graph p.tables) w e.reply) e es h
+    by w (e ∷ es) h = All-tail (ScriptEntryFits p.tables w) e es h
 
 client_fits : (p : Program) (t : Places) (c : Configuration) (k : Client) → WellTyped p t c → ClientFits p.tables k → WellTyped p t (record c { client = k })
 client_fits p t c k h fit = record {

@@ -1,5 +1,5 @@
 -- The client is asked, and each answer that fits is good.
-use Rattle.std.specs.Prelude.{◌≡◌, ◌≢◌, ◌⊎◌, ◌≤◌, ◌<◌, ◌==◌, ℕ, Bool, true, false, List, [], ◌∷◌, ◌++◌, Option, Some, None, IsSomeAnd, length, slice_get, Result, Ok, Err, IfOk, bytes_eq, if◌then◌else◌}
+use Rattle.std.specs.Prelude.{◌≡◌, ◌≢◌, ◌⊎◌, ◌≤◌, ◌<◌, ◌==◌, ℕ, Bool, true, false, List, [], ◌∷◌, ◌++◌, Option, Some, None, IsSomeAnd, length, slice_get, Result, Ok, Err, IfOk, bytes_eq, option_map, refl, if◌then◌else◌}
 use Rattle.std.proofs.Common.{sym, ◌∙◌, ap, subst, inl, inr, arith}
 use Rattle.std.proofs.Math.ListN.{length-set}
 use Rattle.std.proofs.lemmas.Bool.Decides.{eqb_tells}
@@ -13,33 +13,37 @@ use Rattle.std.specs.Prelude.{All}
 use Rattle.mu_model.specs.Acts as acts
 use Rattle.mu_model.specs.Clients as clients
 use Rattle.frames.specs.Activations.{Activation, Goal, Value}
-use Rattle.model_laws.proofs.Basics.{and_then, some_is}
+use Rattle.model_laws.proofs.Basics.{and_then, set_same, some_is}
 use Rattle.model_laws.proofs.FrameLaws.{WaitsFor, waiting_fits}
-use Rattle.model_laws.proofs.Keeps.{Going, at_place, on_good, on_settles}
-use Rattle.model_laws.proofs.Moving.{Moving, ends_good, entered_fits, enters_good, left_moving, left_same, ready_fits}
-use Rattle.model_laws.proofs.Turning.{Turned, goes_good}
+use Rattle.model_laws.proofs.Keeps.{Going, at_place, on_good, on_settles, world_set}
+use Rattle.model_laws.proofs.Moving.{Moving, ends_good, entered_fits, enters_good, left_moving, left_same, owned_aside, parts_ended, parts_stack, ready_fits}
+use Rattle.model_laws.proofs.Editing.{edited_fits}
+use Rattle.model_laws.proofs.Fitting.{Grows, scalars_more, values_more}
+use Rattle.model_laws.proofs.Turning.{Turned, ended_grows, goes_good}
 use Rattle.model_laws.specs.ActsFit.{ActFits, EnteringFits}
 use Rattle.model_laws.specs.ClientsFit.{AnswerFits, ReplyFits, WithFits}
-use Rattle.model_laws.specs.FramesFit.{ActiveFit, BelowWait, FrameWaits, FreshOrWaits, StackFits, waits_for}
+use Rattle.model_laws.specs.FramesFit.{ActiveFit, BelowWait, FrameWaits, FreshOrWaits, ReadyFit, StackFits, waits_for}
 use Rattle.model_laws.specs.Places.{Places}
 use Rattle.model_laws.specs.Programs.{IsTyped}
 use Rattle.model_laws.specs.Values.{TypedFit, world}
 use Rattle.model_laws.specs.WellTyped.{GoesWell, Settles}
 use Rattle.mu_model.specs.Acts.{Entering, Misfits, Passes, Program, ThrowsInto}
 use Rattle.mu_model.specs.Answers.{typed}
-use Rattle.mu_model.specs.Changes.{noted}
-use Rattle.mu_model.specs.Clients.{Answer, Classed, Exit, Pass, Rebind, Reply, Resume, Throw, With}
+use Rattle.mu_model.specs.Changes.{noted, stack_becomes}
+use Rattle.mu_model.specs.Edits.{popped, pushed, pushed_on, with_frames, push_by, edited, edited_by}
+use Rattle.mu_model.specs.Types.{classes_given}
+use Rattle.mu_model.specs.Clients.{Answer, Edit, Classed, Exit, Pass, Rebind, Reply, Resume, Throw, With}
 use Rattle.mu_model.specs.Configuration.{Active, Configuration, Dead, Ready, Stack, Thread}
 use Rattle.mu_model.specs.EnteringStacks.{values_entered, entered, entering, enters, leaving, ready, ready_at}
-use Rattle.mu_model.specs.Exceptions.{EnteredFrames, caught_by, unwinding}
-use Rattle.mu_model.specs.Frames.{caught, passed}
+use Rattle.mu_model.specs.Exceptions.{EnteredFrames, body_or_case, caught_by, unwinding}
+use Rattle.mu_model.specs.Frames.{caught, fresh_frame, passed}
 use Rattle.mu_model.specs.Operands.{scalar_in}
 use Rattle.mu_model.specs.Outcomes.{Next, Outcome, refused, tried, unless_refused}
-use Rattle.mu_model.specs.Traps.{answered, entering_of, enters_by, goes, is_among, replied, taken, trap_note, trapped, meets_watchpoint}
+use Rattle.mu_model.specs.Traps.{answered, edits, entering_of, enters_by, goes, is_among, replied, taken, trap_note, trapped, meets_watchpoint}
 use Rattle.mu_model.specs.Turns.{Turn, waiting}
 use Rattle.mu_model.specs.Types.{type_graph}
 use Rattle.mu_model.specs.declared.endings.Case.{Case}
-use Rattle.mu_model.specs.declared.endings.Case.TheVariants.{DivideByZero, NullAccess, StackNotReady, StackTypes, Uncaught}
+use Rattle.mu_model.specs.declared.endings.Case.TheVariants.{ClientMisuse, DivideByZero, NoBody, NullAccess, StackNotReady, StackTypes, Uncaught}
 use Rattle.mu_model.specs.declared.lines.Line.{Line}
 use Rattle.mu_values.specs.Slots.{TypedValues}
 use Rattle.typed_heap.specs.Fits.{ScalarFits, ScalarsFit, ValueFits, World}
@@ -173,9 +177,76 @@ module _ (p : Program) (t : Places) (typed : IsTyped p t) where
     most = m.most;
   }
 
-  answered_good : (c : Configuration) (u : Turn) (a : Option Answer) → Moving p t c u.thread → u.stack < length c.stacks → AnswerFits p.tables (world p.tables c) a → Settles p t (answered p c u a)
-  answered_good c u None m own h = tt
-  answered_good c u (Some a) m own h = replied_good (taken a c) u a.reply (other_moving c u.thread (taken a c).lines (taken a c).watched m) own h
+  -- ---- edits
+
+  -- the trapped stack has other frames, and is ready as before
+  edits_moving : (c : Configuration) (u : Turn) (fs : List Activation) (r : EnteredFrames) → Moving p t c u.thread → slice_get c.stacks u.stack ≡ Some (Ready fs) → ReadyFit p t (world p.tables c) r.frames → Moving p t (edits u r c) u.thread
+  edits_moving c u fs r m there fit =
+      let d = stack_becomes u.stack (Ready r.frames) c in
+      record {
+        parts = parts_ended p t d r.ended typed (parts_stack p t c u.stack u.thread (Ready fs) (Ready r.frames) m.parts there tt m.awake fit);
+        owners = owned_aside c.threads c.stacks u.stack u.thread fs (Ready r.frames) m.owners there tt;
+        thread = m.thread;
+        there = m.there;
+        awake = m.awake;
+        known = m.known;
+        most = m.most;
+      }
+
+  edits_grow : (c : Configuration) (u : Turn) (r : EnteredFrames) → Grows (world p.tables c) (world p.tables (edits u r c))
+  edits_grow c u r = subst (λ w. Grows w (world p.tables (edits u r c))) (world_set p.tables c u.stack (Ready r.frames)) (ended_grows p t typed (stack_becomes u.stack (Ready r.frames) c) r.ended)
+
+  with_more : (w v : World) (a : With TypedValues Classed) → Grows w v → WithFits (type_graph p.tables) w a → WithFits (type_graph p.tables) v a
+  with_more w v (Pass vs) g h = values_more (type_graph p.tables) w v vs.types vs.values g h
+  with_more w v (Throw x) g h = scalars_more (type_graph p.tables) w v (leaf_classes (type_graph p.tables) x.0) x.1 g h
+
+  reply_more : (w v : World) (a : Reply TypedValues Classed) → Grows w v → ReplyFits p.tables w a → ReplyFits p.tables v a
+  reply_more w v (Resume a) g h = with_more w v a g h
+  reply_more w v (Rebind x a) g h = (h.0, scalars_more (type_graph p.tables) w v (leaf_classes (type_graph p.tables) x.0) x.1 g h.1, with_more w v a g h.2)
+  reply_more w v Exit g h = tt
+  reply_more w v clients.Stop g h = tt
+
+  edited_hard : (e : Edit) (fs : List Activation) (k : Case) → edited p e fs ≡ Some (Err k) → IsHard k
+  edited_hard e fs k q = by (popped e.pop fs) q
+    where
+      case_on : (b : Bool) (gs hs : List Activation) (k : Case) → (if b then Ok gs else Err StackTypes) ≡ Err k → IsHard k
+      case_on true gs hs k q = cc
+      case_on false gs hs k q = let same : StackTypes ≡ k = cc in subst IsHard same tt
+
+      body_hard : (o : Option (Option ℕ)) (k : Case) → body_or_case o ≡ Some (Err k) → IsHard k
+      body_hard None k q = cc
+      body_hard (Some None) k q = let same : NoBody ≡ k = cc in subst IsHard same tt
+      body_hard (Some (Some b)) k q = cc
+
+      pushed_hard : (f : ℕ) (fs : List Activation) (k : Case) → pushed p f fs ≡ Some (Err k) → IsHard k
+      pushed_hard f [] k q = cc
+      pushed_hard f (x ∷ fs) k q = body (body_or_case (p.body f)) refl q
+        where
+          body : (o : Option (Result ℕ Case)) → body_or_case (p.body f) ≡ o → option_map (pushed_on p f x fs) o ≡ Some (Err k) → IsHard k
+          body None is q = cc
+          body (Some (Err j)) is q = let same : j ≡ k = cc in body_hard (p.body f) k (is ∙ ap (λ j. Some (Err j)) same)
+          body (Some (Ok b)) is q = let here : pushed_on p f x fs (Ok b) ≡ Err k = cc in case_on (bytes_eq (classes_given p.tables f) x.waits) (fresh_frame p f b ∷ x ∷ fs) fs k here
+
+      with_hard : (r : EnteredFrames) (o : Option (Result (List Activation) Case)) → (o ≡ Some (Err k) → IsHard k) → option_map (with_frames r) o ≡ Some (Err k) → IsHard k
+      with_hard r None h q = cc
+      with_hard r (Some (Err j)) h q = let same : j ≡ k = cc in h (ap (λ j. Some (Err j)) same)
+      with_hard r (Some (Ok gs)) h q = cc
+
+      further : (push : Option ℕ) (r : EnteredFrames) → push_by p push r ≡ Some (Err k) → IsHard k
+      further None r q = cc
+      further (Some f) r q = with_hard r (pushed p f r.frames) (pushed_hard f r.frames k) q
+
+      by : (o : Option EnteredFrames) → edited_by p e.push o ≡ Some (Err k) → IsHard k
+      by None q = let same : ClientMisuse ≡ k = cc in subst IsHard same tt
+      by (Some r) q = further e.push r q
+
+  answered_good : (c : Configuration) (u : Turn) (fs : List Activation) (a : Option Answer) → Moving p t c u.thread → slice_get c.stacks u.stack ≡ Some (Ready fs) → ReadyFit p t (world p.tables c) fs → AnswerFits p.tables (world p.tables c) a → Settles p t (answered p c u fs a)
+  answered_good c u fs None m there ready h = tt
+  answered_good c u fs (Some a) m there ready h =
+      let d = taken a c in
+      hard_tried d u (edited p a.edit fs) _ (λ (r : EnteredFrames). ReadyFit p t (world p.tables c) r.frames) (edited_fits p t typed (world p.tables c) a.edit fs h.0 ready) (edited_hard a.edit fs) (λ r fit.
+      replied_good (edits u r d) u a.reply (edits_moving d u fs r (other_moving c u.thread d.lines d.watched m) there fit)
+      (omega (arith, length-set c.stacks u.stack (Ready r.frames), slice_get_within c.stacks u.stack (Ready fs) there)) (reply_more (world p.tables c) (world p.tables (edits u r d)) a.reply (edits_grow d u r) h.1))
 
   pub trapped_good : (c : Configuration) (u : Turn) (n : Option ℕ) (cs : List ℕ) (th : Thread) → Going p t c u → Turned p t (world p.tables c) u → slice_get c.threads u.thread ≡ Some (Some th) → is_thread c.log u.thread ≡ true →
       with_some u.doing.act (waits_for p.tables) ≡ Some cs → GoesWell p t (world p.tables c) (trapped p c u n cs)
@@ -187,7 +258,8 @@ module _ (p : Program) (t : Places) (typed : IsTyped p t) where
             let e = noted (trap_note u n) d in
             let same : world p.tables c ≡ world p.tables e = left_same p t typed c u f in
             let moving = other_moving d u.thread e.lines d.watched (left_moving p t typed c u f th g there known (fit.waits, fit.results) k.below) in
-            answered_good e u a moving (omega (arith, length-set c.stacks u.stack (Ready (f ∷ u.below)), slice_get_within c.stacks u.stack (Active u.thread g.frames) g.there)) (subst (λ w. AnswerFits p.tables w a) same ha),
+            let ready : ReadyFit p t (world p.tables c) (f ∷ u.below) = (fit.waits, subst (λ rs. BelowWait p t (world p.tables c) rs u.below) (sym fit.results) k.below) in
+            answered_good e u (f ∷ u.below) a moving (set_same c.stacks u.stack (Ready (f ∷ u.below)) (Active u.thread g.frames) g.there) (subst (λ w. ReadyFit p t w (f ∷ u.below)) same ready) (subst (λ w. AnswerFits p.tables w a) same ha),
       ))
     where
       shown : (f : Activation) → WaitsFor p t (world p.tables c) (t.results u.top.block) cs f → All (λ (f : Activation). TypedFit (type_graph p.tables) (world p.tables c) f.kept) (f ∷ u.below)

@@ -30,7 +30,9 @@ use Rattle.mu_model.specs.Frames.{arrived, called, caught, fresh_frame, passed}
 use Rattle.mu_model.specs.Objects.{object_added, asks_cells}
 use Rattle.mu_model.specs.Operands.{scalar_in}
 use Rattle.mu_model.specs.Outcomes.{Asks, End, Next, Outcome, Stuck, excepted, faulted, has_results, has_result, next, on, onto, refused, tried, unless_refused}
-use Rattle.mu_model.specs.Traps.{answered, chooses, entering_of, enters_by, goes, is_among, replied, taken, trap_note, trapped, meets_watchpoint}
+use Rattle.mu_model.specs.Edits.{edited}
+use Rattle.model_laws.proofs.Editing.{edited_depth}
+use Rattle.mu_model.specs.Traps.{answered, edits, chooses, entering_of, enters_by, goes, is_among, replied, taken, trap_note, trapped, meets_watchpoint}
 use Rattle.mu_model.specs.Turns.{Turn, waiting}
 use Rattle.mu_model.specs.Types.{type_graph, classes_given}
 use Rattle.mu_model.specs.Waiting.{found_another, futex_waits, times_out, waits_at, without}
@@ -285,12 +287,15 @@ module _ (p : Program) (b : Configuration) (n : ℕ) where
       replied_done d Exit h = loosen d 1 0 0 (omega arith) (omega arith) (omega arith) h
       replied_done d clients.Stop h = tt
 
-      pub answered_done : (d : Configuration) (a : Option Answer) → Within 1 0 0 d → Every Done (answered p d u a)
-      answered_done d None h = tt
-      answered_done d (Some a) h = replied_done (taken a d) a.reply h
+      pub answered_done : (d : Configuration) (fs : List Activation) (a : Option Answer) → suc (length fs) ≤ n → Within 1 0 0 d → Every Done (answered p d u fs a)
+      answered_done d fs None few h = tt
+      answered_done d fs (Some a) few h =
+          tried_done (taken a d) (edited p a.edit fs) _ (loosen d 1 0 0 (omega arith) (omega arith) (omega arith) h) (λ r q.
+          replied_done (edits u r (taken a d)) a.reply
+          (ended_within (stack_becomes u.stack (Ready r.frames) (taken a d)) 1 0 0 r.ended (stack_within (taken a d) 1 0 0 u.stack (Ready r.frames) h (omega (arith, few, edited_depth p a.edit fs r q)))))
 
       pub trapped_done : (m : Option ℕ) (cs : List ℕ) → Every Done (trapped p b u m cs)
-      trapped_done m cs = every_on Done (waiting u cs) _ (λ f q a. answered_done (noted (trap_note u m) (leaving u f b)) a (left_within f))
+      trapped_done m cs = every_on Done (waiting u cs) _ (λ f q a. answered_done (noted (trap_note u m) (leaving u f b)) (f ∷ u.below) a low (left_within f))
 
       pub watches_done : (m : ℕ) (cs : List ℕ) (g : Goal) → Every Done (meets_watchpoint p b u m cs g)
       watches_done m cs g = by (is_among m b.watched)

@@ -9,6 +9,7 @@ pub mod Accessing
 pub mod Moving
 pub mod Making
 pub mod Owners
+pub mod Editing
 pub mod Asking
 pub mod Waiting
 pub mod Starting

@@ -97,6 +97,21 @@ owned_off ts ss k i old new o there off = record {
         let here = o.threads j m gs r.1 in
         ((λ e. r.0 (one_stack (slice_get ts i) k m (o.threads i k old there) (subst (λ n. IsSomeAnd (slice_get ts n) (IsOn m)) e here))), here)
 
+-- a stack that is on no thread stays so
+pub owned_aside : (ts : List (Option Thread)) (ss : List Stack) (k i : ℕ) (old : List Activation) (new : Stack) → OwnedBut ts ss i → slice_get ss k ≡ Some (Ready old) → IsOff new → OwnedBut ts (slice_set ss k new) i
+owned_aside ts ss k i old new o there off = record {
+  stacks = λ j t n e. upon j t.stack (cases_eq k t.stack) (o.stacks j t n e);
+  threads = λ j m gs e. by j m gs (set_cases ss k m new (Active j gs) e);
+}
+  where
+    upon : (j m : ℕ) → (k ≡ m) ⊎ (k ≡ m → ⊥) → IsSomeAnd (slice_get ss m) (IsActiveOn j) → IsSomeAnd (slice_get (slice_set ss k new) m) (IsActiveOn j)
+    upon j m (inl e) h = absurd (some_at _ (IsActiveOn j) (Ready old) there (subst (λ n. IsSomeAnd (slice_get ss n) (IsActiveOn j)) (sym e) h))
+    upon j m (inr n) h = subst (λ x. IsSomeAnd x (IsActiveOn j)) (sym (set_other ss k m new n)) h
+
+    by : (j m : ℕ) (gs : List Activation) → ((k ≡ m) × (Active j gs ≡ new)) ⊎ ((k ≢ m) × (slice_get ss m ≡ Some (Active j gs))) → (j ≢ i) × IsSomeAnd (slice_get ts j) (IsOn m)
+    by j m gs (inl r) = absurd (subst IsOff (sym r.1) off)
+    by j m gs (inr r) = o.threads j m gs r.1
+
 pub owned_on : (ts : List (Option Thread)) (ss : List Stack) (k i : ℕ) (th : Thread) (old fs : List Activation) → OwnedBut ts ss i → slice_get ts i ≡ Some (Some th) → slice_get ss k ≡ Some (Ready old) →
     Owned (slice_set ts i (Some (record th { stack = k }))) (slice_set ss k (Active i fs))
 owned_on ts ss k i th old fs o here there = record {

@@ -46,7 +46,8 @@ use Rattle.mu_model.specs.Operands.{scalar_in}
 use Rattle.mu_model.specs.Outcomes.{Asks, End, Next, Outcome, Stuck, excepted, faulted, has_result, next, onto, refused, tried, unless_refused}
 use Rattle.mu_model.specs.Run.{begins_in, client_answers, with_client}
 use Rattle.mu_model.specs.Step.{ends_or_picks, performed, picked, picking_thread, runnable, step, threads_from, turned, turns, with_own}
-use Rattle.mu_model.specs.Traps.{answered, entering_of, enters_by, goes, is_among, replied, taken, trap_note, trapped}
+use Rattle.mu_model.specs.Edits.{edited}
+use Rattle.mu_model.specs.Traps.{answered, edits, entering_of, enters_by, goes, is_among, replied, taken, trap_note, trapped}
 use Rattle.mu_model.specs.Turns.{Turn, turn_of, waiting}
 use Rattle.mu_model.specs.Types.{type_graph}
 use Rattle.mu_model.specs.Waiting.{found_another, futex_waits, is_at, is_of, wakes_all, wakes_one, wakes_these, was_woken, waits_at, without}
@@ -202,12 +203,14 @@ module _ (p : Program) (m : ℕ) where
     replied_keeps d Exit k = k
     replied_keeps d clients.Stop k = tt
 
-    answered_keeps : (d : Configuration) (a : Option Answer) → Good d → Every Good (answered p d u a)
-    answered_keeps d None k = tt
-    answered_keeps d (Some a) k = replied_keeps (taken a d) a.reply k
+    answered_keeps : (d : Configuration) (fs : List Activation) (a : Option Answer) → Good d → Every Good (answered p d u fs a)
+    answered_keeps d fs None k = tt
+    answered_keeps d fs (Some a) k =
+        tried_keeps (taken a d) u (edited p a.edit fs) _ k (λ r q.
+        replied_keeps (edits u r (taken a d)) a.reply (ended_good (stack_becomes u.stack (Ready r.frames) (taken a d)) r.ended (becomes_good (taken a d) u.stack (Ready r.frames) k)))
 
     trapped_keeps : (n : Option ℕ) (cs : List ℕ) → Every Good (trapped p b u n cs)
-    trapped_keeps n cs = every_on Good (waiting u cs) _ (λ f q a. answered_keeps (noted (trap_note u n) (leaving u f b)) a (left_good f))
+    trapped_keeps n cs = every_on Good (waiting u cs) _ (λ f q a. answered_keeps (noted (trap_note u n) (leaving u f b)) (f ∷ u.below) a (left_good f))
 
     watches_keep : (n : ℕ) (cs : List ℕ) (g : Goal) (x : Bool) → Every Good (if x then trapped p b u (Some n) cs else goes b u g)
     watches_keep n cs g true = trapped_keeps (Some n) cs

@@ -1,12 +1,13 @@
 -- Clients and answers that fit.
-use Rattle.std.specs.Prelude.{◌≡◌, ℕ, All, List, Option, Some, None}
+use Rattle.std.specs.Prelude.{◌≡◌, ℕ, All, List, Option, Some, None, IsSome, slice_get}
 use Rattle.type_laws.specs.declared.definition.TypeDef.{TypeDef}
 use Rattle.mu_values.specs.Slots.{TypedValues}
 use Rattle.check_tables.specs.declared.tables.Tables.{Tables}
 use Rattle.check_tables.specs.Types.{stackref}
-use Rattle.typed_heap.specs.Fits.{World, ValueFits}
+use Rattle.typed_heap.specs.Fits.{World, ValueFits, signature_classes}
 use Rattle.frames.specs.Activations.{Activation}
 use Rattle.mu_model.specs.Types.{type_graph}
+use Rattle.mu_model.specs.Answers.{edit_of}
 use Rattle.mu_model.specs.Clients.{Classed, With, Pass, Throw, Reply, Resume, Rebind, Exit, Stop, Argument, Told, KeptValue, ScriptEntry, Client, Answer}
 use Rattle.mu_model.specs.Outcomes.{View}
 use Rattle.model_laws.specs.Values.{TypedFit, HasGlobals}
@@ -28,12 +29,17 @@ ReplyFits p w (Rebind s v) = (s.0 ≡ stackref p.types) × ValueFits (type_graph
 ReplyFits p w Exit = Unit {0}
 ReplyFits p w Stop = Unit {0}
 
--- misuse, or an answer whose values fit
+-- a function that is pushed is one of the bundle
+abbrev pub PushFits : Tables → Option ℕ → Type 0
+PushFits p None = Unit {0}
+PushFits p (Some f) = IsSome (slice_get (signature_classes p) f)
+
+-- misuse, or an answer whose function and values fit
 abbrev pub AnswerFits : Tables → World → Option Answer → Type 0
 AnswerFits p w None = Unit {0}
-AnswerFits p w (Some a) = ReplyFits p w a.reply
+AnswerFits p w (Some a) = PushFits p a.edit.push × ReplyFits p w a.reply
 
--- ---- a client: the values that its entries tell fit their types, whatever else is made
+-- ---- a client: the functions that its entries push are there, and the values that they tell fit their types, whatever else is made
 
 abbrev pub ArgumentFits : List TypeDef → World → Argument → Type 0
 ArgumentFits graph w (Told v) = ValueFits graph w v.0 v.1
@@ -49,5 +55,8 @@ EntryFits graph w (Rebind s a) = ArgumentFits graph w s × ArgumentsFit graph w 
 EntryFits graph w Exit = Unit {0}
 EntryFits graph w Stop = Unit {0}
 
+abbrev pub ScriptEntryFits : Tables → World → ScriptEntry → Type 0
+ScriptEntryFits p w e = PushFits p (edit_of e).push × EntryFits (type_graph p) w e.reply
+
 abbrev pub ClientFits : Tables → Client → Type 0
-ClientFits p k = (w : World) → HasGlobals p w → All (λ (e : ScriptEntry). EntryFits (type_graph p) w e.reply) k.entries
+ClientFits p k = (w : World) → HasGlobals p w → All (ScriptEntryFits p w) k.entries

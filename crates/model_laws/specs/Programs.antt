@@ -1,13 +1,13 @@
 -- A well-typed program: with values that fit the variables of a place, the instruction there does what fits.
-use Rattle.std.specs.Prelude.{◌≡◌, ℕ, List, ◌++◌, Option, Some, IsSomeAnd}
+use Rattle.std.specs.Prelude.{◌≡◌, ℕ, List, ◌++◌, Option, Some, IsSome, IsSomeAnd, slice_get}
 use Rattle.typed_heap.specs.Objects.{leaf_classes, zeros}
-use Rattle.typed_heap.specs.Fits.{World, ScalarsFit}
+use Rattle.typed_heap.specs.Fits.{World, ScalarsFit, signature_classes}
 use Rattle.frames.specs.Activations.{Value}
 use Rattle.mu_model.specs.Types.{type_graph, classes_taken, classes_given}
 use Rattle.mu_model.specs.Acts.{Doing, Program}
 use Rattle.model_laws.specs.Values.{ValuesFit, TypedFit, HasGlobals}
 use Rattle.model_laws.specs.Places.{Places, HasTypes, HandlerFits, OnwardFits}
-use Rattle.model_laws.specs.ActsFit.{ActFits}
+use Rattle.model_laws.specs.ActsFit.{ActFits, IsFunction}
 
 -- an instruction has an act, a destination for exceptions or none, and values that it keeps, and all fit its place
 pub record DoingFits (p : Program) (t : Places) (w : World) (block at : ℕ) (d : Doing) : Type 0 where
@@ -25,5 +25,7 @@ pub record IsTyped (p : Program) (t : Places) : Type 0 where
   -- and with its results behind them it goes on
   pub going_on : (w : World) (block at : ℕ) (ks gs : List ℕ) (vs : List Value) → HasGlobals p.tables w → t.before block at ≡ Some ks → t.gives block at ≡ Some gs →
       ValuesFit (type_graph p.tables) w (ks ++ gs) vs → IsSomeAnd (p.going_on block at vs) (OnwardFits p t w block at (ks ++ gs))
+  -- each function of the bundle is one of the program
+  pub functions : (f : ℕ) → IsSome (slice_get (signature_classes p.tables) f) → IsFunction p f
   -- the first block of a function takes its parameters, and gives its results
   pub body : (f b : ℕ) → p.body f ≡ Some (Some b) → (t.before b 0 ≡ Some (classes_taken p.tables f)) × (t.results b ≡ classes_given p.tables f)

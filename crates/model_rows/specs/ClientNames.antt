@@ -17,6 +17,6 @@ argument None = Told (0, [])
 abbrev told : Text → Argument
 told text = argument (global_told (bundle_in (text_answer bundle)) (record { place = 0; text = text }))
 
-constants_globals_and_functions_are_passed : run_text (record plain { client = record { entries = record { actions = []; reply = Resume (Pass (told (codes "@c40") ∷ told (codes "@g") ∷ told (codes "@main") ∷ [])) } ∷ record { actions = TellKept 0 ∷ []; reply = Resume (Pass []) } ∷ []; auto = false } }) bundle ≡ codes "0 t0 leave s0\ntrap t0 @main.v.e 0\n1 t0 enter s0\n2 t0 leave s0\ntrap t0 @main.v.e 1\nkept 0 40 #0+0 @main\n3 t0 enter s0\nreturned t0 40\ndone\n"
+constants_globals_and_functions_are_passed : run_text (record plain { client = record { entries = record { actions = []; pop = 0; push = None; reply = Resume (Pass (told (codes "@c40") ∷ told (codes "@g") ∷ told (codes "@main") ∷ [])) } ∷ record { actions = TellKept 0 ∷ []; pop = 0; push = None; reply = Resume (Pass []) } ∷ []; auto = false } }) bundle ≡ codes "0 t0 leave s0\ntrap t0 @main.v.e 0\n1 t0 enter s0\n2 t0 leave s0\ntrap t0 @main.v.e 1\nkept 0 40 #0+0 @main\n3 t0 enter s0\nreturned t0 40\ndone\n"
 unfolding run_text
 constants_globals_and_functions_are_passed = refl

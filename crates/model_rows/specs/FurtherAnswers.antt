@@ -1,5 +1,5 @@
 -- Runs of bundles: stacks that a client gives to a thread or leaves, and a thread that is not there.
-use Rattle.std.specs.Prelude.{codes, ◌≡◌, refl, ◌++◌, [], ◌∷◌, ℕ, decimal, zero, suc, ◌+◌, false}
+use Rattle.std.specs.Prelude.{None, codes, ◌≡◌, refl, ◌++◌, [], ◌∷◌, ℕ, decimal, zero, suc, ◌+◌, false}
 use Rattle.std.specs.Fmt.{digits}
 use Rattle.mu_model.specs.Clients.{Pass, Rebind, Exit, KeptValue}
 use Rattle.run_texts.specs.Texts.{Text}
@@ -22,7 +22,7 @@ full_threads_go_to_the_exceptional_destination = refl
 abbrev another_stack : Text
 another_stack = definitions ++ codes ".funcdef @t VERSION %v <@m> { %e(): RET () } .funcdef @main VERSION %v <@mi> { %e(): %s = COMMINST @uvm.new_stack <[@m]> (@t) TRAP <> KEEPALIVE(%s) RET (@c0) }"
 
-thread_gets_another_stack : run_text (record plain { client = record { entries = record { actions = []; reply = Rebind (KeptValue 0 0) (Pass []) } ∷ []; auto = false } }) another_stack ≡ codes "0 t0 stack s1\n1 t0 leave s0\ntrap t0 @main.v.e 1\n2 t0 enter s1\nreturned t0\ndone\n"
+thread_gets_another_stack : run_text (record plain { client = record { entries = record { actions = []; pop = 0; push = None; reply = Rebind (KeptValue 0 0) (Pass []) } ∷ []; auto = false } }) another_stack ≡ codes "0 t0 stack s1\n1 t0 leave s0\ntrap t0 @main.v.e 1\n2 t0 enter s1\nreturned t0\ndone\n"
 unfolding run_text
 thread_gets_another_stack = refl
 
@@ -30,6 +30,6 @@ thread_gets_another_stack = refl
 abbrev left_stack : Text
 left_stack = definitions ++ codes ".funcdef @co VERSION %v <@gs> { %e(<@st> %m): SWAPSTACK %m KILL_OLD PASS_VALUES<>() } .funcdef @main VERSION %v <@mi> { %e(): %m = COMMINST @uvm.current_stack () %s = COMMINST @uvm.new_stack <[@gs]> (@co) %t = NEWTHREAD %s PASS_VALUES<@st>(%m) TRAP <> RET (@c1) }"
 
-stack_of_an_ended_thread_is_entered : run_text (record plain { client = record { entries = record { actions = []; reply = Exit } ∷ []; auto = false } }) left_stack ≡ codes "0 t0 stack s1\n1 t0 thread t1\n2 t1 enter s1\n3 t0 leave s0\ntrap t0 @main.v.e 3\nexited t0\n4 t1 enter s0\nreturned t1 1\ndone\n"
+stack_of_an_ended_thread_is_entered : run_text (record plain { client = record { entries = record { actions = []; pop = 0; push = None; reply = Exit } ∷ []; auto = false } }) left_stack ≡ codes "0 t0 stack s1\n1 t0 thread t1\n2 t1 enter s1\n3 t0 leave s0\ntrap t0 @main.v.e 3\nexited t0\n4 t1 enter s0\nreturned t1 1\ndone\n"
 unfolding run_text
 stack_of_an_ended_thread_is_entered = refl

@@ -36,3 +36,4 @@ pub mod FutexCells
 pub mod ObjectEnds
 pub mod ClientNames
 pub mod FurtherAnswers
+pub mod Edits

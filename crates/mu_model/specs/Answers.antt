@@ -1,5 +1,5 @@
 -- What a client answers.
-use Rattle.std.specs.Prelude.{ℕ, suc, Bool, true, false, ◌==◌, drop, List, [], ◌∷◌, Option, Some, None, map, slice_get, flat_map, if◌then◌else◌}
+use Rattle.std.specs.Prelude.{ℕ, suc, Bool, true, false, ◌==◌, drop, List, [], ◌∷◌, Option, Some, None, map, slice_get, flat_map, option_map, if◌then◌else◌}
 use Rattle.ir_lex.specs.declared.name.Name.{Name}
 use Rattle.ir_tree.specs.declared.items.Item.{Item}
 use Rattle.mu_values.specs.Slots.{TypedValues}
@@ -12,7 +12,7 @@ use Rattle.typed_heap.specs.Places.{with_some}
 use Rattle.mu_model.specs.declared.lines.Note.{Note}
 use Rattle.mu_model.specs.declared.lines.Note.TheVariants.{Frame, Kept}
 use Rattle.mu_model.specs.Types.{zero_value}
-use Rattle.mu_model.specs.Clients.{Classed, With, Pass, Throw, Reply, Resume, Rebind, Exit, Stop, Argument, Told, KeptValue, Action, TellFrames, TellKept, Watch, ScriptEntry, Client, Answer}
+use Rattle.mu_model.specs.Clients.{Classed, With, Pass, Throw, Reply, Resume, Rebind, Exit, Stop, Argument, Told, KeptValue, Action, TellFrames, TellKept, Watch, ClassedFunction, ScriptEntry, Client, Edit, Answer, no_edit}
 use Rattle.mu_model.specs.Operands.{global_operand, all_some}
 use Rattle.mu_model.specs.Outcomes.{View}
 
@@ -58,15 +58,19 @@ watches_of [] = []
 watches_of (Watch n enabled ∷ more) = (n, enabled) ∷ watches_of more
 watches_of (a ∷ more) = watches_of more
 
+-- what an entry does to the frames
+abbrev pub edit_of : ScriptEntry → Edit
+edit_of e = record { pop = e.pop; push = option_map (λ (f : ClassedFunction). f.1) e.push }
+
 abbrev pub entry_answer : Tables → List Activation → ScriptEntry → Option Answer
 entry_answer p fs e =
     with_some (all_some (map (notes_of fs) e.actions)) (λ ns. with_some (reply_of p fs e.reply) (λ r.
-    Some (record { notes = flat_map (λ n. n) ns; watches = watches_of e.actions; reply = r })))
+    Some (record { notes = flat_map (λ n. n) ns; watches = watches_of e.actions; edit = edit_of e; reply = r })))
 
 -- ---- the client
 
 abbrev pub plain_answer : Reply TypedValues Classed → Answer
-plain_answer r = record { notes = []; watches = []; reply = r }
+plain_answer r = record { notes = []; watches = []; edit = no_edit; reply = r }
 
 -- zero and NULL for what is asked
 abbrev pub blank : Tables → List ℕ → TypedValues

@@ -41,6 +41,7 @@ pub mod Changes
 pub mod Turns
 pub mod Outcomes
 pub mod Exceptions
+pub mod Edits
 pub mod EnteringStacks
 pub mod Objects
 pub mod Accesses

@@ -6,7 +6,7 @@ use Rattle.mu_values.specs.declared.scalars.Scalar.TheVariants as scalars
 use Rattle.mu_values.specs.Slots.{TypedValues}
 use Rattle.check_tables.specs.declared.tables.Tables.{Tables}
 use Rattle.check_tables.specs.Types.{ref_void}
-use Rattle.frames.specs.Activations.{Goal}
+use Rattle.frames.specs.Activations.{Goal, Activation}
 use Rattle.typed_heap.specs.Places.{with_some}
 use Rattle.mu_model.specs.declared.lines.Line.TheVariants as lines
 use Rattle.mu_model.specs.declared.lines.Note.{Note}
@@ -14,13 +14,15 @@ use Rattle.mu_model.specs.declared.lines.Note.TheVariants.{Exited, Trap, Watchpo
 use Rattle.mu_model.specs.declared.endings.Case.TheVariants.{ClientMisuse}
 use Rattle.mu_model.specs.declared.endings.Ending.TheVariants as endings
 use Rattle.mu_model.specs.Clients.{Classed, With, Pass, Throw, Reply, Resume, Rebind, Exit, Stop, Answer}
-use Rattle.mu_model.specs.Configuration.{Configuration}
+use Rattle.mu_model.specs.Configuration.{Ready, Configuration}
 use Rattle.mu_model.specs.Acts.{Entering, Passes, ThrowsInto, Misfits, Program}
 use Rattle.mu_model.specs.Operands.{scalar_in}
 use Rattle.mu_model.specs.Frames.{arrived}
-use Rattle.mu_model.specs.Changes.{noted, thread_ends}
+use Rattle.mu_model.specs.Changes.{noted, stack_becomes, frames_end, thread_ends}
 use Rattle.mu_model.specs.Turns.{Turn, waiting}
-use Rattle.mu_model.specs.Outcomes.{Outcome, Next, Asks, on, next, onto, ended, case_of}
+use Rattle.mu_model.specs.Outcomes.{Outcome, Next, Asks, on, next, onto, ended, tried, case_of}
+use Rattle.mu_model.specs.Exceptions.{EnteredFrames}
+use Rattle.mu_model.specs.Edits.{edited}
 use Rattle.mu_model.specs.EnteringStacks.{leaving, entering, enters}
 
 -- ---- what comes of an answer
@@ -51,9 +53,14 @@ replied p c u (Rebind t w) = on (scalar_in (Some t.1)) (λ s. enters_by p c u s 
 replied p c u Exit = Next (noted (Exited u.thread) (thread_ends u.thread c))
 replied p c u Stop = ended c endings.Stop
 
-abbrev pub answered : Program → Configuration → Turn → Option Answer → Outcome
-answered p c u None = ended c (case_of u ClientMisuse)
-answered p c u (Some a) = replied p (taken a c) u a.reply
+-- the trapped stack has these frames from then on, and those that were popped end
+abbrev pub edits : Turn → EnteredFrames → Configuration → Configuration
+edits u r c = frames_end r.ended (stack_becomes u.stack (Ready r.frames) c)
+
+-- first its records and watches, then its edit of the frames of the trapped stack, then its reply
+abbrev pub answered : Program → Configuration → Turn → List Activation → Option Answer → Outcome
+answered p c u fs None = ended c (case_of u ClientMisuse)
+answered p c u fs (Some a) = tried p (taken a c) u (edited p a.edit fs) (λ r. replied p (edits u r (taken a c)) u a.reply)
 
 -- ---- traps: the stack is left, a record says so, and the client is asked
 
@@ -64,7 +71,7 @@ trap_note u (Some n) = Watchpoint u.thread u.top.block u.top.at n
 abbrev pub trapped : Program → Configuration → Turn → Option ℕ → List ℕ → Outcome
 trapped p c u watchpoint cs =
     on (waiting u cs) (λ f.
-    Asks (record { thread = u.thread; watchpoint = watchpoint; asked = cs; frames = f ∷ u.below }) (answered p (noted (trap_note u watchpoint) (leaving u f c)) u))
+    Asks (record { thread = u.thread; watchpoint = watchpoint; asked = cs; frames = f ∷ u.below }) (answered p (noted (trap_note u watchpoint) (leaving u f c)) u (f ∷ u.below)))
 
 -- ---- watchpoints
 

@@ -13,35 +13,24 @@ use Rattle.frames.specs.Chains.{frames_in}
 use Rattle.stacks.specs.Stacks.{Unbound}
 use Rattle.mu_model.specs.Acts.{Program}
 use Rattle.mu_model.specs.Types.{classes_given, classes_taken}
+use Rattle.mu_model.specs.Edits.{popped, pushed, pushed_on}
 use Rattle.mu_model.specs.Exceptions.{EnteredFrames, body_or_case}
 use Rattle.mu_model.specs.Frames.{fresh_frame}
 use Rattle.mu_model.specs.declared.endings.Case.{Case}
 use Rattle.mu_model.specs.declared.endings.Case.TheVariants as cases
 use Rattle.model_numbers.specs.Numbered.{numbered}
 use Rattle.model_laws.specs.ActsFit.{IsFunction}
-use Rattle.model_laws.specs.FramesFit.{BelowWait, ReadyFit}
+use Rattle.model_laws.specs.FramesFit.{ReadyFit}
 use Rattle.model_laws.specs.Places.{Places}
 use Rattle.model_laws.specs.Programs.{IsTyped}
-use Rattle.model_laws.proofs.Turning.{body_fits}
-use Rattle.mu_osr.specs.Edits.{popped, pushed, pushed_on, case_of_fault}
+use Rattle.model_laws.proofs.Editing.{pushed_fits, ready_drops}
+use Rattle.mu_osr.specs.Faults.{case_of_fault}
 use Rattle.mu_osr.specs.Laws.{PoppedFramesFit, PushedFramesFit, PopsAsAbstract, PushesAsAbstract}
 use Rattle.mu_osr.specs.Pushing.{Pushes, WhyNot, before_parameters, first_of}
 use Rattle.mu_osr.specs.declared.pushing.PushFault.{PushFault}
 use Rattle.mu_osr.specs.declared.pushing.PushFault.TheVariants.{NoBody, Misfit}
 
 -- ---- frames that are left
-
-module _ (p : Program) (t : Places) (w : World) where
-  below_drops : (n : ℕ) (rs : List ℕ) (fs : List Activation) → BelowWait p t w rs fs → n < length fs → ReadyFit p t w (drop n fs)
-  below_drops n rs [] h l = absurd (omega (arith, l))
-  below_drops zero rs (f ∷ fs) h l = (h.0, h.2)
-  below_drops (suc n) rs (f ∷ fs) h l = below_drops n (t.results f.block) fs h.2 (omega (arith, l))
-
-  -- the frames that are left are those of a stack that is ready
-  ready_drops : (n : ℕ) (fs : List Activation) → ReadyFit p t w fs → n < length fs → ReadyFit p t w (drop n fs)
-  ready_drops n [] h l = absurd h
-  ready_drops zero (f ∷ fs) h l = h
-  ready_drops (suc n) (f ∷ fs) h l = below_drops n (t.results f.block) fs h.1 (omega (arith, l))
 
 abbrev left_frames : ℕ → List Activation → EnteredFrames
 left_frames n fs = record { frames = drop n fs; ended = take n fs }
@@ -61,28 +50,8 @@ popped_fit p t w n fs r h e =
 
 -- ---- a frame that is pushed
 
-module _ (p : Program) (t : Places) (typed : IsTyped p t) (w : World) where
-  -- a frame before its parameters
-  on_top_fits : (f b : ℕ) (x : Activation) (fs : List Activation) → p.body f ≡ Some (Some b) → ReadyFit p t w (x ∷ fs) → IfOk (pushed_on p f x fs (Ok b)) (ReadyFit p t w)
-  on_top_fits f b x fs e h = by (bytes_eq (classes_given p.tables f) x.waits) refl
-    where
-      by : (q : Bool) → bytes_eq (classes_given p.tables f) x.waits ≡ q → IfOk (if q then Ok (fresh_frame p f b ∷ x ∷ fs) else Err cases.StackTypes) (ReadyFit p t w)
-      by false same = tt
-      by true same =
-          let gives : classes_given p.tables f ≡ x.waits = (bytes_eq-Decides (classes_given p.tables f) x.waits).0 same in
-          (record { function = f; entry = e; first = refl; values = refl; waits = refl; handler = refl; kept = refl }, (h.0, sym gives ∙ sym (typed.body f b e).1, h.1))
-
-  on_any_fits : (f : ℕ) (fs : List Activation) → IsFunction p f → ReadyFit p t w fs → IsSomeAnd (pushed p f fs) (λ r. IfOk r (ReadyFit p t w))
-  on_any_fits f [] is h = absurd h
-  on_any_fits f (x ∷ fs) is h = by (body_or_case (p.body f)) (body_fits p t typed f is)
-    where
-      by : (o : Option (Result ℕ Case)) → IsSomeAnd o (λ r. IfOk r (λ b. p.body f ≡ Some (Some b))) → IsSomeAnd (option_map (pushed_on p f x fs) o) (λ r. IfOk r (ReadyFit p t w))
-      by None k = absurd k
-      by (Some (Err k)) e = tt
-      by (Some (Ok b)) e = on_top_fits f b x fs e h
-
 pub pushed_fit : PushedFramesFit
-pushed_fit p t w f fs typed is h = on_any_fits p t typed w f fs is h
+pushed_fit p t w f fs typed is h = pushed_fits p t typed w f fs is h
 
 -- ---- the abstract machine's
 

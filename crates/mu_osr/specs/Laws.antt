@@ -7,13 +7,14 @@ use Rattle.frames.specs.Activations.{Activation}
 use Rattle.frames.specs.Chains.{frames_in}
 use Rattle.stacks.specs.Stacks.{Unbound}
 use Rattle.mu_model.specs.Acts.{Program}
+use Rattle.mu_model.specs.Edits.{popped, pushed}
 use Rattle.mu_model.specs.Exceptions.{EnteredFrames}
 use Rattle.model_numbers.specs.Numbered.{numbered}
 use Rattle.model_laws.specs.ActsFit.{IsFunction}
 use Rattle.model_laws.specs.FramesFit.{ReadyFit}
 use Rattle.model_laws.specs.Places.{Places}
 use Rattle.model_laws.specs.Programs.{IsTyped}
-use Rattle.mu_osr.specs.Edits.{popped, pushed, case_of_fault}
+use Rattle.mu_osr.specs.Faults.{case_of_fault}
 use Rattle.mu_osr.specs.Pushing.{Pushes, WhyNot}
 use Rattle.mu_osr.specs.declared.pushing.PushFault.{PushFault}
 

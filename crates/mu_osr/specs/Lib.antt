@@ -1,5 +1,5 @@
 pub mod Rooms
 pub mod Kept
 pub mod Pushing
-pub mod Edits
+pub mod Faults
 pub mod Laws

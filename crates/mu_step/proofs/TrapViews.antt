@@ -32,7 +32,7 @@ use Rattle.mu_model.specs.Answers.{answer_of, advanced}
 use Rattle.mu_model.specs.Operands.{scalar_in}
 use Rattle.mu_model.specs.Traps.{entering_of, watch}
 use Rattle.mu_model.specs.Changes.{changed, event, noted, thread_ends}
-use Rattle.mu_model.specs.Clients.{Classed, Client, Exit, Rebind, Reply, Resume, Stop, With}
+use Rattle.mu_model.specs.Clients.{Classed, Client, Exit, Rebind, Reply, Resume, Stop, With, no_edit}
 use Rattle.mu_model.specs.Configuration.{Stack, Ready, Active, Dead, Thread, Configuration}
 use Rattle.mu_model.specs.Exceptions.{EnteredFrames}
 use Rattle.mu_model.specs.EnteringStacks.{on_stack, enters, leaving, ready}
@@ -90,6 +90,10 @@ shown_seats s0 s1 s2 s3 k i f1 f first same last there =
 -- what is seen while it is shown
 pub shown_there : (s0 s1 : Seats) (k i : ℕ) (f1 : Chain) → k < length s0.stacks → s1 ≡ record s0 { stacks = slice_set s0.stacks k (Active i (frames_of f1)) } → slice_get s1.stacks k ≡ Some (Active i (frames_of f1))
 shown_there s0 s1 k i f1 low first = ap (λ (s : Seats). slice_get s.stacks k) first ∙ set_there s0.stacks k (Active i (frames_of f1)) low
+
+-- by the thread that the client is told
+pub shown_by : (s0 s1 : Seats) (k i j : ℕ) (f1 : Chain) → k < length s0.stacks → s1 ≡ record s0 { stacks = slice_set s0.stacks k (Active i (frames_of f1)) } → i ≡ j → slice_get s1.stacks k ≡ Some (Active j (frames_of f1))
+shown_by s0 s1 k i j f1 low first thread = shown_there s0 s1 k i f1 low first ∙ ap (λ i. Some (Active i (frames_of f1))) thread
 
 -- ---- answers, once the watchpoints and the client have changed
 
@@ -372,25 +376,29 @@ pub answer_in : (bundle : List Item) (p : Tables) (view : Trap) (s : Held) (w : 
 answer_in bundle p view s w i wp cs o plan h is tables there =
     ap (option_map planned) (sym there) ∙ h ∙ ap (λ (v : Trap). answer_of v.tables (seen s v.watchpoint w) s.client) is ∙ ap (λ p. answer_of p (seen s wp w) s.client) tables
 
+-- its answer pops and pushes no frame
+pub keeps_in : (o : Option Plan) (plan : Plan) → o ≡ Some plan → IfSome o (λ x. (planned x).edit ≡ no_edit) → (planned plan).edit ≡ no_edit
+keeps_in o plan e h = subst (λ o. IfSome o (λ x. (planned x).edit ≡ no_edit)) e h
+
 -- what the answer changes
 plan_change : Held → Note → Plan → Change
 plan_change s note plan = record { watched = fold watch s.watched plan.watches; lines = lines.Event (length s.log) (leaves s) ∷ lines.Note note ∷ map lines.Note plan.notes }
 
 pub trap_there : (bundle : List Item) (s t : Held) (wp : Option ℕ) (cs : List ℕ) (w u : Awaited) (note : Note) (plan : Plan) → told bundle s.client (trapping bundle s wp cs) ≢ Stuck → t ≡ s → u ≡ w → awaits bundle s.frames.top cs ≡ Some w
-    → Some (planned plan) ≡ answer_of (bundle_tables bundle) (seen s wp w) s.client → note ≡ note_of s wp
+    → Some (planned plan) ≡ answer_of (bundle_tables bundle) (seen s wp w) s.client → (planned plan).edit ≡ no_edit → note ≡ note_of s wp
     → replying bundle t u (record { watched = fold watch t.watched plan.watches; lines = lines.Event (length t.log) (leaves t) ∷ lines.Note note ∷ map lines.Note plan.notes }) (end_planned plan.end) ≢ Stuck
 unfolding plan_change
-trap_there bundle s t wp cs w u note plan h same waits awaited answer noted =
-    let here = trap_replies bundle s wp cs h w (planned plan) awaited answer in
+trap_there bundle s t wp cs w u note plan h same waits awaited answer keeps noted =
+    let here = trap_replies bundle s wp cs h w (planned plan) awaited answer keeps in
     subst (λ (t : Held). replying bundle t u (plan_change t note plan) (end_planned plan.end) ≢ Stuck) (sym same)
     (subst (λ u. replying bundle s u (plan_change s note plan) (end_planned plan.end) ≢ Stuck) (sym waits) (subst (λ n. replying bundle s w (plan_change s n plan) (end_planned plan.end) ≢ Stuck) (sym noted) here))
 
 pub trap_taken : {E : Type 0} (bundle : List Item) (s t n : Held) (wp : Option ℕ) (cs : List ℕ) (w u : Awaited) (note : Note) (plan : Plan) (q : Result StepEnd E) → told bundle s.client (trapping bundle s wp cs) ≢ Stuck → t ≡ s → u ≡ w → awaits bundle s.frames.top cs ≡ Some w
-    → Some (planned plan) ≡ answer_of (bundle_tables bundle) (seen s wp w) s.client → note ≡ note_of s wp
+    → Some (planned plan) ≡ answer_of (bundle_tables bundle) (seen s wp w) s.client → (planned plan).edit ≡ no_edit → note ≡ note_of s wp
     → IfOk q (λ end. answers end n ≡ past t (replying bundle t u (record { watched = fold watch t.watched plan.watches; lines = lines.Event (length t.log) (leaves t) ∷ lines.Note note ∷ map lines.Note plan.notes }) (end_planned plan.end)))
     → IfOk q (λ end. answers end n ≡ told bundle s.client (trapping bundle s wp cs))
 unfolding plan_change
-trap_taken bundle s t n wp cs w u note plan (Err q) h same waits awaited answer noted so = tt
-trap_taken bundle s t n wp cs w u note plan (Ok end) h same waits awaited answer noted so =
+trap_taken bundle s t n wp cs w u note plan (Err q) h same waits awaited answer keeps noted so = tt
+trap_taken bundle s t n wp cs w u note plan (Ok end) h same waits awaited answer keeps noted so =
     so ∙ ap (λ (t : Held). past t (replying bundle t u (plan_change t note plan) (end_planned plan.end))) same ∙ ap (λ u. past s (replying bundle s u (plan_change s note plan) (end_planned plan.end))) waits
-    ∙ ap (λ n. past s (replying bundle s w (plan_change s n plan) (end_planned plan.end))) noted ∙ sym (trap_answered bundle s wp cs h w (planned plan) awaited answer)
+    ∙ ap (λ n. past s (replying bundle s w (plan_change s n plan) (end_planned plan.end))) noted ∙ sym (trap_answered bundle s wp cs h w (planned plan) awaited answer keeps)

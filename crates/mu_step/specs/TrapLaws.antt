@@ -21,7 +21,7 @@ use Rattle.mu_model.specs.declared.endings.Case.{Case}
 use Rattle.mu_model.specs.declared.endings.Case.TheVariants as cases
 use Rattle.mu_model.specs.declared.endings.Ending.{Ending}
 use Rattle.mu_model.specs.declared.endings.Ending.TheVariants as endings
-use Rattle.mu_model.specs.Clients.{Client, Classed, With, Reply, Resume, Rebind, Exit, Stop, Answer}
+use Rattle.mu_model.specs.Clients.{Client, Classed, With, Reply, Resume, Rebind, Exit, Stop, Answer, Edit, no_edit}
 use Rattle.mu_model.specs.Acts.{Act, Entering, Goes, Traps, Watches, Chooses, Doing, Program}
 use Rattle.mu_model.specs.Answers.{answer_of, advanced}
 use Rattle.mu_model.specs.Changes.{event, noted, thread_ends}
@@ -32,7 +32,8 @@ use Rattle.mu_model.specs.Operands.{scalar_in}
 use Rattle.mu_model.specs.Outcomes.{Outcome, Next, End, Asks, Stuck, View, on, tried, unless_refused, refused}
 use Rattle.mu_model.specs.Run.{with_client}
 use Rattle.mu_model.specs.Traps as traps
-use Rattle.mu_model.specs.Traps.{is_among, watch, taken, enters_by, replied, answered, trapped}
+use Rattle.mu_model.specs.Edits.{edited}
+use Rattle.mu_model.specs.Traps.{is_among, watch, taken, enters_by, edits, replied, answered, trapped}
 use Rattle.mu_model.specs.Turns.{Turn, waiting}
 use Rattle.model_numbers.specs.Numbered.{numbered}
 use Rattle.seats.specs.Seats.{IsReady}
@@ -129,6 +130,21 @@ taken_is s w note a =
     ap (λ ls. record (leaving (turn s nothing) (with_awaited s.frames.top w) (begun s)) { watched = fold watch s.watched a.watches; lines = ls })
     (sym (lines_taken (length s.log) (lines.Event (length s.log) (event s.thread (Leave s.stack))) (lines.Note note) (map lines.Note a.notes)))
 
+-- ---- an answer that pops and pushes no frame
+
+-- all frames are kept
+abbrev kept_frames : List Activation → EnteredFrames
+kept_frames fs = record { frames = fs; ended = [] }
+
+answered_kept : (p : Program) (c : Configuration) (u : Turn) (f : Activation) (fs : List Activation) (a : Answer) → a.edit ≡ no_edit → answered p c u (f ∷ fs) (Some a) ≡ replied p (edits u (kept_frames (f ∷ fs)) (taken a c)) u a.reply
+unfolding tried on
+answered_kept p c u f fs a keeps = ap (λ (x : Edit). tried p (taken a c) u (edited p x (f ∷ fs)) (λ r. replied p (edits u r (taken a c)) u a.reply)) keeps
+
+kept_is : (s : Held) (w : Awaited) (x : Change) (d : Doing) → edits (turn s d) (kept_frames (frames_of (waiting_frames s w))) (changed_by s w x) ≡ changed_by s w x
+kept_is s w x d =
+    let now : Stack = Ready (frames_of (waiting_frames s w)) in
+    ap (λ ss. record (changed_by s w x) { stacks = ss }) (set_again (held_stacks s) s.stack now now)
+
 -- the client is asked where the top frame waits
 record TrapsAt (bundle : List Item) (s : Held) (watchpoint : Option ℕ) (cs : List ℕ) : Type 0 where
   pub doing : Doing
@@ -137,7 +153,7 @@ record TrapsAt (bundle : List Item) (s : Held) (watchpoint : Option ℕ) (cs : L
   pub waits : awaits bundle s.frames.top cs ≡ Some awaited
   pub classes : awaited.waits ≡ cs
   pub is : told bundle s.client (trapping bundle s watchpoint cs)
-      ≡ past s (answered (numbered bundle) (noted (note_of s watchpoint) (leaving (turn s nothing) (with_awaited s.frames.top awaited) (begun s))) (turn s doing) (answer_of (bundle_tables bundle) (seen s watchpoint awaited) s.client))
+      ≡ past s (answered (numbered bundle) (noted (note_of s watchpoint) (leaving (turn s nothing) (with_awaited s.frames.top awaited) (begun s))) (turn s doing) (frames_of (waiting_frames s awaited)) (answer_of (bundle_tables bundle) (seen s watchpoint awaited) s.client))
 
 awaited_classes : (o : Option (Option Goal)) (ks : Option TypedValues) (cs : List ℕ) (w : Awaited) → with_some o (λ h. with_some ks (λ k. Some (record { waits = cs; handler = h; kept = k }))) ≡ Some w → w.waits ≡ cs
 awaited_classes None ks cs w h = cc
@@ -149,7 +165,7 @@ awaited_classes (Some o) (Some k) cs w h =
 
 asked_of : List Item → Held → Option ℕ → List ℕ → Doing → Activation → Outcome
 asked_of bundle s watchpoint cs d f =
-    Asks (record { thread = s.thread; watchpoint = watchpoint; asked = cs; frames = f ∷ s.frames.below }) (answered (numbered bundle) (noted (note_of s watchpoint) (leaving (turn s nothing) f (begun s))) (turn s d))
+    Asks (record { thread = s.thread; watchpoint = watchpoint; asked = cs; frames = f ∷ s.frames.below }) (answered (numbered bundle) (noted (note_of s watchpoint) (leaving (turn s nothing) f (begun s))) (turn s d) (f ∷ s.frames.below))
 
 trap_at : (bundle : List Item) (s : Held) (watchpoint : Option ℕ) (cs : List ℕ) → told bundle s.client (trapping bundle s watchpoint cs) ≢ Stuck → TrapsAt bundle s watchpoint cs
 unfolding trapping awaits past asked_of
@@ -170,7 +186,7 @@ trap_at bundle s watchpoint cs h =
       classes = same;
       is =
           ap (told bundle s.client) asks
-          ∙ ap (λ asked. with_client (advanced s.client) (answered p (noted (note_of s watchpoint) (leaving (turn s nothing) (with_awaited s.frames.top w.0) (begun s))) (turn s r.0)
+          ∙ ap (λ asked. with_client (advanced s.client) (answered p (noted (note_of s watchpoint) (leaving (turn s nothing) (with_awaited s.frames.top w.0) (begun s))) (turn s r.0) (frames_of (waiting_frames s w.0))
           (answer_of (bundle_tables bundle) (record { thread = s.thread; watchpoint = watchpoint; asked = asked; frames = with_awaited s.frames.top w.0 ∷ s.frames.below }) s.client))) (sym same);
     }
 
@@ -188,29 +204,30 @@ module _ (bundle : List Item) (s : Held) (watchpoint : Option ℕ) (cs : List �
   trap_waits w e = ap (λ (w : Awaited). w.waits) (sym (same_wait w e)) ∙ at.classes
 
   answered_so : (w : Awaited) (o : Option Answer) → awaits bundle s.frames.top cs ≡ Some w → o ≡ answer_of (bundle_tables bundle) (seen s watchpoint w) s.client
-      → told bundle s.client (trapping bundle s watchpoint cs) ≡ past s (answered (numbered bundle) (noted (note_of s watchpoint) (leaving (turn s nothing) (with_awaited s.frames.top w) (begun s))) (turn s at.doing) o)
+      → told bundle s.client (trapping bundle s watchpoint cs) ≡ past s (answered (numbered bundle) (noted (note_of s watchpoint) (leaving (turn s nothing) (with_awaited s.frames.top w) (begun s))) (turn s at.doing) (frames_of (waiting_frames s w)) o)
   answered_so w o e answer =
       at.is
-      ∙ ap (λ w. past s (answered (numbered bundle) (noted (note_of s watchpoint) (leaving (turn s nothing) (with_awaited s.frames.top w) (begun s))) (turn s at.doing) (answer_of (bundle_tables bundle) (seen s watchpoint w) s.client))) (same_wait w e)
-      ∙ ap (λ o. past s (answered (numbered bundle) (noted (note_of s watchpoint) (leaving (turn s nothing) (with_awaited s.frames.top w) (begun s))) (turn s at.doing) o)) (sym answer)
+      ∙ ap (λ w. past s (answered (numbered bundle) (noted (note_of s watchpoint) (leaving (turn s nothing) (with_awaited s.frames.top w) (begun s))) (turn s at.doing) (frames_of (waiting_frames s w)) (answer_of (bundle_tables bundle) (seen s watchpoint w) s.client))) (same_wait w e)
+      ∙ ap (λ o. past s (answered (numbered bundle) (noted (note_of s watchpoint) (leaving (turn s nothing) (with_awaited s.frames.top w) (begun s))) (turn s at.doing) (frames_of (waiting_frames s w)) o)) (sym answer)
 
   pub trap_misused : (w : Awaited) → awaits bundle s.frames.top cs ≡ Some w → None ≡ answer_of (bundle_tables bundle) (seen s watchpoint w) s.client
       → told bundle s.client (trapping bundle s watchpoint cs) ≡ End (lines.Event (length s.log) (event s.thread (Leave s.stack)) ∷ lines.Note (note_of s watchpoint) ∷ []) (undefined_at s cases.ClientMisuse)
   unfolding past
   trap_misused w e answer = answered_so w None e answer
 
-  pub trap_answered : (w : Awaited) (a : Answer) → awaits bundle s.frames.top cs ≡ Some w → Some a ≡ answer_of (bundle_tables bundle) (seen s watchpoint w) s.client
+  pub trap_answered : (w : Awaited) (a : Answer) → awaits bundle s.frames.top cs ≡ Some w → Some a ≡ answer_of (bundle_tables bundle) (seen s watchpoint w) s.client → a.edit ≡ no_edit
       → told bundle s.client (trapping bundle s watchpoint cs) ≡ past s (replying bundle s w (change_of s (note_of s watchpoint) a.watches a.notes) a.reply)
   unfolding replying
-  trap_answered w a e answer =
+  trap_answered w a e answer keeps =
       let x = change_of s (note_of s watchpoint) a.watches a.notes in
       answered_so w (Some a) e answer
-      ∙ ap (λ c. past s (replied (numbered bundle) c (turn s at.doing) a.reply)) (taken_is s w (note_of s watchpoint) a)
+      ∙ ap (past s) (answered_kept (numbered bundle) (noted (note_of s watchpoint) (leaving (turn s nothing) (with_awaited s.frames.top w) (begun s))) (turn s at.doing) (with_awaited s.frames.top w) s.frames.below a keeps)
+      ∙ ap (λ c. past s (replied (numbered bundle) c (turn s at.doing) a.reply)) (ap (edits (turn s at.doing) (kept_frames (frames_of (waiting_frames s w)))) (taken_is s w (note_of s watchpoint) a) ∙ kept_is s w x at.doing)
       ∙ ap (past s) (sym (on_is (doing_of (numbered bundle) s) at.doing (λ d. replied (numbered bundle) (changed_by s w x) (turn s d) a.reply) at.there))
 
-  pub trap_replies : (w : Awaited) (a : Answer) → awaits bundle s.frames.top cs ≡ Some w → Some a ≡ answer_of (bundle_tables bundle) (seen s watchpoint w) s.client
+  pub trap_replies : (w : Awaited) (a : Answer) → awaits bundle s.frames.top cs ≡ Some w → Some a ≡ answer_of (bundle_tables bundle) (seen s watchpoint w) s.client → a.edit ≡ no_edit
       → replying bundle s w (change_of s (note_of s watchpoint) a.watches a.notes) a.reply ≢ Stuck
-  trap_replies w a e answer = past_there s (replying bundle s w (change_of s (note_of s watchpoint) a.watches a.notes) a.reply) (λ stuck. h (trap_answered w a e answer ∙ stuck))
+  trap_replies w a e answer keeps = past_there s (replying bundle s w (change_of s (note_of s watchpoint) a.watches a.notes) a.reply) (λ stuck. h (trap_answered w a e answer keeps ∙ stuck))
 
 pub trapped_asks : (bundle : List Item) (s : Held) (k : Client) (cs : List ℕ) → told bundle k (acting bundle s (Traps cs)) ≢ Stuck → told bundle k (trapping bundle s None cs) ≢ Stuck
 trapped_asks bundle s k cs h = λ stuck. h (ap (told bundle k) (trap_asks bundle s cs) ∙ stuck)

@@ -117,6 +117,7 @@ fn consult<M: Memory, C: Determined>(
     requires thread { view.now.thread ≡ state.old.thread }
     requires asked { view.now.asked ≡ wait.old.waits }
     ensures answer { IfOk result (λ plan. option_map planned plan ≡ answer_of view.now.tables (seen state.old view.now.watchpoint wait.old) state.old.client) }
+    ensures keeps { IfOk result (λ plan. IfSome plan (λ x. (planned x).edit ≡ clients.no_edit)) }
     ensures same { state.new ≡ state.old }
     ensures wait { wait.new ≡ wait.old }
 {
@@ -177,6 +178,7 @@ fn take<M: Memory, C: Determined>(
     let Plan {
         notes,
         watches,
+        edit: _,
         end,
     } = plan;
     let leave = Event {

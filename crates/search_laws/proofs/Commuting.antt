@@ -39,7 +39,8 @@ use Rattle.mu_model.specs.EnteringStacks.{ready, entering, enters, leaving, most
 use Rattle.mu_model.specs.Objects.{object_added, asks_cells}
 use Rattle.mu_model.specs.Accesses.{initial, wanted, kind_of, access_results, raced, accessed, takes_option}
 use Rattle.mu_model.specs.Waiting.{is_of, is_at, without, was_woken, found_another, waits_at, waited, wakes_one, wakes_all, wakes_these, times_out}
-use Rattle.mu_model.specs.Traps.{trapped, trap_note, answered, replied, taken, enters_by, entering_of, is_among, goes}
+use Rattle.mu_model.specs.Edits.{edited}
+use Rattle.mu_model.specs.Traps.{trapped, trap_note, answered, edits, replied, taken, enters_by, entering_of, is_among, goes}
 use Rattle.mu_model.specs.Step.{performed, turned, turns, threads_from, runnable, picked, picking_thread, ends_or_picks, step, with_own}
 use Rattle.mu_model.specs.Run.{Run, Ends, Breaks, Unfinished, behind, client_answers, with_client, goes_on, run}
 use Rattle.mu_threads.specs.Picks.{pick}
@@ -276,17 +277,22 @@ module _ (p : Program) (i k : ℕ) (x : Option Thread) (y : Stack) (shut : IsShu
   replied_after c Exit h = ap (λ ts. Next (noted (notes.Exited u.thread) (record c { threads = ts; stacks = slice_set c.stacks k y }))) (set_swap c.threads i u.thread x None (λ e. other (sym e)))
   replied_after c Stop h = refl
 
-  answered_after : (c : Configuration) (a : Option Answer) → Stands i k c → answered p (far c) u a ≡ mapped far (answered p c u a)
-  answered_after c None h = refl
-  answered_after c (Some a) h = replied_after (taken a c) a.reply (record { frames = h.frames; on = h.on; there = h.there })
+  edits_after : (c : Configuration) (r : EnteredFrames) → edits u r (far c) ≡ far (edits u r c)
+  edits_after c r = ap (λ ss. frames_end r.ended (record c { threads = slice_set c.threads i x; stacks = ss })) (swapped c.stacks (Ready r.frames))
+
+  answered_after : (c : Configuration) (fs : List Activation) (a : Option Answer) → Stands i k c → answered p (far c) u fs a ≡ mapped far (answered p c u fs a)
+  answered_after c fs None h = refl
+  answered_after c fs (Some a) h = tried_after (taken a c) (edited p a.edit fs) _ _ (λ r q.
+      ap (λ d. replied p d u a.reply) (edits_after (taken a c) r)
+      ∙ replied_after (edits u r (taken a c)) a.reply (record { frames = h.frames; on = get_other c.stacks u.stack k (Ready r.frames) apart ∙ h.on; there = h.there }))
 
   left : (c : Configuration) (f : Activation) (n : Note) → Stands i k c → Stands i k (noted n (leaving u f c))
   left c f n h = record { frames = h.frames; on = get_other c.stacks u.stack k (Ready (f ∷ u.below)) apart ∙ h.on; there = h.there }
 
   trapped_after : (c : Configuration) (m : Option ℕ) (cs : List ℕ) → Stands i k c → trapped p (far c) u m cs ≡ mapped far (trapped p c u m cs)
   trapped_after c m cs h = on_mapped far (waiting u cs) _ _ (λ f q.
-      ap (λ d. Asks (record { thread = u.thread; watchpoint = m; asked = cs; frames = f ∷ u.below }) (answered p (noted (trap_note u m) d) u)) (leaving_after c f)
-      ∙ ap (Asks (record { thread = u.thread; watchpoint = m; asked = cs; frames = f ∷ u.below })) (fun_ext (λ a. answered_after (noted (trap_note u m) (leaving u f c)) a (left c f (trap_note u m) h))))
+      ap (λ d. Asks (record { thread = u.thread; watchpoint = m; asked = cs; frames = f ∷ u.below }) (answered p (noted (trap_note u m) d) u (f ∷ u.below))) (leaving_after c f)
+      ∙ ap (Asks (record { thread = u.thread; watchpoint = m; asked = cs; frames = f ∷ u.below })) (fun_ext (λ a. answered_after (noted (trap_note u m) (leaving u f c)) (f ∷ u.below) a (left c f (trap_note u m) h))))
 
   watches_after : (c : Configuration) (m : ℕ) (cs : List ℕ) (g : Goal) → Stands i k c → performed p (far c) u (acts.Watches m cs g) ≡ mapped far (performed p c u (acts.Watches m cs g))
   watches_after c m cs g h = by (is_among m c.watched)

@@ -141,21 +141,21 @@ own_stack bs es i b a at =
 
 -- ---- a stack is bound to its thread anew
 
-pub agree_fresh : (bs : List (Option Bound)) (es : List Entry) (i : ℕ) (b : Bound) → Agree bs es → slice_get bs i ≡ Some (Some b) → Agree (set bs i (Some (entered_by b.number i b.frames))) es
-agree_fresh bs es i b a at =
+pub agree_fresh : (bs : List (Option Bound)) (es : List Entry) (i : ℕ) (b : Bound) (f : StoredChain) → Agree bs es → slice_get bs i ≡ Some (Some b) → Agree (set bs i (Some (entered_by b.number i f))) es
+agree_fresh bs es i b f a at =
     let here = a.bound i b (ap there at) in
-    let c = entered_by b.number i b.frames in
+    let c = entered_by b.number i f in
     let new = set bs i (Some c) in
     subst (λ (all : List Entry). Agree new all) (set_same es b.number (Active i) here.1)
     (agree_written bs new es i b.number (Active i) a (alone_held bs es i b a (ap there at)) (entry_within bs es i b a at) (elsewhere bs i (Some c))
-    (pair_of (there (slice_get new i)) (Some c) (Active i) i b.number (there_written bs i (Some c) (slice_get_within bs i (Some b) at)) (entered_pair b.number i b.frames)))
+    (pair_of (there (slice_get new i)) (Some c) (Active i) i b.number (there_written bs i (Some c) (slice_get_within bs i (Some b) at)) (entered_pair b.number i f)))
 
-pub seen_fresh : (bs : List (Option Bound)) (es : List Entry) (i : ℕ) (b : Bound) → Agree bs es → slice_get bs i ≡ Some (Some b) → stacks_seen (set bs i (Some (entered_by b.number i b.frames))) es ≡ stacks_seen bs es
-seen_fresh bs es i b a at =
+pub seen_fresh : (bs : List (Option Bound)) (es : List Entry) (i : ℕ) (b : Bound) (f : StoredChain) → Agree bs es → slice_get bs i ≡ Some (Some b)
+    → stacks_seen (set bs i (Some (entered_by b.number i f))) es ≡ set (stacks_seen bs es) b.number (stacks.Active i (frames_in f))
+seen_fresh bs es i b f a at =
     let here = a.bound i b (ap there at) in
-    let c = entered_by b.number i b.frames in
+    let c = entered_by b.number i f in
     let new = set bs i (Some c) in
     ap (λ (all : List Entry). stacks_seen new all) (sym (set_same es b.number (Active i) here.1))
     ∙ stacks_written bs new es i b.number (Active i) (alone_held bs es i b a (ap there at)) (elsewhere bs i (Some c))
     ∙ ap (λ o. set (stacks_seen bs es) b.number (stacks.Active i (frames_there o))) (there_written bs i (Some c) (slice_get_within bs i (Some b) at))
-    ∙ set_same (stacks_seen bs es) b.number (stacks.Active i (frames_in b.frames)) (own_stack bs es i b a at)

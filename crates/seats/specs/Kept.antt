@@ -7,7 +7,7 @@ use Rattle.stacks.specs.Stacks.{Bound}
 use Rattle.stacks.specs.declared.entered.Entered.{Entered}
 use Rattle.stacks.specs.Directories as entries
 use Rattle.stacks.specs.Directories.{Entry}
-use Rattle.mu_threads.specs.Threads.{Threads, there, stack_of, with_state, IsLeft}
+use Rattle.mu_threads.specs.Threads.{Threads, there, stack_of, with_stack, with_state, IsLeft}
 use Rattle.mu_threads.specs.declared.state.ThreadState.{ThreadState}
 use Rattle.mu_threads.specs.declared.state.ThreadState.TheVariants.{Runs, Waits, Ended}
 use Rattle.futex.specs.declared.waiters.Waiter as futex
@@ -47,10 +47,11 @@ abbrev pub with_frames : StoredChain → Option Bound → Option Bound
 with_frames f None = None
 with_frames f (Some b) = Some (record b { frames = f })
 
--- a stack that is bound to its thread anew
-abbrev pub bound_anew : ℕ → Option Bound → Option Bound
-bound_anew i None = None
-bound_anew i (Some b) = Some (record { number = b.number; thread = i; frames = b.frames; passed = None })
+-- a stack is bound to its thread anew, with frames of which that is true
+pub record IsShown (old new : Threads) (i number : ℕ) (asked : List Activation → Type 0) : Type 0 where
+  pub frames : StoredChain
+  pub threads : new ≡ with_stack (with_stack old i None) i (Some (record { number = number; thread = i; frames = frames; passed = None }))
+  pub told : asked (frames_in frames)
 
 abbrev pub frames_held : Option Bound → Option StoredChain
 frames_held None = None

@@ -218,11 +218,11 @@ impl Seats {
         (frames, passed)
     }
 
-    /// Shows a thread's stack, as one that waits for values of these types. Nothing changes but what was asked.
+    /// Shows a thread's stack, as one that waits for values of these types. Nothing changes but what was asked, and the frames of the stack.
     pub fn ask<A: Asks>(&mut self, thread: u32, stack: u32, waits: Types, asks: &mut A)
         requires { IsOn self.old thread stack }
-        ensures same { self.new ≡ self.old }
-        ensures asked { (frames : List Activation) → slice_get self.old.stacks stack ≡ Some (Active thread frames) → A.asked asks.old stack frames waits.members asks.new }
+        ensures { (frames : List Activation) → slice_get self.old.stacks stack ≡ Some (Active thread frames)
+            → (after : List Activation) × (self.new ≡ record self.old { stacks = slice_set self.old.stacks stack (Active thread after) }) × A.asked asks.old stack frames waits.members asks.new after }
     {
         show(&mut self.threads, thread, waits, asks);
     }

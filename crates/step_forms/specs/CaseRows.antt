@@ -1,5 +1,5 @@
 -- Nothing that a reader believes of a run rests on this. It is what is kept beside the cases of a SWITCH.
-use Rattle.std.specs.Prelude.{◌≡◌, ◌≢◌, ℕ, zero, suc, ◌%◌, ◌^◌, ◌≤◌, ◌==◌, false, List, [], ◌∷◌, ◌++◌, Option, Some, None, IsSome, map, length, slice_get, slice_set, refl, ⊤}
+use Rattle.std.specs.Prelude.{◌≡◌, ◌≢◌, ℕ, zero, suc, ◌≤◌, ◌==◌, false, List, [], ◌∷◌, ◌++◌, Option, Some, None, IsSome, map, length, slice_get, slice_set, refl, ⊤}
 use Rattle.std.proofs.Common.{sym, ap, arith, subst, ◌⊎◌, inl, inr}
 use Rattle.std.proofs.lemmas.Bool.Decides.{eqb_tells}
 use Rattle.std.proofs.Math.Bool.{and-false}
@@ -20,23 +20,23 @@ use Rattle.mu_model.specs.Operands.{scalar_in}
 use Rattle.step_forms.specs.ConstantLaws.{constant_within}
 use Rattle.step_forms.specs.declared.case_rows.Row.{Row}
 
--- ---- lower halves
+-- ---- bits
 
--- the lower half of an integer, and 0 of other scalars
-abbrev pub half_of : Scalar → ℕ
-half_of (Int width bits) = bits % 2 ^ 64
-half_of _ = 0
+-- the bits of an integer, and 0 of other scalars
+abbrev pub bits_of : Scalar → ℕ
+bits_of (Int width bits) = bits
+bits_of _ = 0
 
 -- that of a value of one scalar, of a constant of a bundle, and of the constant of a case
-abbrev pub half_in : Option Value → ℕ
-half_in (Some (s ∷ [])) = half_of s
-half_in _ = 0
+abbrev pub bits_in : Option Value → ℕ
+bits_in (Some (s ∷ [])) = bits_of s
+bits_in _ = 0
 
-abbrev pub constant_half : List Item → ℕ → ℕ
-constant_half bundle n = half_in (slice_get (constant_values (bundle_tables bundle) bundle) n)
+abbrev pub constant_bits : List Item → ℕ → ℕ
+constant_bits bundle n = bits_in (slice_get (constant_values (bundle_tables bundle) bundle) n)
 
-abbrev pub case_half : List Item → CaseForm → ℕ
-case_half bundle c = constant_half bundle c.constant
+abbrev pub case_bits : List Item → CaseForm → ℕ
+case_bits bundle c = constant_bits bundle c.constant
 
 -- ---- the cases of an instruction
 
@@ -54,10 +54,10 @@ cases_at bundle block at = cases_in (code_at bundle block at)
 
 -- ---- rows
 
--- the row of a block has the lower halves of the constants of the SWITCH at its place; one that is not made yet says nothing
+-- the row of a block has the bits of the constants of the SWITCH at its place; one that is not made yet says nothing
 abbrev pub IsRow : List Item → ℕ → Option Row → Type 0
 IsRow bundle block None = ⊤
-IsRow bundle block (Some r) = r.halves.items ≡ map (case_half bundle) (cases_at bundle block r.at)
+IsRow bundle block (Some r) = r.bits.items ≡ map (case_bits bundle) (cases_at bundle block r.at)
 
 -- so it is with each block
 abbrev pub AreRows : List Item → List (Option Row) → Type 0
@@ -88,29 +88,29 @@ pub row_placed : (bundle : List Item) (rows : List (Option Row)) (k : ℕ) (q : 
 row_placed bundle rows k q h is n r e =
     elim (placed rows k n q r e) [ inl old ↦ h n r old | inr new ↦ subst (λ n. IsRow bundle n r) (sym new.0) (subst (IsRow bundle k) (sym new.1) is) ]
 
-pub row_found : (bundle : List Item) (rows : List (Option Row)) (block at : ℕ) (r : Row) → AreRows bundle rows → slice_get rows block ≡ Some (Some r) → r.at ≡ at → r.halves.items ≡ map (case_half bundle) (cases_at bundle block at)
-row_found bundle rows block at r h e same = subst (λ at. r.halves.items ≡ map (case_half bundle) (cases_at bundle block at)) same (h block (Some r) e)
+pub row_found : (bundle : List Item) (rows : List (Option Row)) (block at : ℕ) (r : Row) → AreRows bundle rows → slice_get rows block ≡ Some (Some r) → r.at ≡ at → r.bits.items ≡ map (case_bits bundle) (cases_at bundle block at)
+row_found bundle rows block at r h e same = subst (λ at. r.bits.items ≡ map (case_bits bundle) (cases_at bundle block at)) same (h block (Some r) e)
 
--- ---- what halves tell
+-- ---- what bits tell
 
-none_half : (o : Option Value) → (IsSome o → ⊥) → 0 ≡ half_in o
-none_half None h = refl
-none_half (Some v) h = absurd (h refl)
+no_bits : (o : Option Value) → (IsSome o → ⊥) → 0 ≡ bits_in o
+no_bits None h = refl
+no_bits (Some v) h = absurd (h refl)
 
-pub no_constant : (bundle : List Item) (n : ℕ) → length (bundle_tables bundle).constants ≤ n → 0 ≡ constant_half bundle n
-no_constant bundle n h = none_half _ (λ some. let within = constant_within bundle n some in omega (arith, h, within))
+pub no_constant : (bundle : List Item) (n : ℕ) → length (bundle_tables bundle).constants ≤ n → 0 ≡ constant_bits bundle n
+no_constant bundle n h = no_bits _ (λ some. let within = constant_within bundle n some in omega (arith, h, within))
 
-pub halves_differ : (s c : Scalar) → half_of s ≢ half_of c → same_scalar s c ≡ false
-halves_differ (Int w m) (Int v n) h = elim (eqb_tells m n) [ inl t ↦ absurd (h (ap (λ k. k % 2 ^ 64) t.1)) | inr f ↦ rw f.0 (and-false (w == v)) ]
-halves_differ (Int w m) _ h = refl
-halves_differ _ (Int v n) h = refl
-halves_differ _ _ h = absurd (h refl)
+pub bits_differ : (s c : Scalar) → bits_of s ≢ bits_of c → same_scalar s c ≡ false
+bits_differ (Int w m) (Int v n) h = elim (eqb_tells m n) [ inl t ↦ absurd (h t.1) | inr f ↦ rw f.0 (and-false (w == v)) ]
+bits_differ (Int w m) _ h = refl
+bits_differ _ (Int v n) h = refl
+bits_differ _ _ h = absurd (h refl)
 
-pub half_tells : (o : Option Value) (s c : Scalar) → scalar_in o ≡ Some c → half_of s ≢ half_in o → false ≡ same_scalar s c
-half_tells None s c e h = cc
-half_tells (Some []) s c e h = cc
-half_tells (Some (t ∷ [])) s c e h = let same : t ≡ c = cc in sym (halves_differ s c (subst (λ t. half_of s ≢ half_of t) same h))
-half_tells (Some (t ∷ (u ∷ ts))) s c e h = cc
+pub bits_tell : (o : Option Value) (s c : Scalar) → scalar_in o ≡ Some c → bits_of s ≢ bits_in o → false ≡ same_scalar s c
+bits_tell None s c e h = cc
+bits_tell (Some []) s c e h = cc
+bits_tell (Some (t ∷ [])) s c e h = let same : t ≡ c = cc in sym (bits_differ s c (subst (λ t. bits_of s ≢ bits_of t) same h))
+bits_tell (Some (t ∷ (u ∷ ts))) s c e h = cc
 
 pub ruleset constants = (no_constant)
 
@@ -118,4 +118,4 @@ pub ruleset found = (row_found)
 
 pub ruleset rows = (no_rows, one_more_row, row_placed)
 
-pub ruleset halves = (half_tells)
+pub ruleset bits = (bits_tell)

@@ -1,4 +1,4 @@
-// The lower halves of the constants of the cases of a SWITCH, in a row, so that a step looks at eight bytes a case.
+// The bits of the constants of the cases of a SWITCH, in a row, so that a step looks at 16 bytes a case.
 ghost use Rattle.std.specs.Prelude.{◌≡◌, ◌+◌, ◌<◌, ◌≤◌, List, [], Some, IsSome, IsSomeAnd, IfSome, IfOk, OnOk, length, map, slice_get};
 ghost use Rattle.mu_values.specs.SameScalar.{same_scalar};
 ghost use Rattle.ir_tree.specs.declared.items.Item.{Item};
@@ -9,7 +9,7 @@ ghost use Rattle.mu_model.specs.Operands.{scalar_in};
 ghost use Rattle.mu_model.specs.ControlForms.{switch_act};
 ghost use Rattle.model_numbers.specs.Sources.{value_at, goal_at};
 ghost use Rattle.model_numbers.specs.Forms.{arm_at};
-ghost use Rattle.step_forms.specs.CaseRows.{half_of, half_in, constant_half, case_half, cases_at, AreRows};
+ghost use Rattle.step_forms.specs.CaseRows.{bits_of, bits_in, constant_bits, case_bits, cases_at, AreRows};
 
 use crate::control::{SwitchOperands, arrive, is_equal};
 use crate::frame_view::FrameView;
@@ -21,102 +21,102 @@ use mu_values::{Scalar, Slots};
 use std::alloc::{AllocError, Global};
 use std::marker::Model;
 
-/// The lower half of an integer, and 0 of other scalars.
+/// The bits of an integer, and 0 of other scalars.
 #[inline]
-fn half_of(scalar: &Scalar) -> u64
-    ensures { result ≡ half_of scalar.now }
+fn bits_of(scalar: &Scalar) -> u128
+    ensures { result ≡ bits_of scalar.now }
 {
     match scalar {
-        Scalar::Int { bits, .. } => (*bits % (1 << 64)) as u64,
+        Scalar::Int { bits, .. } => *bits,
         _ => 0,
     }
 }
 
-/// The lower half of a value of one integer, and 0 of other values.
-fn half_in(value: &[Scalar]) -> u64
-    ensures { result ≡ half_in (Some value.now) }
+/// The bits of a value of one integer, and 0 of other values.
+fn bits_in(value: &[Scalar]) -> u128
+    ensures { result ≡ bits_in (Some value.now) }
 {
     match value {
-        [scalar] => half_of(scalar),
+        [scalar] => bits_of(scalar),
         _ => 0,
     }
 }
 
-/// The lower half of a constant, and 0 where there is none: no contract says that a case behind the first equal one has a constant.
+/// The bits of a constant, and 0 where there is none: no contract says that a case behind the first equal one has a constant.
 #[tactic(auto, using(crate::specs::CaseRows::constants))]
-fn constant_half(code: &Checked, n: u32) -> u64
-    ensures { result ≡ constant_half code.now n }
+fn constant_bits(code: &Checked, n: u32) -> u128
+    ensures { result ≡ constant_bits code.now n }
 {
     if (n as usize) < code.constants() {
-        half_in(code.constant(n).as_slice())
+        bits_in(code.constant(n).as_slice())
     } else {
         0
     }
 }
 
-/// The lower halves of the constants of cases, in their order.
-fn row_of(alloc: Global, code: &Checked, cases: &[CaseForm]) -> Result<Vec<u64>, AllocError>
-    ensures { IfOk result (λ row. row.items ≡ map (case_half code.now) cases.now) }
+/// The bits of the constants of cases, in their order.
+fn row_of(alloc: Global, code: &Checked, cases: &[CaseForm]) -> Result<Vec<u128>, AllocError>
+    ensures { IfOk result (λ row. row.items ≡ map (case_bits code.now) cases.now) }
 {
     let mut row = Vec::with_capacity(alloc, cases.len())?;
     let mut left = cases;
     'each: while let [case, more @ ..] = left {
-        row.push(constant_half(code, case.constant))?;
+        row.push(constant_bits(code, case.constant))?;
         left = more;
     }
     Ok(row)
 }
 
-/// Whether a scalar is the value of constant `n`. `half` is its lower half and `other` that of the constant: most that differ do so
-/// there.
-#[tactic(auto, using(crate::specs::CaseRows::halves, crate::specs::OperandLaws::operands))]
+/// Whether a scalar is the value of constant `n`. `bits` are its bits and `other` those of the constant: of one type, those that differ
+/// do so there.
+#[tactic(auto, using(crate::specs::CaseRows::bits, crate::specs::OperandLaws::operands))]
 #[inline(always)]
-fn is_constant(code: &Checked, wanted: &Scalar, half: u64, other: u64, n: u32) -> bool
+fn is_constant(code: &Checked, wanted: &Scalar, bits: u128, other: u128, n: u32) -> bool
     requires there { IsSome (scalar_in (slice_get (constant_values (bundle_tables code.now) code.now) n)) }
-    requires half { half ≡ half_of wanted.now }
-    requires other { other ≡ constant_half code.now n }
+    requires bits { bits ≡ bits_of wanted.now }
+    requires other { other ≡ constant_bits code.now n }
     ensures { IsSomeAnd (scalar_in (slice_get (constant_values (bundle_tables code.now) code.now) n)) (λ c. result ≡ same_scalar wanted.now c) }
 {
-    half == other && is_equal(wanted, lent(constant(code, n)))
+    bits == other && is_equal(wanted, lent(constant(code, n)))
 }
 
-/// SWITCH, with the lower halves of its constants in a row. It looks at the cases in order, up to the first that is equal. None comes
+/// SWITCH, with the bits of its constants in a row. It looks at the cases in order, up to the first that is equal. None comes
 /// only where no memory is found.
 #[tactic(auto, using(crate::specs::OperandLaws::operands))]
 fn arrive_by_row(
     code: &Checked,
     vars: &Variables,
     operands: SwitchOperands,
-    row: &[u64],
+    row: &[u128],
     values: &mut Slots,
 ) -> Option<u32>
     requires there { IsSome (switch_act (value_at code.now vars.now operands.operand) (goal_at code.now vars.now operands.default.now) (map (arm_at code.now vars.now) operands.cases.now)) }
-    requires row { row.now ≡ map (case_half code.now) operands.cases.now }
+    requires row { row.now ≡ map (case_bits code.now) operands.cases.now }
     ensures { IfSome result (λ block. switch_act (value_at code.now vars.now operands.entry.operand) (goal_at code.now vars.now operands.entry.default.now) (map (arm_at code.now vars.now) operands.entry.cases.now) ≡ Some (acts.Goes (record { block = block; values = values.new.values }))) }
 {
     let wanted = scalar(code, vars, operands.operand);
-    let half = half_of(&wanted);
+    let bits = bits_of(&wanted);
     let mut left = operands.cases;
-    let mut halves = row;
-    'cases: while let [other, rest @ ..] = halves {
+    let mut others = row;
+    'cases: while let [other, rest @ ..] = others {
         let [case, more @ ..] = left else {
             unreachable!()
         };
-        if is_constant(code, &wanted, half, *other, case.constant) {
+        if is_constant(code, &wanted, bits, *other, case.constant) {
             return arrive(code, vars, &case.target, values);
         }
         left = more;
-        halves = rest;
+        others = rest;
     }
     arrive(code, vars, operands.default, values)
 }
 
-/// What is kept of a block: the lower halves of the constants of the SWITCH that stands at a place of it. There is one at most, which
+/// What is kept of a block: the bits of the constants of the SWITCH that stands at a place of it. There is one at most, which
 /// ends the block.
 #[derive(Drop)]
 pub(crate) struct Row {
     pub at: u32,
-    pub halves: Vec<u64>,
+    pub bits: Vec<u128>,
 }
 
 /// Rows of the constants of each SWITCH that was come to, by block. Contracts see the bundle. A row is made once, when it is first
@@ -177,15 +177,15 @@ impl<'a> CaseRows<'a> {
     /// The row of the SWITCH at a place, where it was made.
     #[tactic(auto, using(crate::specs::CaseRows::found))]
     #[inline]
-    fn row(&self, block: u32, at: u32) -> Option<&[u64]>
-        ensures { IfSome result (λ row. row.now ≡ map (case_half self.now) (cases_at self.now block at)) }
+    fn row(&self, block: u32, at: u32) -> Option<&[u128]>
+        ensures { IfSome result (λ row. row.now ≡ map (case_bits self.now) (cases_at self.now block at)) }
     {
         let block = block as usize;
         if block >= self.rows.len() {
             return None;
         }
         match kept(&self.rows, block) {
-            Some(row) if row.at == at => Some(row.halves.as_slice()),
+            Some(row) if row.at == at => Some(row.bits.as_slice()),
             _ => None,
         }
     }
@@ -199,8 +199,8 @@ impl<'a> CaseRows<'a> {
         ensures { self.new ≡ self.old }
     {
         reach(&mut self.rows, block as usize)?;
-        let halves = row_of(self.alloc, self.code, cases)?;
-        self.rows[block as usize] = Some(Row { at, halves });
+        let bits = row_of(self.alloc, self.code, cases)?;
+        self.rows[block as usize] = Some(Row { at, bits });
         Ok(())
     }
 

@@ -51,7 +51,8 @@ use Rattle.mu_model.specs.Operands.{scalar_in}
 use Rattle.mu_model.specs.Outcomes.{Asks, End, Next, Outcome, Stuck, excepted, faulted, has_result, on, onto, refused, tried, unless_refused}
 use Rattle.mu_model.specs.Run.{client_answers, with_client}
 use Rattle.mu_model.specs.Step.{ends_or_picks, performed, picked, picking_thread, runnable, step, threads_from, turned, turns}
-use Rattle.mu_model.specs.Traps.{answered, entering_of, enters_by, goes, is_among, replied, taken, trap_note, trapped}
+use Rattle.mu_model.specs.Edits.{edited}
+use Rattle.mu_model.specs.Traps.{answered, edits, entering_of, enters_by, goes, is_among, replied, taken, trap_note, trapped}
 use Rattle.mu_model.specs.Turns.{Turn, active_on, turn_at, turn_of, waiting}
 use Rattle.mu_model.specs.Waiting.{found_another, futex_waits, futex_wakes, is_of, waits_at}
 use Rattle.model_laws.specs.Places.{Places}
@@ -135,12 +136,14 @@ module _ (p : Program) (P : List Line → Type 0) where
     replied_ends d Exit h = tt
     replied_ends d clients.Stop h = h
 
-    answered_ends : (f : Activation) (m : Note) (a : Option Answer) → EachEnd P (answered p (noted m (leaving u f b)) u a)
-    answered_ends f m None = trap [] m
-    answered_ends f m (Some a) = replied_ends (taken a (noted m (leaving u f b))) a.reply (trap a.notes m)
+    answered_ends : (f : Activation) (m : Note) (fs : List Activation) (a : Option Answer) → EachEnd P (answered p (noted m (leaving u f b)) u fs a)
+    answered_ends f m fs None = trap [] m
+    answered_ends f m fs (Some a) =
+        let d : Configuration = taken a (noted m (leaving u f b)) in
+        tried_ends d u (edited p a.edit fs) _ (trap a.notes m) (λ r. replied_ends (edits u r d) a.reply (trap a.notes m))
 
     trapped_ends : (n : Option ℕ) (cs : List ℕ) → EachEnd P (trapped p b u n cs)
-    trapped_ends n cs = ends_on P (waiting u cs) _ (λ f a. answered_ends f (trap_note u n) a)
+    trapped_ends n cs = ends_on P (waiting u cs) _ (λ f a. answered_ends f (trap_note u n) (f ∷ u.below) a)
 
     watches_ends : (n : ℕ) (cs : List ℕ) (g : Goal) (x : Bool) → EachEnd P (if x then trapped p b u (Some n) cs else goes b u g)
     watches_ends n cs g true = trapped_ends (Some n) cs

@@ -45,7 +45,8 @@ use Rattle.mu_model.specs.Outcomes.{Asks, End, Next, Outcome, Stuck, excepted, f
 use Rattle.mu_model.specs.Programs.{named}
 use Rattle.mu_model.specs.Run.{Breaks, Ends, Run, Setting, Unfinished, begins_in, behind, client_answers, first_configuration, goes_on, program_run, run, run_from, with_client}
 use Rattle.mu_model.specs.Step.{ends_or_picks, performed, picked, picking_thread, runnable, step, threads_from, turned, turns, with_own}
-use Rattle.mu_model.specs.Traps.{answered, entering_of, enters_by, goes, is_among, replied, taken, trap_note, trapped}
+use Rattle.mu_model.specs.Edits.{edited}
+use Rattle.mu_model.specs.Traps.{answered, edits, entering_of, enters_by, goes, is_among, replied, taken, trap_note, trapped}
 use Rattle.mu_model.specs.Turns.{Turn, turn_of, waiting}
 use Rattle.mu_model.specs.Types.{type_graph}
 use Rattle.mu_model.specs.Waiting.{found_another, futex_waits, is_of, wakes_all, wakes_one, wakes_these, was_woken, waits_at, without}
@@ -149,12 +150,14 @@ module _ (p : Program) (rule : Rule) (log : List Event) where
     replied_keeps d Exit k = k
     replied_keeps d clients.Stop k = tt
 
-    answered_keeps : (d : Configuration) (a : Option Answer) → Keeps d → Every Keeps (answered p d u a)
-    answered_keeps d None k = tt
-    answered_keeps d (Some a) k = replied_keeps (taken a d) a.reply (k.0 ∙ sym (notes_pass a.notes [] d.lines log), k.1, notes_right a.notes [] d.lines log k.2)
+    answered_keeps : (d : Configuration) (fs : List Activation) (a : Option Answer) → Keeps d → Every Keeps (answered p d u fs a)
+    answered_keeps d fs None k = tt
+    answered_keeps d fs (Some a) k =
+        let now : Keeps (taken a d) = (k.0 ∙ sym (notes_pass a.notes [] d.lines log), k.1, notes_right a.notes [] d.lines log k.2) in
+        tried_keeps (taken a d) u (edited p a.edit fs) _ now (λ r. replied_keeps (edits u r (taken a d)) a.reply now)
 
     trapped_keeps : (n : Option ℕ) (cs : List ℕ) → Every Keeps (trapped p b u n cs)
-    trapped_keeps n cs = every_on Keeps (waiting u cs) _ (λ f q a. answered_keeps (noted (trap_note u n) (leaving u f b)) a (left_keeps f))
+    trapped_keeps n cs = every_on Keeps (waiting u cs) _ (λ f q a. answered_keeps (noted (trap_note u n) (leaving u f b)) (f ∷ u.below) a (left_keeps f))
 
     watches_keep : (n : ℕ) (cs : List ℕ) (g : Goal) (x : Bool) → Every Keeps (if x then trapped p b u (Some n) cs else goes b u g)
     watches_keep n cs g true = trapped_keeps (Some n) cs

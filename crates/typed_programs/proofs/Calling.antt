@@ -1,5 +1,6 @@
 -- Functions that are called: a reference to functions of a signature is NULL, or a function that takes and gives what the signature does.
-use Rattle.std.proofs.Common.{◌≡◌, ℕ, true, List, Option, Some, None, IsSomeAnd, slice_get, is_some, sym, ◌∙◌, ap}
+use Rattle.std.proofs.Common.{◌≡◌, ℕ, true, List, Option, Some, None, IsSome, IsSomeAnd, slice_get, is_some, refl, sym, ◌∙◌, ap}
+use Rattle.demands.specs.Demands.{first_unmet}
 use Rattle.ir_tree.specs.declared.items.Item.{Item}
 use Rattle.type_laws.specs.declared.definition.TypeDef.TheVariants as types
 use Rattle.mu_values.specs.declared.scalars.Scalar.{Scalar}
@@ -7,7 +8,8 @@ use Rattle.mu_values.specs.declared.scalars.Scalar.TheVariants.{Null, Func}
 use Rattle.check_tables.specs.declared.tables.Signature.{Signature}
 use Rattle.check_tables.specs.Lookups.{noted_signature}
 use Rattle.bundle_check.specs.declared.code.Function.{Function}
-use Rattle.bundle_check.specs.Checking.{bundle_tables, bundle_functions}
+use Rattle.bundle_names.specs.Naming.{name_demands}
+use Rattle.bundle_check.specs.Checking.{bundle_tables, bundle_functions, check_demands}
 use Rattle.code_check.specs.declared.code.Source.{Source}
 use Rattle.code_check.specs.Typed.{SourceFits, HasSignature}
 use Rattle.typed_heap.specs.Fits.{DefinitionFits, signature_classes}
@@ -33,17 +35,25 @@ IsCalleeOf bundle z Null = Unit {0}
 IsCalleeOf bundle z (Func f) = IsFunctionOf bundle z f
 IsCalleeOf bundle z _ = ⊥
 
-module _ (bundle : List Item) (r : Moment bundle) where
-  -- there is a function with a number that has a signature
-  is_function : (f c : ℕ) → slice_get (signature_classes (bundle_tables bundle)) f ≡ Some c → IsFunction (numbered bundle) f
-  is_function f c e =
+module _ (bundle : List Item) (names : first_unmet (name_demands bundle) ≡ None) (checked : first_unmet (check_demands bundle) ≡ None) where
+  function_there : (f c : ℕ) → slice_get (signature_classes (bundle_tables bundle)) f ≡ Some c → IsFunction (numbered bundle) f
+  function_there f c e =
       let there = of_map (λ s. noted_signature (slice_get (bundle_tables bundle).signatures s)) (bundle_tables bundle).functions f c e in
-      by (slice_get (bundle_functions bundle) f) (sym (facts.functions_are_there bundle r.names r.checked f) ∙ ap is_some there.1)
+      by (slice_get (bundle_functions bundle) f) (sym (facts.functions_are_there bundle names checked f) ∙ ap is_some there.1)
     where
       by : (o : Option Function) → is_some o ≡ true → IsSomeAnd (with_some o (λ (f : Function). Some f.first)) (λ b. Unit {0})
       by None h = cc
       by (Some f) h = tt
 
+  -- there is a function with a number that has a signature
+  pub is_function : (f : ℕ) → IsSome (slice_get (signature_classes (bundle_tables bundle)) f) → IsFunction (numbered bundle) f
+  is_function f h = by (slice_get (signature_classes (bundle_tables bundle)) f) refl h
+    where
+      by : (o : Option ℕ) → slice_get (signature_classes (bundle_tables bundle)) f ≡ o → IsSome o → IsFunction (numbered bundle) f
+      by None e h = cc
+      by (Some c) e h = function_there f c e
+
+module _ (bundle : List Item) (r : Moment bundle) where
   pub callee_fits : (c : ℕ) (f : Source) (z : HasSignature (bundle_tables bundle) c) → SourceFits (bundle_tables bundle) r.classes f z.entry.funcref →
       IsSomeAnd (scalar_in (value_at bundle r.values f)) (IsCalleeOf bundle z.entry)
   callee_fits c f z h =
@@ -56,5 +66,5 @@ module _ (bundle : List Item) (r : Moment bundle) where
       by k e Null hx = tt
       by k e (Func n) hx =
           let called = facts.called_functions_fit bundle r.names r.checked r.world z.number n z.entry z.there r.globals.functions (some_is _ (λ d. DefinitionFits (graph_of bundle) r.world d (Func n)) (types.FuncRef k) e hx) in
-          record { takes = called.1; gives = called.2; there = is_function n z.entry.class called.0 }
+          record { takes = called.1; gives = called.2; there = is_function bundle r.names r.checked n (ap is_some called.0) }
       by k e _ hx = absurd hx

@@ -22,7 +22,7 @@ use Rattle.mu_model.specs.Configuration.{Configuration}
 use Rattle.mu_model.specs.Programs.{named}
 use Rattle.mu_model.specs.Run.{Setting, Run, Breaks, target_leaves, global_objects, run_from, program_run}
 use Rattle.model_laws.specs.LogFits.{ObjectFits}
-use Rattle.model_laws.specs.ClientsFit.{ClientFits, EntryFits}
+use Rattle.model_laws.specs.ClientsFit.{ClientFits, ScriptEntryFits}
 use Rattle.model_laws.specs.Laws.{first_world}
 use Rattle.model_laws.specs.Bounds.{HasEnding}
 use Rattle.model_laws.proofs.Basics.{some_is}
@@ -82,7 +82,7 @@ global_place bundle names checked w same n c e =
     (some_is (slice_get w.objects n) (λ o. place_fits (type_graph p) refers.target o 0 ≡ true) made there (place_first (type_graph p) refers.target made (fits_alone (type_graph p) refers.target)))
 
 no_entries : (p : Tables) (k : Client) → k.entries ≡ [] → ClientFits p k
-no_entries p k e w globals = subst (λ (es : List ScriptEntry). All (λ (e : ScriptEntry). EntryFits (type_graph p) w e.reply) es) (sym e) (All-nil (λ (e : ScriptEntry). EntryFits (type_graph p) w e.reply))
+no_entries p k e w globals = subst (λ (es : List ScriptEntry). All (ScriptEntryFits p w) es) (sym e) (All-nil (ScriptEntryFits p w))
 
 pub plain_fits : (bundle : List Item) → first_unmet (name_demands bundle) ≡ None → first_unmet (check_demands bundle) ≡ None → (s : Setting) → IsPlain bundle s →
     SettingFits bundle s

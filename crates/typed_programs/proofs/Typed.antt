@@ -34,6 +34,7 @@ use Rattle.bundle_facts.specs.Facts.{HaveBlocks, IsFirstBlock}
 use Rattle.bundle_facts.proofs.Accepted as facts
 use Rattle.typed_programs.specs.PlacesOf.{classes_before, may_go_on, places_of}
 use Rattle.typed_programs.proofs.Blocks.{Standing, standing}
+use Rattle.typed_programs.proofs.Calling.{is_function}
 use Rattle.typed_programs.proofs.Sources.{Moment, kept_fit}
 use Rattle.typed_programs.proofs.Computing.{known_then}
 use Rattle.typed_programs.proofs.Goals.{begins, exceptional_fits, onward_fits, results_are}
@@ -178,6 +179,7 @@ module _ (bundle : List Item) (names : first_unmet (name_demands bundle) ≡ Non
     going_on = λ w block at ks gs vs globals e given fit.
         let p = there_is bundle checked block at ks e in
         goes w block at ks gs vs globals p.here (subst (PlaceFits bundle block at p.here) p.same (place_fits bundle names checked block at p.here p.low)) given fit;
+    functions = is_function bundle names checked;
     body = body_fits have;
   }
 

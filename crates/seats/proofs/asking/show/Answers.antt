@@ -1,3 +1,5 @@
+use Rattle.std.specs.Prelude.{Some, IfSome}
+use Rattle.std.proofs.Common.{subst, sym}
 use Rattle.seats.proofs.Showing.{none_taken}
 use Rattle.seats.proofs.asking.show.Goals as goal
 

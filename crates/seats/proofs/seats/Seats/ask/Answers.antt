@@ -2,7 +2,7 @@ use Rattle.std.proofs.Common.{ℕ, List}
 use Rattle.frames.specs.Activations.{Activation}
 use Rattle.seats.proofs.Seen.{on_stack, holds}
 use Rattle.seats.proofs.Waking.{seat_left}
-use Rattle.seats.proofs.Showing.{shown_sound, shown_same, shown_asked}
+use Rattle.seats.proofs.Showing.{shown_sound, shown_asked}
 use Rattle.seats.proofs.seats.Seats.ask.Goals as goal
 
 pub show-requires-clause-left : goal.show-requires-clause-left
@@ -21,16 +21,10 @@ pub invariant_of-self : goal.invariant_of-self
 invariant_of-self g c =
     let k = c.self.inside in
     let on = on_stack k.threads.stacks k.owns.items k.stacks k.waiters.waiters c.args.self.now c.args.thread c.args.stack c.self.view_is c.requires in
-    shown_sound k.threads c.show.new.threads k.stacks k.owns.items _ k.waiters.waiters c.args.self.now c.args.thread c.self.invariant on.0 c.show.ensures.threads
+    shown_sound k.threads c.show.new.threads k.stacks k.owns.items _ k.waiters.waiters c.args.self.now c.args.thread (λ (n : ℕ) (fs gs : List Activation). g.A.Asks.asked c.args.asks.now n fs c.args.waits.members c.show.new.asks gs) c.self.invariant on.0 c.show.ensures
 
-pub returns-clause-same : goal.returns-clause-same
-returns-clause-same g c =
+pub returns : goal.returns
+returns g c =
     let k = c.self.inside in
     let on = on_stack k.threads.stacks k.owns.items k.stacks k.waiters.waiters c.args.self.now c.args.thread c.args.stack c.self.view_is c.requires in
-    shown_same k.threads c.show.new.threads k.stacks k.owns.items _ k.waiters.waiters c.args.self.now c.args.thread c.self.view_is c.self.invariant on.0 c.show.ensures.threads
-
-pub returns-clause-asked : goal.returns-clause-asked
-returns-clause-asked g c =
-    let k = c.self.inside in
-    let on = on_stack k.threads.stacks k.owns.items k.stacks k.waiters.waiters c.args.self.now c.args.thread c.args.stack c.self.view_is c.requires in
-    shown_asked k.threads k.stacks k.owns.items _ k.waiters.waiters c.args.self.now c.args.thread c.args.stack (λ (n : ℕ) (fs : List Activation). g.A.Asks.asked c.args.asks.now n fs c.args.waits.members c.show.new.asks) c.self.view_is c.self.invariant on.0 on.1 c.show.ensures.asked
+    shown_asked k.threads c.show.new.threads k.stacks k.owns.items _ k.waiters.waiters c.args.self.now c.args.thread (λ (n : ℕ) (fs gs : List Activation). g.A.Asks.asked c.args.asks.now n fs c.args.waits.members c.show.new.asks gs) c.self.invariant on.0 c.show.ensures c.args.stack c.self.view_is on.1

@@ -1,0 +1,4 @@
+pub mod Likeness
+pub mod Firsts
+pub mod Comparing
+pub mod Steps

@@ -1,5 +1,0 @@
-use Rattle.std.proofs.Common.{◌≡◌, take}
-use Rattle.client_script.proofs.told.copied.Given as goal
-
-abbrev pub invariant-loop-scalar : goal.invariant-loop-scalar
-invariant-loop-scalar l = l.copy ≡ take l.scalar-index l.scalars

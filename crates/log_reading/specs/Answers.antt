@@ -1,0 +1,25 @@
+-- What is answered to the text of a log.
+use Rattle.std.specs.Prelude.{◌≡◌, ◌<◌, ℕ, true, List, Some, Result, Ok, Err}
+use Rattle.demands.specs.declared.fault.Fault.{Fault}
+use Rattle.demands.specs.declared.fault.Fault.TheVariants.{Memory, At}
+use Rattle.mem_axioms.specs.Logs.{event_at}
+use Rattle.mem_axioms.specs.Synchronizes.{makes_thread}
+use Rattle.mem_axioms.specs.declared.types.Event.{Event}
+use Rattle.log_lines.specs.Texts.{ReadLog}
+use Rattle.log_lines.specs.declared.types.LogKind.{LogKind}
+
+-- The answer is the log that the text is read as, or the text's first fault. Out of memory says nothing of the text.
+abbrev pub IsRead : Result ReadLog (Fault LogKind) → Result (List Event) (Fault LogKind) → Type 0
+IsRead means (Err Memory) = Unit {0}
+IsRead (Ok r) (Ok log) = log ≡ r.log
+IsRead (Ok r) (Err (At kind place)) = ⊥
+IsRead (Err fault) (Ok log) = ⊥
+IsRead (Err fault) (Err (At kind place)) = fault ≡ At kind place
+
+-- the thread of an event, and one that the event makes, is below 64
+abbrev pub AreFew : Event → Type 0
+AreFew e = (e.thread < 64) × ((t : ℕ) → makes_thread t e ≡ true → t < 64)
+
+-- so of each event of a log
+abbrev pub HasFewThreads : List Event → Type 0
+HasFewThreads log = (n : ℕ) (e : Event) → event_at log n ≡ Some e → AreFew e

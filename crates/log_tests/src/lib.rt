@@ -1,0 +1,5 @@
+//! Tests of the texts of logs.
+#![tactic(auto)]
+
+#[cfg(test)]
+mod reading;
