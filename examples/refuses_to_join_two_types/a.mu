@@ -1,0 +1,1 @@
+.typedef @i = int<8> .global @g <@i>
