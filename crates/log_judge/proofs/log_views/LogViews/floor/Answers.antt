@@ -1,4 +1,4 @@
-use Rattle.std.proofs.Common.{◌≡◌, ◌∙◌, sym, slice_index, false, arith}
+use Rattle.std.proofs.Common.{◌≡◌, ◌∙◌, sym, slice_index, false}
 use Rattle.std.specs.Prelude.{replicate}
 use Rattle.mem_axioms.specs.Events.{is_seq_cst}
 use Rattle.mem_axioms.specs.Form.{is_only_value}

@@ -1,4 +1,4 @@
-use Rattle.std.proofs.Common.{Some, None, arith}
+use Rattle.std.proofs.Common.{Some, None}
 use Rattle.mem_axioms.specs.Form.{is_only_value}
 use Rattle.mem_axioms.specs.Races.{race}
 use Rattle.view_parts.specs.Answers.{RaceFacts}
