@@ -1,5 +1,5 @@
 -- Lemmas on what a search found.
-use Rattle.std.specs.Prelude.{◌≡◌, ◌⊎◌, ◌<◌, ◌≤◌, ◌+◌, ◌-◌, ◌&&◌, ℕ, zero, suc, option_map, option_and_then, is_none, Bool, true, false, List, [], ◌∷◌, Option, Some, None, IsSome, is_some, All, refl}
+use Rattle.std.specs.Prelude.{◌≡◌, ◌⊎◌, ◌^◌, ◌<◌, ◌≤◌, ◌+◌, ◌-◌, ◌&&◌, ℕ, zero, suc, option_map, option_and_then, is_none, Bool, true, false, List, [], ◌∷◌, Option, Some, None, IsSome, is_some, All, refl}
 use Rattle.std.proofs.Common.{sym, ◌∙◌, ap, subst, inl, inr, arith, zero-add}
 use Rattle.std.proofs.Math.Nat.{suc-add}
 use Rattle.std.proofs.Math.Bool.{and-true}
@@ -18,7 +18,7 @@ use Rattle.odometer.specs.Trees.{Tree, Leaf, Node, leaf, AllLeaves}
 use Rattle.odometer.specs.Odometer.{IsPick, path, next, nth, nth_leaf, says, all_say, is_searched, Before, Onward}
 use Rattle.odometer.proofs.TreeLaws.{lower, before_path, onward, picks_of_path}
 use Rattle.odometer.specs.declared.picks.Pick.{Pick}
-use Rattle.odometer.specs.Found.{numbers_at, Shown, IsAmongFound, HasRuns, Keeps, RanOn}
+use Rattle.odometer.specs.Found.{numbers_at, Shown, AreNumbers, IsAmongFound, HasRuns, Keeps, RanOn}
 
 module _ {A : Type 0} (P Q : A → Type 0) (more : (a : A) → P a → Q a) where
   pub before_more : (t : Tree A) (ks : List ℕ) → Before P t ks → Before Q t ks
@@ -40,6 +40,13 @@ shown_more shows m n text schedule k here h other v e = by (k.each other v e)
     by : (numbers_at m other ≡ Some v) ⊎ ((other ≡ text) × (v.items ≡ schedule)) → shows v.items ≡ Some other
     by (inl e) = h other v e
     by (inr e) = ap shows e.1 ∙ here ∙ ap Some (sym e.0)
+
+pub numbers_more : (m n : BTreeMap (Vec ℕ) (Vec ℕ)) (text schedule : List ℕ) → Keeps m n text schedule → All (λ n. n < 2 ^ 32) schedule → AreNumbers m → AreNumbers n
+numbers_more m n text schedule k fit h other v e = by (k.each other v e)
+  where
+    by : (numbers_at m other ≡ Some v) ⊎ ((other ≡ text) × (v.items ≡ schedule)) → All (λ n. n < 2 ^ 32) v.items
+    by (inl e) = h other v e
+    by (inr e) = subst (All (λ n. n < 2 ^ 32)) (sym e.1) fit
 
 -- a run with a text that is kept
 pub goes_onward : (t : Tree (Option (List ℕ))) (m n : BTreeMap (Vec ℕ) (Vec ℕ)) (text numbers schedule : List ℕ) → Keeps m n text schedule → leaf t numbers ≡ Some text
@@ -101,8 +108,9 @@ keeps_old m text numbers h = record { here = h; each = λ other v e. inl e; stay
 -- ---- a run
 
 pub run_kept : (t : Tree (Option (List ℕ))) (shows : List ℕ → Option (List ℕ)) (m n : BTreeMap (Vec ℕ) (Vec ℕ)) (text numbers schedule : List ℕ) → leaf t numbers ≡ Some text → shows schedule ≡ Some text → Keeps m n text schedule
-    → RanOn t shows m n numbers
-run_kept t shows m n text numbers schedule e f k = record {
+    → All (λ n. n < 2 ^ 32) schedule → RanOn t shows m n numbers
+run_kept t shows m n text numbers schedule e f k fit = record {
+  fits = numbers_more m n text schedule k fit;
   shown = shown_more shows m n text schedule k f;
   here = λ other o. let same : text ≡ other = cc in subst (λ x. IsSome (numbers_at n x)) same k.here;
   stay = k.stay;
@@ -112,6 +120,7 @@ run_kept t shows m n text numbers schedule e f k = record {
 pub run_silent : (t : Tree (Option (List ℕ))) (shows : List ℕ → Option (List ℕ)) (m : BTreeMap (Vec ℕ) (Vec ℕ)) (numbers : List ℕ) → leaf t numbers ≡ None → RanOn t shows m m numbers
 run_silent t shows m numbers e = record {
   shown = λ h. h;
+  fits = λ h. h;
   here = λ text o. let no : None ≡ Some text = cc in cc;
   stay = λ text h. h;
   onward = λ b. let no : false ≡ true = sym (ap is_some e) ∙ b in cc;
@@ -122,6 +131,13 @@ run_picks t numbers made e = subst (All IsPick) (sym e) (picks_of_path t numbers
 
 pub none_shown : (shows : List ℕ → Option (List ℕ)) (m : BTreeMap (Vec ℕ) (Vec ℕ)) → m.entries ≡ [] → Shown shows m
 none_shown shows m e text v h =
+    let test : Vec ℕ → Bool = λ k. is_eq (slice_cmp nat_cmp text k.items) in
+    let none : lookup test m.entries ≡ None = ap (lookup test) e in
+    let no : None ≡ Some v = sym none ∙ h in
+    cc
+
+pub none_numbers : (m : BTreeMap (Vec ℕ) (Vec ℕ)) → m.entries ≡ [] → AreNumbers m
+none_numbers m e text v h =
     let test : Vec ℕ → Bool = λ k. is_eq (slice_cmp nat_cmp text k.items) in
     let none : lookup test m.entries ≡ None = ap (lookup test) e in
     let no : None ≡ Some v = sym none ∙ h in
@@ -173,15 +189,16 @@ module _ (t : Tree (Option (List ℕ))) where
 -- what holds after the run with some number, by which the picks were these
 pub record WentOn (t : Tree (Option (List ℕ))) (shows : List ℕ → Option (List ℕ)) (n : BTreeMap (Vec ℕ) (Vec ℕ)) (made : List Pick) (k : ℕ) (so_far : Bool) : Type 0 where
   pub shown : Shown shows n
+  pub numbers : AreNumbers n
   pub found : HasRuns n t (k + 1)
   pub whole : so_far ≡ all_say t (k + 1)
   pub further : nth t (k + 1) ≡ next made
   pub onward : so_far ≡ true → Onward (IsAmongFound n) t (next made)
 
 pub went_on : (t u : Tree (Option (List ℕ))) (shows shows_all : List ℕ → Option (List ℕ)) (m n : BTreeMap (Vec ℕ) (Vec ℕ)) (numbers given : List ℕ) (made : List Pick) (k : ℕ) (whole says_it so_far : Bool)
-    → t ≡ u → shows ≡ shows_all → given ≡ numbers → nth u k ≡ Some numbers → RanOn t shows m n given → made ≡ path t given → Shown shows_all m → HasRuns m u k → whole ≡ all_say u k
+    → t ≡ u → shows ≡ shows_all → given ≡ numbers → nth u k ≡ Some numbers → RanOn t shows m n given → made ≡ path t given → Shown shows_all m → AreNumbers m → HasRuns m u k → whole ≡ all_say u k
     → (whole ≡ true → Before (IsAmongFound m) u numbers) → says_it ≡ is_some (leaf t given) → so_far ≡ (whole && says_it) → WentOn u shows_all n made k so_far
-went_on t u shows shows_all m n numbers given made k whole says_it so_far same same_shows there e ran p shown has w before h both =
+went_on t u shows shows_all m n numbers given made k whole says_it so_far same same_shows there e ran p shown fit has w before h both =
     let one : suc k ≡ k + 1 = omega arith in
     let at : nth u k ≡ Some given = e ∙ ap Some (sym there) in
     let by : RanOn u shows_all m n given = subst (λ t. RanOn t shows_all m n given) same (subst (λ shows. RanOn t shows m n given) same_shows ran) in
@@ -189,6 +206,7 @@ went_on t u shows shows_all m n numbers given made k whole says_it so_far same s
     let picks : made ≡ path u given = p ∙ ap (λ t. path t given) same in
     record {
       shown = by.shown shown;
+      numbers = by.fits fit;
       found = subst (HasRuns n u) one (one_more u shows_all m n given k at by has);
       whole = both ∙ sym (say_more u given k whole says_it at w says_so) ∙ ap (all_say u) one;
       further = ap (nth u) (sym one) ∙ ap (option_and_then (λ ks. next (path u ks))) at ∙ ap next (sym picks);

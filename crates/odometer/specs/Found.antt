@@ -1,5 +1,5 @@
 -- What a search found so far.
-use Rattle.std.specs.Prelude.{◌≡◌, ◌<◌, ◌⊎◌, ℕ, true, List, Option, Some, IsSome, IsSomeAnd, is_some}
+use Rattle.std.specs.Prelude.{◌≡◌, ◌<◌, ◌^◌, ◌⊎◌, All, ℕ, true, List, Option, Some, IsSome, IsSomeAnd, is_some}
 use Rattle.std.specs.BTreeMap.{BTreeMap, get_by}
 use Rattle.std.specs.Global.{Vec}
 use Rattle.std.specs.Cmp.Lexicographic.{slice_cmp}
@@ -14,6 +14,10 @@ numbers_at m text = get_by (λ (k : Vec ℕ). slice_cmp nat_cmp text k.items) m
 -- each text is what its schedule shows
 abbrev pub Shown : (List ℕ → Option (List ℕ)) → BTreeMap (Vec ℕ) (Vec ℕ) → Type 0
 Shown shows m = (text : List ℕ) (v : Vec ℕ) → numbers_at m text ≡ Some v → shows v.items ≡ Some text
+
+-- the numbers of each schedule have 32 bits
+abbrev pub AreNumbers : BTreeMap (Vec ℕ) (Vec ℕ) → Type 0
+AreNumbers m = (text : List ℕ) (v : Vec ℕ) → numbers_at m text ≡ Some v → All (λ n. n < 2 ^ 32) v.items
 
 abbrev pub IsAmongFound : BTreeMap (Vec ℕ) (Vec ℕ) → Option (List ℕ) → Type 0
 IsAmongFound m o = IsSomeAnd o (λ text. IsSome (numbers_at m text))
@@ -31,6 +35,7 @@ pub record Keeps (m n : BTreeMap (Vec ℕ) (Vec ℕ)) (text numbers : List ℕ) 
 -- what was found after a run by these numbers
 pub record RanOn (t : Tree (Option (List ℕ))) (shows : List ℕ → Option (List ℕ)) (m n : BTreeMap (Vec ℕ) (Vec ℕ)) (numbers : List ℕ) : Type 0 where
   pub shown : Shown shows m → Shown shows n
+  pub fits : AreNumbers m → AreNumbers n
   pub here : (text : List ℕ) → leaf t numbers ≡ Some text → IsSome (numbers_at n text)
   pub stay : (text : List ℕ) → IsSome (numbers_at m text) → IsSome (numbers_at n text)
   pub onward : is_some (leaf t numbers) ≡ true → Before (IsAmongFound m) t numbers → Onward (IsAmongFound n) t (next (path t numbers))

@@ -2,7 +2,7 @@
 ghost use Rattle.std.specs.Prelude.{◌≡◌, ◌&&◌, ◌<◌, ◌≤◌, ◌^◌, ℕ, List, Option, All, true, false, Some, None, length, IfOk, OnOk, IsSomeAnd, is_some};
 ghost use Rattle.odometer.specs.Trees.{Tree, leaf, AllLeaves};
 ghost use Rattle.odometer.specs.Odometer.{path, digits, is_searched, IsPick};
-ghost use Rattle.odometer.specs.Found.{Shown, IsAmongFound, HasRuns, Keeps, RanOn};
+ghost use Rattle.odometer.specs.Found.{Shown, AreNumbers, IsAmongFound, HasRuns, Keeps, RanOn};
 
 use crate::picks::{Pick, advance};
 use std::alloc::{AllocError, Global};
@@ -16,6 +16,9 @@ pub trait Play {
     /// What a schedule shows.
     ghost shows: { Self → List ℕ → Option (List ℕ) };
 
+    /// What has to hold of it before a run, and holds after each.
+    ghost ready: { Self → Type 0 };
+
     /// Runs it by these numbers; after the last number each pick is 0. Then `made` is the list of its picks, `text` what the run comes to,
     /// and `schedule` a schedule that shows this text. False exactly where the run comes to nothing; then `text` and `schedule` are
     /// anything. It fails only out of memory.
@@ -26,6 +29,8 @@ pub trait Play {
         text: &mut Vec<u8>,
         schedule: &mut Vec<u32>,
     ) -> Result<bool, AllocError>
+        requires { ready self.old }
+        ensures ready { ready self.new }
         ensures same { tree self.new ≡ tree self.old }
         ensures same_shows { shows self.new ≡ shows self.old }
         ensures path { OnOk result (made.new.items ≡ path (tree self.old) numbers.now) }
@@ -71,6 +76,11 @@ fn keep(
     Ok(())
 }
 
+// The numbers of a slice fit their type.
+fn numbers_fit(numbers: &[u32])
+    ensures { All (λ n. n < 2 ^ 32) numbers.now }
+{}
+
 // Whether both are so.
 fn both(first: bool, second: bool) -> bool
     ensures { result ≡ (first && second) }
@@ -89,6 +99,8 @@ fn run_by<P: Play>(
     schedule: &mut Vec<u32>,
     found: &mut BTreeMap<Vec<u8>, Vec<u32>>,
 ) -> Result<bool, AllocError>
+    requires { P.ready play.old }
+    ensures ready { P.ready play.new }
     ensures same { P.tree play.new ≡ P.tree play.old }
     ensures same_shows { P.shows play.new ≡ P.shows play.old }
     ensures path { OnOk result (made.new.items ≡ path (P.tree play.old) numbers.now) }
@@ -101,6 +113,7 @@ fn run_by<P: Play>(
         return Ok(false);
     }
     keep(alloc, found, text, schedule)?;
+    numbers_fit(schedule);
     Ok(true)
 }
 
@@ -109,7 +122,9 @@ fn run_by<P: Play>(
 /// of them came to something; then no numbers lead to any other text. It fails only out of memory, and then nothing was found. Memory
 /// grows with the texts and the picks of a run, not with the runs.
 pub fn search_all<P: Play>(alloc: Global, play: &mut P, runs: u32) -> Result<Searched, AllocError>
+    requires { P.ready play.old }
     ensures shown { IfOk result (λ s. Shown (P.shows play.old) s.found) }
+    ensures numbers { IfOk result (λ s. AreNumbers s.found) }
     ensures found { IfOk result (λ s. HasRuns s.found (P.tree play.old) runs) }
     ensures complete { IfOk result (λ s. s.complete ≡ is_searched (P.tree play.old) runs) }
     ensures whole { IfOk result (λ s. s.complete ≡ true → AllLeaves (IsAmongFound s.found) (P.tree play.old)) }
