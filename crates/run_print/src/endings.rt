@@ -94,9 +94,9 @@ fn heap_full(thread: u32, asked: u128, left: u32, out: &mut Vec<u8>) -> Result<(
     asked_and_left(asked, left, out)
 }
 
-// Appends an ending, without its line feed. Where no memory is found a part of it may have been appended.
+/// Appends an ending, without its line feed. Where no memory is found a part of it may have been appended.
 #[tactic(auto, using(bundle_check::proofs::Prefixes::prefix_self, bundle_check::proofs::Prefixes::prefix_longer, bundle_check::proofs::Prefixes::prefix_again))]
-fn ending_words(code: &Checked, ending: &Ending, out: &mut Vec<u8>) -> Result<(), AllocError>
+pub fn ending_words(code: &Checked, ending: &Ending, out: &mut Vec<u8>) -> Result<(), AllocError>
     ensures appended { OnOk result (out.new.items ≡ out.old.items ++ ending_text code.now ending.now) }
     ensures begins { OnErr result (IsPrefix out.old.items out.new.items) }
 {

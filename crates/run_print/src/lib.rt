@@ -9,5 +9,8 @@ mod numbers;
 mod records;
 mod values;
 
-pub use endings::{ending_status, ending_text};
+pub use endings::{ending_status, ending_text, ending_words};
+pub use events::spaced_kind;
 pub use lines::{line_text, lines_text};
+pub use records::record_text;
+pub use values::spaced_scalar;
