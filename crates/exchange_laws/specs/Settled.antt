@@ -43,12 +43,12 @@ module _ {S L T : Type 0} (turn : S → L → S) (thread : L → T) (local : T �
             let g = ih r e' in
             (g.0, more q g.1, g.2)
 
-    -- a thread that has no local step has none behind those of another
+    -- a thread that has no local step has none after those of another
     still-none : (t u : T) (s z : S) → (t ≡ u → ⊥) → local u s ≡ None → Settles t s z → local u z ≡ None
     still-none t u s z n p (done q) = p
     still-none t u s z n p (more {r = r} q w) = still-none t u r z n (h.none t u s r n q p) w
 
-    -- one local step of t before all of u may come behind them
+    -- one local step of t before all of u may come after them
     step-behind : (t u : T) (x x' q' : S) → (t ≡ u → ⊥) → local t x ≡ Some x' → Settles u x' q' → (q : S) × Settles u x q × (local t q ≡ Some q')
     step-behind t u x x' q' n p (done r) = go (local u x) refl
       where

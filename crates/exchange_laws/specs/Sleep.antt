@@ -38,7 +38,7 @@ module _ {S L O : Type 0} (over : S → Option O) (moves : S → List L) (step :
     done : {s : S} {o : O} → over s ≡ Some o → Leads s [] o
     goes : {s : S} {a : L} {w : List L} {o : O} → over s ≡ None → Member a (moves s) → Leads (step s a) w o → Leads s (a ∷ w) o
 
-  -- what sleeps behind the move with number k: what slept, and the moves before it, as far as they are independent of it
+  -- what sleeps after the move with number k: what slept, and the moves before it, as far as they are independent of it
   abbrev pub asleep : S → L → ℕ → List L → List L
   asleep s a k sleep = filter (independent s a) (sleep ++ take k (moves s))
 
@@ -122,7 +122,7 @@ module _ {S L O : Type 0} (over : S → Option O) (moves : S → List L) (step :
   leads-alike b s t w o l (done p) = done (sym (b.ends s t l) ∙ p)
   leads-alike b s t w o l (goes {a = a} {w = v} p m h) = goes (sym (b.ends s t l) ∙ p) (b.same s t l a m) (leads-alike b (step s a) (step t a) v o (b.goes_on s t l a m) h)
 
-  -- what is asked of two independent moves: the second could have come first, and the first behind it, to a state that is alike; or the run
+  -- what is asked of two independent moves: the second could have come first, and the first after it, to a state that is alike; or the run
   -- is over with the second, the same way
   pub record Turns (s : S) (a b : L) : Type 0 where
     pub second_moves : Member b (moves s)

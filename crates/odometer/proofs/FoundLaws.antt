@@ -1,9 +1,13 @@
 -- Lemmas on what a search found.
-use Rattle.std.specs.Prelude.{◌≡◌, ◌⊎◌, ◌<◌, ℕ, suc, Bool, true, false, List, [], ◌∷◌, Option, Some, None, IsSome, IsSomeAnd, is_some, All, refl}
-use Rattle.std.proofs.Common.{sym, ◌∙◌, ap, subst, inl, inr, cond}
-use Rattle.std.specs.BTreeMap.{BTreeMap, get_by, Updates}
+use Rattle.std.specs.Prelude.{◌≡◌, ◌⊎◌, ◌^◌, ◌<◌, ◌≤◌, ◌+◌, ◌-◌, ◌&&◌, ℕ, zero, suc, option_map, option_and_then, is_none, Bool, true, false, List, [], ◌∷◌, Option, Some, None, IsSome, is_some, All, refl}
+use Rattle.std.proofs.Common.{sym, ◌∙◌, ap, subst, inl, inr, arith, zero-add}
+use Rattle.std.proofs.Math.Nat.{suc-add}
+use Rattle.std.proofs.Math.Bool.{and-true}
+use Rattle.std.proofs.lemmas.Bool.{and_parts}
+use Rattle.std.proofs.lemmas.Bool.Decides.{leb_tells}
+use Rattle.std.specs.BTreeMap.{BTreeMap, Updates}
 use Rattle.std.specs.Map.{lookup, IsKeyTest, AreApart, KeepsOthers}
-use Rattle.std.specs.Ordering.{is_eq, nat_cmp, eq_by_cmp}
+use Rattle.std.specs.Ordering.{is_eq, nat_cmp}
 use Rattle.std.specs.declared.cmp.Ordering.{Ordering}
 use Rattle.std.specs.Cmp.{eq_by_cmp_equiv}
 use Rattle.std.specs.Cmp.Lexicographic.{slice_cmp, bytes_decides, nat_list_cmp_total, nat_list_eq_equiv}
@@ -11,10 +15,10 @@ use Rattle.std.specs.Str.{bytes_eq}
 use Rattle.std.proofs.lemmas.Map.Text.{is_eq-slice_cmp}
 use Rattle.std.specs.Global.{Vec}
 use Rattle.odometer.specs.Trees.{Tree, Leaf, Node, leaf, AllLeaves}
-use Rattle.odometer.specs.Odometer.{IsPick, path, digits, next, Before, Onward}
-use Rattle.odometer.proofs.TreeLaws.{before_path, before_nil, onward, picks_of_path}
+use Rattle.odometer.specs.Odometer.{IsPick, path, next, nth, nth_leaf, says, all_say, is_searched, Before, Onward}
+use Rattle.odometer.proofs.TreeLaws.{lower, before_path, onward, picks_of_path}
 use Rattle.odometer.specs.declared.picks.Pick.{Pick}
-use Rattle.odometer.specs.Found.{numbers_at, Shown, IsAmongFound, Keeps, RanOn}
+use Rattle.odometer.specs.Found.{numbers_at, Shown, AreNumbers, IsAmongFound, HasRuns, Keeps, RanOn}
 
 module _ {A : Type 0} (P Q : A → Type 0) (more : (a : A) → P a → Q a) where
   pub before_more : (t : Tree A) (ks : List ℕ) → Before P t ks → Before Q t ks
@@ -36,6 +40,13 @@ shown_more shows m n text schedule k here h other v e = by (k.each other v e)
     by : (numbers_at m other ≡ Some v) ⊎ ((other ≡ text) × (v.items ≡ schedule)) → shows v.items ≡ Some other
     by (inl e) = h other v e
     by (inr e) = ap shows e.1 ∙ here ∙ ap Some (sym e.0)
+
+pub numbers_more : (m n : BTreeMap (Vec ℕ) (Vec ℕ)) (text schedule : List ℕ) → Keeps m n text schedule → All (λ n. n < 2 ^ 32) schedule → AreNumbers m → AreNumbers n
+numbers_more m n text schedule k fit h other v e = by (k.each other v e)
+  where
+    by : (numbers_at m other ≡ Some v) ⊎ ((other ≡ text) × (v.items ≡ schedule)) → All (λ n. n < 2 ^ 32) v.items
+    by (inl e) = h other v e
+    by (inr e) = subst (All (λ n. n < 2 ^ 32)) (sym e.1) fit
 
 -- a run with a text that is kept
 pub goes_onward : (t : Tree (Option (List ℕ))) (m n : BTreeMap (Vec ℕ) (Vec ℕ)) (text numbers schedule : List ℕ) → Keeps m n text schedule → leaf t numbers ≡ Some text
@@ -96,12 +107,24 @@ keeps_old m text numbers h = record { here = h; each = λ other v e. inl e; stay
 
 -- ---- a run
 
-pub run_kept : (t : Tree (Option (List ℕ))) (shows : List ℕ → Option (List ℕ)) (m n : BTreeMap (Vec ℕ) (Vec ℕ)) (text numbers schedule : List ℕ) (whole : Bool) → leaf t numbers ≡ Some text → shows schedule ≡ Some text → Keeps m n text schedule
-    → RanOn t shows m n numbers whole
-run_kept t shows m n text numbers schedule whole e f k = record { shown = shown_more shows m n text schedule k f; onward = λ b. goes_onward t m n text numbers schedule k e }
+pub run_kept : (t : Tree (Option (List ℕ))) (shows : List ℕ → Option (List ℕ)) (m n : BTreeMap (Vec ℕ) (Vec ℕ)) (text numbers schedule : List ℕ) → leaf t numbers ≡ Some text → shows schedule ≡ Some text → Keeps m n text schedule
+    → All (λ n. n < 2 ^ 32) schedule → RanOn t shows m n numbers
+run_kept t shows m n text numbers schedule e f k fit = record {
+  fits = numbers_more m n text schedule k fit;
+  shown = shown_more shows m n text schedule k f;
+  here = λ other o. let same : text ≡ other = cc in subst (λ x. IsSome (numbers_at n x)) same k.here;
+  stay = k.stay;
+  onward = λ b. goes_onward t m n text numbers schedule k e;
+}
 
-pub run_silent : (t : Tree (Option (List ℕ))) (shows : List ℕ → Option (List ℕ)) (m : BTreeMap (Vec ℕ) (Vec ℕ)) (numbers : List ℕ) → RanOn t shows m m numbers false
-run_silent t shows m numbers = record { shown = λ h. h; onward = λ b. cc }
+pub run_silent : (t : Tree (Option (List ℕ))) (shows : List ℕ → Option (List ℕ)) (m : BTreeMap (Vec ℕ) (Vec ℕ)) (numbers : List ℕ) → leaf t numbers ≡ None → RanOn t shows m m numbers
+run_silent t shows m numbers e = record {
+  shown = λ h. h;
+  fits = λ h. h;
+  here = λ text o. let no : None ≡ Some text = cc in cc;
+  stay = λ text h. h;
+  onward = λ b. let no : false ≡ true = sym (ap is_some e) ∙ b in cc;
+}
 
 pub run_picks : (t : Tree (Option (List ℕ))) (numbers : List ℕ) (made : List Pick) → made ≡ path t numbers → All IsPick made
 run_picks t numbers made e = subst (All IsPick) (sym e) (picks_of_path t numbers)
@@ -112,3 +135,94 @@ none_shown shows m e text v h =
     let none : lookup test m.entries ≡ None = ap (lookup test) e in
     let no : None ≡ Some v = sym none ∙ h in
     cc
+
+pub none_numbers : (m : BTreeMap (Vec ℕ) (Vec ℕ)) → m.entries ≡ [] → AreNumbers m
+none_numbers m e text v h =
+    let test : Vec ℕ → Bool = λ k. is_eq (slice_cmp nat_cmp text k.items) in
+    let none : lookup test m.entries ≡ None = ap (lookup test) e in
+    let no : None ≡ Some v = sym none ∙ h in
+    cc
+
+-- ---- the runs so far
+
+module _ (t : Tree (Option (List ℕ))) where
+  -- one run more
+  pub one_more : (shows : List ℕ → Option (List ℕ)) (m n : BTreeMap (Vec ℕ) (Vec ℕ)) (numbers : List ℕ) (k : ℕ) → nth t k ≡ Some numbers → RanOn t shows m n numbers → HasRuns m t k → HasRuns n t (suc k)
+  one_more shows m n numbers k e ran has j l text o = by (lower j k l)
+    where
+      by : (j < k) ⊎ (j ≡ k) → IsSome (numbers_at n text)
+      by (inl h) = ran.stay text (has j h text o)
+      by (inr h) =
+          let at : nth_leaf t j ≡ Some (leaf t numbers) = ap (nth_leaf t) h ∙ ap (option_map (leaf t)) e in
+          let both : Some (leaf t numbers) ≡ Some (Some text) = sym at ∙ o in
+          let one : leaf t numbers ≡ Some text = cc in
+          ran.here text one
+
+  pub say_more : (numbers : List ℕ) (k : ℕ) (whole says_it : Bool) → nth t k ≡ Some numbers → whole ≡ all_say t k → says_it ≡ is_some (leaf t numbers) → all_say t (suc k) ≡ whole && says_it
+  say_more numbers k whole says_it e w h = ap (λ o. all_say t k && says (option_map (leaf t) o)) e ∙ ap (λ b. b && is_some (leaf t numbers)) (sym w) ∙ ap (λ b. whole && b) (sym h)
+
+  -- no run follows the last one
+  none_later : (k j : ℕ) → nth t k ≡ None → nth t (j + k) ≡ None
+  none_later k zero e = ap (nth t) (zero-add k) ∙ e
+  none_later k (suc j) e = ap (nth t) (suc-add j k) ∙ ap (option_and_then (λ ks. next (path t ks))) (none_later k j e)
+
+  say_later : (k j : ℕ) → nth t k ≡ None → all_say t (j + k) ≡ all_say t k
+  say_later k zero e = ap (all_say t) (zero-add k)
+  say_later k (suc j) e = ap (all_say t) (suc-add j k) ∙ ap (λ o. all_say t (j + k) && says (option_map (leaf t) o)) (none_later k j e) ∙ and-true (all_say t (j + k)) ∙ say_later k j e
+
+  -- all that is said of the first k runs holds of as many as one likes, where no further one exists
+  pub searched : (k n : ℕ) → k ≤ n → nth t k ≡ None → is_searched t n ≡ all_say t k
+  searched k n l e =
+      let same : n - k + k ≡ n = omega (arith, l) in
+      ap (is_searched t) (sym same) ∙ ap (λ o. is_none o && all_say t (n - k + k)) (none_later k (n - k) e) ∙ say_later k (n - k) e
+
+  pub all_found : (m : BTreeMap (Vec ℕ) (Vec ℕ)) (k n : ℕ) → nth t k ≡ None → HasRuns m t k → HasRuns m t n
+  all_found m k n e has j l text o = elim (leb_tells k j) [
+    | inl h ↦
+        let same : j - k + k ≡ j = omega (arith, h.1) in
+        let at : nth_leaf t j ≡ None = ap (nth_leaf t) (sym same) ∙ ap (option_map (leaf t)) (none_later k (j - k) e) in
+        let no : None ≡ Some (Some text) = sym at ∙ o in
+        cc
+    | inr h ↦ has j h.1 text o
+  ]
+
+-- what holds after the run with some number, by which the picks were these
+pub record WentOn (t : Tree (Option (List ℕ))) (shows : List ℕ → Option (List ℕ)) (n : BTreeMap (Vec ℕ) (Vec ℕ)) (made : List Pick) (k : ℕ) (so_far : Bool) : Type 0 where
+  pub shown : Shown shows n
+  pub numbers : AreNumbers n
+  pub found : HasRuns n t (k + 1)
+  pub whole : so_far ≡ all_say t (k + 1)
+  pub further : nth t (k + 1) ≡ next made
+  pub onward : so_far ≡ true → Onward (IsAmongFound n) t (next made)
+
+pub went_on : (t u : Tree (Option (List ℕ))) (shows shows_all : List ℕ → Option (List ℕ)) (m n : BTreeMap (Vec ℕ) (Vec ℕ)) (numbers given : List ℕ) (made : List Pick) (k : ℕ) (whole says_it so_far : Bool)
+    → t ≡ u → shows ≡ shows_all → given ≡ numbers → nth u k ≡ Some numbers → RanOn t shows m n given → made ≡ path t given → Shown shows_all m → AreNumbers m → HasRuns m u k → whole ≡ all_say u k
+    → (whole ≡ true → Before (IsAmongFound m) u numbers) → says_it ≡ is_some (leaf t given) → so_far ≡ (whole && says_it) → WentOn u shows_all n made k so_far
+went_on t u shows shows_all m n numbers given made k whole says_it so_far same same_shows there e ran p shown fit has w before h both =
+    let one : suc k ≡ k + 1 = omega arith in
+    let at : nth u k ≡ Some given = e ∙ ap Some (sym there) in
+    let by : RanOn u shows_all m n given = subst (λ t. RanOn t shows_all m n given) same (subst (λ shows. RanOn t shows m n given) same_shows ran) in
+    let says_so : says_it ≡ is_some (leaf u given) = h ∙ ap (λ t. is_some (leaf t given)) same in
+    let picks : made ≡ path u given = p ∙ ap (λ t. path t given) same in
+    record {
+      shown = by.shown shown;
+      numbers = by.fits fit;
+      found = subst (HasRuns n u) one (one_more u shows_all m n given k at by has);
+      whole = both ∙ sym (say_more u given k whole says_it at w says_so) ∙ ap (all_say u) one;
+      further = ap (nth u) (sym one) ∙ ap (option_and_then (λ ks. next (path u ks))) at ∙ ap next (sym picks);
+      onward =
+          λ b.
+          let parts = and_parts whole says_it (sym both ∙ b) in
+          let so : Before (IsAmongFound m) u given = subst (Before (IsAmongFound m) u) (sym there) (before parts.0) in
+          subst (λ ps. Onward (IsAmongFound n) u (next ps)) (sym picks) (by.onward (sym says_so ∙ parts.1) so);
+    }
+
+-- and where no run follows
+pub over_found : (t : Tree (Option (List ℕ))) (shows : List ℕ → Option (List ℕ)) (n : BTreeMap (Vec ℕ) (Vec ℕ)) (made : List Pick) (k runs : ℕ) (so_far : Bool) → WentOn t shows n made k so_far → next made ≡ None → HasRuns n t runs
+over_found t shows n made k runs so_far w e = all_found t n (k + 1) runs (w.further ∙ e) w.found
+
+pub over_whole : (t : Tree (Option (List ℕ))) (shows : List ℕ → Option (List ℕ)) (n : BTreeMap (Vec ℕ) (Vec ℕ)) (made : List Pick) (k runs : ℕ) (so_far : Bool) → k < runs → WentOn t shows n made k so_far → next made ≡ None → so_far ≡ is_searched t runs
+over_whole t shows n made k runs so_far l w e = w.whole ∙ sym (searched t (k + 1) runs (omega (arith, l)) (w.further ∙ e))
+
+pub over_all : (t : Tree (Option (List ℕ))) (shows : List ℕ → Option (List ℕ)) (n : BTreeMap (Vec ℕ) (Vec ℕ)) (made : List Pick) (k : ℕ) (so_far : Bool) → WentOn t shows n made k so_far → next made ≡ None → so_far ≡ true → AllLeaves (IsAmongFound n) t
+over_all t shows n made k so_far w e b = onward_none (IsAmongFound n) t (next made) e (w.onward b)

@@ -1,14 +1,13 @@
 -- Lemmas on trees of picks.
-use Rattle.std.specs.Prelude.{◌≡◌, ◌<◌, ◌≤◌, ℕ, zero, suc, ◌+◌, ◌%◌, nat_lt, nat_le, Bool, true, false, List, [], ◌∷◌, ◌++◌, map, Option, Some, None, All, if◌then◌else◌, refl}
-use Rattle.std.proofs.Common.{sym, ◌∙◌, ap, subst, arith, inl, inr, ◌⊎◌}
+use Rattle.std.specs.Prelude.{◌≡◌, ◌<◌, ℕ, suc, ◌%◌, nat_lt, Bool, true, false, List, [], ◌∷◌, Option, Some, None, All, if◌then◌else◌, refl}
+use Rattle.std.proofs.Common.{sym, subst, arith, inl, inr, ◌⊎◌}
 use Rattle.std.proofs.lemmas.Bool.{ltb-true, ltb-false}
 use Rattle.std.proofs.lemmas.Bool.Decides.{leb_tells}
 use Rattle.std.proofs.lemmas.Nat.{mod_below}
 use Rattle.std.proofs.Math.Nat.{mod-eq_of_lt}
 use Rattle.std.proofs.lemmas.List.Elements.{All-cons, All-nil}
-use Rattle.odometer.specs.Trees.{Tree, Leaf, Node, leaf, rest, branches, grown, AllLeaves, pick, picked_from}
+use Rattle.odometer.specs.Trees.{Tree, Leaf, Node, leaf, AllLeaves}
 use Rattle.odometer.specs.Odometer.{IsPick, digits, path, raised, next, Before, Onward}
-use Rattle.odometer.specs.declared.picks.Pick.{Pick}
 
 below : (p n : ℕ) → p % suc (suc n) < suc (suc n)
 below p n = mod_below p (suc (suc n)) (omega arith)
@@ -16,7 +15,7 @@ below p n = mod_below p (suc (suc n)) (omega arith)
 same_below : (k n : ℕ) → k < suc (suc n) → k % suc (suc n) ≡ k
 same_below k n h = mod-eq_of_lt h
 
-lower : (j k : ℕ) → j < suc k → (j < k) ⊎ (j ≡ k)
+pub lower : (j k : ℕ) → j < suc k → (j < k) ⊎ (j ≡ k)
 lower j k h = elim (leb_tells k j) [ inl e ↦ inr (omega (arith, h, e.1)) | inr e ↦ inl e.1 ]
 
 module _ {A : Type 0} (P : A → Type 0) where

@@ -1,5 +1,5 @@
 -- The odometer: which picks follow some picks.
-use Rattle.std.specs.Prelude.{◌≡◌, ◌<◌, ◌≤◌, ℕ, zero, suc, ◌+◌, ◌%◌, nat_lt, Bool, true, false, List, [], ◌∷◌, map, Option, Some, None, if◌then◌else◌}
+use Rattle.std.specs.Prelude.{◌<◌, ℕ, zero, suc, ◌%◌, nat_lt, Bool, true, List, [], ◌∷◌, map, Option, Some, None, option_map, option_and_then, is_some, is_none, ◌&&◌, if◌then◌else◌}
 use Rattle.odometer.specs.Trees.{Tree, Leaf, Node, leaf, AllLeaves}
 use Rattle.odometer.specs.declared.picks.Pick.{Pick}
 
@@ -8,6 +8,10 @@ IsPick p = p.picked < p.options
 
 abbrev pub digits : List Pick → List ℕ
 digits ps = map (λ (p : Pick). p.picked) ps
+
+-- how many options each pick had
+abbrev pub choices_of : List Pick → List ℕ
+choices_of ps = map (λ (p : Pick). p.options) ps
 
 -- the picks that these numbers make
 abbrev pub path : {A : Type 0} → Tree A → List ℕ → List Pick
@@ -23,6 +27,32 @@ raised p None = if nat_lt (suc p.picked) p.options then Some (suc p.picked ∷ [
 abbrev pub next : List Pick → Option (List ℕ)
 next [] = None
 next (p ∷ ps) = raised p (next ps)
+
+-- ---- the runs in the order of the odometer
+
+-- The numbers by which the run with this number is made, if there are so many runs: the first run takes the first option of each pick.
+abbrev pub nth : {A : Type 0} → Tree A → ℕ → Option (List ℕ)
+nth t zero = Some []
+nth t (suc k) = option_and_then (λ ks. next (path t ks)) (nth t k)
+
+-- what it comes to
+abbrev pub nth_leaf : {A : Type 0} → Tree A → ℕ → Option A
+nth_leaf t k = option_map (leaf t) (nth t k)
+
+-- there is no such run, or it says something
+abbrev pub says : {A : Type 0} → Option (Option A) → Bool
+says None = true
+says (Some o) = is_some o
+
+abbrev pub all_say : {A : Type 0} → Tree (Option A) → ℕ → Bool
+all_say t zero = true
+all_say t (suc n) = all_say t n && says (nth_leaf t n)
+
+-- no run comes after the first n, and each of these says something
+abbrev pub is_searched : {A : Type 0} → Tree (Option A) → ℕ → Bool
+is_searched t n = is_none (nth t n) && all_say t n
+
+-- ---- what was done
 
 -- that holds of each leaf that comes before these picks, which are picks of the tree
 abbrev pub Before : {A : Type 0} → (A → Type 0) → Tree A → List ℕ → Type 0

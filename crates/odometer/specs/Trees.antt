@@ -1,5 +1,5 @@
 -- A tree of picks, and what a schedule makes of it.
-use Rattle.std.specs.Prelude.{◌≡◌, refl, ℕ, zero, suc, ◌%◌, nat_le, List, [], ◌∷◌, if◌then◌else◌}
+use Rattle.std.specs.Prelude.{ℕ, zero, suc, ◌%◌, nat_le, List, [], ◌∷◌, if◌then◌else◌}
 
 -- one of n options by the first number of a schedule, and the numbers that are left; 0 where none is left
 abbrev pub picked_from : ℕ → List ℕ → ℕ × List ℕ

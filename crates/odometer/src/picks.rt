@@ -1,6 +1,6 @@
 // The picks of a run, and those of the next run.
-ghost use Rattle.std.specs.Prelude.{◌≡◌, ◌<◌, All, true, false, Some, None};
-ghost use Rattle.odometer.specs.Odometer.{next, digits, IsPick};
+ghost use Rattle.std.specs.Prelude.{◌≡◌, ◌<◌, All, true, false, Some, None, map, take, length};
+ghost use Rattle.odometer.specs.Odometer.{next, digits, choices_of, IsPick};
 
 /// A pick of a run: the number of the option that was taken, and how many options there were, at least two.
 #[derive(Clone, Copy, Debug, PartialEq, Eq)]
@@ -9,11 +9,12 @@ pub struct Pick {
     pub options: u32,
 }
 
-/// The last pick that has a further option takes it, and all later picks are dropped; true. False where no pick has a further option:
-/// then every path was made.
+/// Makes the picks of a run those that are next: the last pick that has a further option takes it, all earlier picks stay, and all later
+/// ones are dropped; true. False where no pick has a further option.
 pub fn advance(path: &mut Vec<Pick>) -> bool
     requires { All IsPick path.old.items }
     ensures next { result ≡ true → next path.old.items ≡ Some (digits path.new.items) }
+    ensures options { result ≡ true → choices_of path.new.items ≡ take (length path.new.items) (choices_of path.old.items) }
     ensures last { result ≡ false → next path.old.items ≡ None }
 {
     let mut at = path.len();

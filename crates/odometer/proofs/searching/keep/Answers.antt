@@ -1,4 +1,3 @@
-use Rattle.std.proofs.lemmas.Result.{IfOk-at_ok}
 use Rattle.odometer.proofs.FoundLaws.{keeps_new}
 use Rattle.odometer.proofs.searching.keep.Goals as goal
 
