@@ -5,6 +5,7 @@ pub mod Puts
 pub mod Answering
 pub mod Completeness
 pub mod Accepting
+pub mod Statuses
 pub mod Verdicts
 pub mod Causes
 pub mod InSteps

@@ -2,6 +2,10 @@ use Rattle.mu_command.proofs.Accepting.{accepted_cause}
 use Rattle.mu_command.proofs.Causes.{read_fault_cause, refused_cause, too_long_cause}
 use Rattle.mu_command.proofs.Completeness.{complete}
 use Rattle.mu_command.proofs.Verdicts.{verdict_cause}
+use Rattle.std.proofs.Common.{◌∙◌, sym, subst}
+use Rattle.mu_command.specs.Job.{job_of}
+use Rattle.mu_command.specs.Written.{IsWhole}
+use Rattle.mu_command.proofs.Statuses.{usage_has_no_job, usage_whole}
 use Rattle.mu_command.proofs.AutoClient.{auto_goes_on}
 use Rattle.mu_command.proofs.Moments.{of_sound}
 use Rattle.mu_command.specs.Central.{AutoGoesOn, HasSoundLog, HasOneOwner, IsNotStuck}
@@ -47,3 +51,8 @@ returns-clause-auto_goes_on g c = of_sound AutoGoesOn (λ p c m. auto_goes_on p 
 
 pub returns-clause-ends : goal.returns-clause-ends
 returns-clause-ends g c = c.runs_have_their_endings.ensures c.args.words.now
+
+pub returns-clause-usage_only : goal.returns-clause-usage_only
+returns-clause-usage_only g c = λ s.
+    let a = c.answer.ensures.answered in
+    usage_has_no_job c.args.words.now (job_of c.args.words.now) a.outcomes (sym (a.writes.status_of (subst IsWhole (sym s) usage_whole)) ∙ s)
