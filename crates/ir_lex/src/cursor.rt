@@ -251,7 +251,7 @@ impl<'a> Cursor<'a> {
         Ok(symbol)
     }
 
-    /// Takes a name of one of these kinds. It is refused for want of memory too.
+    /// Takes a name of one of these kinds. Out of memory is a refusal too.
     #[tactic(auto, using(crate::proofs::Cursors::among_goes_on), unfolding(crate::specs::TokenForms::name))]
     pub fn name(&mut self, alloc: Global, symbols: &[Symbol]) -> Result<Name, ReadError>
         requires { none_last symbols.now ≡ true }

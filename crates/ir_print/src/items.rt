@@ -107,7 +107,7 @@ fn items(out: &mut Vec<u8>, bundle: &Bundle) -> Result<(), AllocError>
     Ok(())
 }
 
-/// Appends the canonical text of a bundle. It is refused only for want of memory, and then `out` is as it was: the text is made apart
+/// Appends the canonical text of a bundle. It is refused only where it is out of memory, and then `out` is as it was: the text is made apart
 /// first. It takes time in proportion to the text, and room for the text twice.
 pub fn print_bundle(bundle: &Bundle, out: &mut Vec<u8>) -> Result<(), AllocError>
     ensures appended { OnOk result (out.new.items ≡ out.old.items ++ bundle_text bundle.now) }

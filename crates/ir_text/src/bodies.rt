@@ -67,7 +67,7 @@ impl BodySoFar {
         self.whole.len() >= BLOCK_LIMIT - 1
     }
 
-    /// Adds what the line says. After a refusal for want of memory lines are lost.
+    /// Adds what the line says. After a refusal because it is out of memory lines are lost.
     fn add(&mut self, alloc: Global, line: Line) -> Result<(), AllocError>
         ensures { OnOk result (self.new ≡ followed self.old line) }
     {

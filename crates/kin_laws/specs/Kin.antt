@@ -1,4 +1,4 @@
--- To believe: types of two graphs. A type of the first graph is kin to a type of the second where both unfold alike to every depth.
+-- Types of two graphs. A type of the first graph is kin to a type of the second where both unfold alike to every depth.
 -- Each graph numbers its types for itself, so kin types may have different numbers.
 use Rattle.std.specs.Prelude.{◌≡◌, ℕ, zero, suc, Bool, true, false, List, length, slice_get, ◌<◌}
 use Rattle.type_laws.specs.declared.definition.TypeDef.{TypeDef}

@@ -1,4 +1,4 @@
--- To believe: the text of a made bundle, in which one thread writes n pairs of a value and a flag, and another reads them in turn.
+-- The text of a made bundle, in which one thread writes n pairs of a value and a flag, and another reads them in turn.
 -- Each token is followed by one space.
 use Rattle.std.specs.Prelude.{ℕ, ◌+◌, List, ◌++◌, codes, decimal, nat_eq, if◌then◌else◌}
 use Rattle.std.specs.List.{flat_map, range_with_len}

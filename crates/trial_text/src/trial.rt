@@ -75,7 +75,7 @@ fn reader(n: u32, out: &mut Vec<u8>) -> Result<(), AllocError>
 
 /// The text of the made bundle with `n` pairs of a value and a flag. Its function `@main` starts a thread, then writes each value and sets
 /// its flag; that thread looks at the flags in turn, reads the value of each that is set, and ends at the first that is not. Each token of
-/// the text is followed by one space. It takes time and memory in proportion to the text. It is refused only for want of memory.
+/// the text is followed by one space. It takes time and memory in proportion to the text. It is refused only where it is out of memory.
 pub fn trial_text(alloc: Global, n: u32) -> Result<Vec<u8>, AllocError>
     ensures { IfOk result (λ text. text.items ≡ trial_text n) }
 {

@@ -1,4 +1,4 @@
--- To believe: the class of a type: the least id of the graph that is the same type.
+-- The class of a type: the least id of the graph that is the same type.
 use Rattle.std.specs.Prelude.{ℕ, zero, suc, Bool, cond, List, length}
 use Rattle.type_laws.specs.declared.definition.TypeDef.{TypeDef}
 use Rattle.type_laws.specs.Same.{same}

@@ -1,4 +1,4 @@
--- To believe: what a definition of a type or signature is made of: a constructor, at most one number, and arguments.
+-- What a definition of a type or signature is made of: a constructor, at most one number, and arguments.
 use Rattle.std.specs.Prelude.{ℕ, List, [], ◌∷◌, ◌++◌, length}
 use Rattle.type_laws.specs.declared.definition.TypeDef.{TypeDef}
 use Rattle.type_laws.specs.declared.definition.TypeDef.TheVariants.{Int, Struct, Array, Hybrid, Void, Ref, Iref, FuncRef, StackRef, ThreadRef, Sig}

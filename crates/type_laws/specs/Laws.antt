@@ -1,4 +1,4 @@
--- To believe: what holds of the same type, of classes, of leaves and of walks in every graph; all but the laws of walks ask that its arguments are ids of it.
+-- What holds of the same type, of classes, of leaves and of walks in every graph; all but the laws of walks ask that its arguments are ids of it.
 use Rattle.std.specs.Prelude.{◌≡◌, ◌↔◌, ℕ, true, false, ◌<◌, ◌≤◌, List, length, map, slice_get}
 use Rattle.std.specs.List.{All}
 use Rattle.type_laws.specs.declared.definition.TypeDef.{TypeDef}

@@ -1,4 +1,4 @@
--- To believe: the leaves of a type: the scalar types in it, from left to right.
+-- The leaves of a type: the scalar types in it, from left to right.
 use Rattle.std.specs.Prelude.{ℕ, zero, suc, List, [], ◌∷◌, ◌++◌, length, Option, Some, None, slice_get}
 use Rattle.std.specs.List.{flat_map}
 use Rattle.type_laws.specs.declared.definition.TypeDef.{TypeDef}

@@ -1,4 +1,4 @@
--- To believe: the parts of a type, and which types contain themselves. A reference has no part: what it leads to is elsewhere.
+-- The parts of a type, and which types contain themselves. A reference has no part: what it leads to is elsewhere.
 use Rattle.std.specs.Prelude.{ℕ, zero, suc, Bool, false, ◌||◌, ◌==◌, List, [], ◌∷◌, ◌++◌, length, Option, Some, None, slice_get}
 use Rattle.std.specs.List.{list_any}
 use Rattle.type_laws.specs.declared.definition.TypeDef.{TypeDef}

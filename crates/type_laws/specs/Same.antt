@@ -1,4 +1,4 @@
--- To believe: the same type: two definitions unfold alike to every depth.
+-- The same type: two definitions unfold alike to every depth.
 use Rattle.std.specs.Prelude.{ℕ, zero, suc, ◌==◌, Bool, true, false, ◌&&◌, List, [], ◌∷◌, length, Option, Some, None, slice_get, ◌<◌}
 use Rattle.std.specs.List.{All}
 use Rattle.type_laws.specs.declared.definition.TypeDef.{TypeDef}

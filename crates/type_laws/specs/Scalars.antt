@@ -1,4 +1,4 @@
--- To believe: the scalar types, of which values are made.
+-- The scalar types, of which values are made.
 use Rattle.std.specs.Prelude.{Bool, true, false, Option, Some}
 use Rattle.type_laws.specs.declared.definition.TypeDef.{TypeDef}
 use Rattle.type_laws.specs.declared.definition.TypeDef.TheVariants.{Int, Ref, Iref, FuncRef, StackRef, ThreadRef}
