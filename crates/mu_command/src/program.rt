@@ -68,7 +68,7 @@ fn answer<I: Inputs, S: Sink>(alloc: Global, words: &Words, inputs: &mut I, out:
 /// Else one line is written that names the first fault of what was given. After every status a prefix of the text was written;
 /// after each but `SinkFault` and `Memory` it is the whole text.
 ///
-/// It is for a process that ends behind it: the memory of a bundle and of a run is left to the system, which takes it back at once.
+/// It is for a process that ends after it: the memory of a bundle and of a run is left to the system, which takes it back at once.
 pub fn mu<I: Inputs, S: Sink>(alloc: Global, words: &Words, inputs: &mut I, out: &mut S) -> Status
     // There are outcomes of the fetches that the inputs allow, and the answer to them is what is written.
     ensures answered { Answered (record { told = I.holds inputs.old; before = I.faults inputs.old; now = I.faults inputs.new }) words.now

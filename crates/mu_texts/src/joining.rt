@@ -13,7 +13,7 @@ use ir_tree::Bundle;
 use std::alloc::Global;
 use text_forms::Listing;
 
-/// What `mu join` asks of bundles, of which there are at most 16: the joined bundle.
+/// The job of `mu join`: to print the joined bundle of these bundles, of which there are at most 16.
 ///
 /// Where there is none the line is `refused bundle K PLACE FAULT`, with the number of the bundle and the first item that cannot go into it.
 pub fn judge_for_join(alloc: Global, bundles: Listing<Bundle>) -> Result<Ready, Stop>
