@@ -221,8 +221,27 @@ went_on t u shows shows_all m n numbers given made k whole says_it so_far same s
 pub over_found : (t : Tree (Option (List ℕ))) (shows : List ℕ → Option (List ℕ)) (n : BTreeMap (Vec ℕ) (Vec ℕ)) (made : List Pick) (k runs : ℕ) (so_far : Bool) → WentOn t shows n made k so_far → next made ≡ None → HasRuns n t runs
 over_found t shows n made k runs so_far w e = all_found t n (k + 1) runs (w.further ∙ e) w.found
 
+pub over_left : (t : Tree (Option (List ℕ))) (shows : List ℕ → Option (List ℕ)) (n : BTreeMap (Vec ℕ) (Vec ℕ)) (made : List Pick) (k runs : ℕ) (so_far : Bool) → k < runs → WentOn t shows n made k so_far → next made ≡ None → is_some (nth t runs) ≡ false
+over_left t shows n made k runs so_far l w e =
+    let same : runs - (k + 1) + (k + 1) ≡ runs = omega (arith, l) in
+    ap (λ m. is_some (nth t m)) (sym same) ∙ ap is_some (none_later t (k + 1) (runs - (k + 1)) (w.further ∙ e))
+
+pub over_says : (t : Tree (Option (List ℕ))) (shows : List ℕ → Option (List ℕ)) (n : BTreeMap (Vec ℕ) (Vec ℕ)) (made : List Pick) (k runs : ℕ) (so_far : Bool) → k < runs → WentOn t shows n made k so_far → next made ≡ None → so_far ≡ all_say t runs
+over_says t shows n made k runs so_far l w e =
+    let same : runs - (k + 1) + (k + 1) ≡ runs = omega (arith, l) in
+    w.whole ∙ sym (say_later t (k + 1) (runs - (k + 1)) (w.further ∙ e)) ∙ ap (all_say t) same
+
 pub over_whole : (t : Tree (Option (List ℕ))) (shows : List ℕ → Option (List ℕ)) (n : BTreeMap (Vec ℕ) (Vec ℕ)) (made : List Pick) (k runs : ℕ) (so_far : Bool) → k < runs → WentOn t shows n made k so_far → next made ≡ None → so_far ≡ is_searched t runs
 over_whole t shows n made k runs so_far l w e = w.whole ∙ sym (searched t (k + 1) runs (omega (arith, l)) (w.further ∙ e))
 
 pub over_all : (t : Tree (Option (List ℕ))) (shows : List ℕ → Option (List ℕ)) (n : BTreeMap (Vec ℕ) (Vec ℕ)) (made : List Pick) (k : ℕ) (so_far : Bool) → WentOn t shows n made k so_far → next made ≡ None → so_far ≡ true → AllLeaves (IsAmongFound n) t
 over_all t shows n made k so_far w e b = onward_none (IsAmongFound n) t (next made) e (w.onward b)
+
+-- where all runs that were asked for are made, and one is left
+pub left_some : (t : Tree (Option (List ℕ))) (runs : ℕ) (numbers : List ℕ) → nth t runs ≡ Some numbers → true ≡ is_some (nth t runs)
+left_some t runs numbers e = sym (ap is_some e)
+
+pub left_unsearched : (t : Tree (Option (List ℕ))) (n : BTreeMap (Vec ℕ) (Vec ℕ)) (runs : ℕ) (numbers : List ℕ) → nth t runs ≡ Some numbers → is_searched t runs ≡ true → AllLeaves (IsAmongFound n) t
+left_unsearched t n runs numbers e h =
+    let no : false ≡ true = sym (ap (λ o. is_none o && all_say t runs) e) ∙ h in
+    cc

@@ -1,7 +1,7 @@
 // The search: runs, one after the other, until no path is left or a number of runs was made.
 ghost use Rattle.std.specs.Prelude.{◌≡◌, ◌&&◌, ◌<◌, ◌≤◌, ◌^◌, ℕ, List, Option, All, true, false, Some, None, length, IfOk, OnOk, IsSomeAnd, is_some};
 ghost use Rattle.odometer.specs.Trees.{Tree, leaf, AllLeaves};
-ghost use Rattle.odometer.specs.Odometer.{path, digits, is_searched, IsPick};
+ghost use Rattle.odometer.specs.Odometer.{path, digits, nth, all_say, is_searched, IsPick};
 ghost use Rattle.odometer.specs.Found.{Shown, AreNumbers, IsAmongFound, HasRuns, Keeps, RanOn};
 
 use crate::picks::{Pick, advance};
@@ -39,12 +39,13 @@ pub trait Play {
         ensures shown { IfOk result (λ says. says ≡ true → shows self.old schedule.new.items ≡ Some text.new.items) };
 }
 
-/// What a search found: each text with a schedule that shows it, in the order of the texts' bytes; and whether no run was left and each
-/// came to something, so that no schedule shows any other text.
+/// What a search found: each text with a schedule that shows it, in the order of the texts' bytes; whether a run is left after those that
+/// were made; and whether each of these came to something. Where none is left and each did, no schedule shows any other text.
 #[derive(Drop)]
 pub struct Searched {
     pub found: BTreeMap<Vec<u8>, Vec<u32>>,
-    pub complete: bool,
+    pub left: bool,
+    pub says: bool,
 }
 
 // Writes the numbers of picks.
@@ -118,16 +119,17 @@ fn run_by<P: Play>(
 }
 
 /// Searches through the runs of `play`, the first `runs` of them, or all where there are fewer. Each text found is the one that its
-/// schedule shows, and the text of each of these runs is found. The answer is complete exactly where no run is left after these and each
-/// of them came to something; then no numbers lead to any other text. It fails only out of memory, and then nothing was found. Memory
+/// schedule shows, and the text of each of these runs is found. Where no run is left after these and each of them came to something, no
+/// numbers lead to any other text. It fails only out of memory, and then nothing was found. Memory
 /// grows with the texts and the picks of a run, not with the runs.
 pub fn search_all<P: Play>(alloc: Global, play: &mut P, runs: u32) -> Result<Searched, AllocError>
     requires { P.ready play.old }
     ensures shown { IfOk result (λ s. Shown (P.shows play.old) s.found) }
     ensures numbers { IfOk result (λ s. AreNumbers s.found) }
     ensures found { IfOk result (λ s. HasRuns s.found (P.tree play.old) runs) }
-    ensures complete { IfOk result (λ s. s.complete ≡ is_searched (P.tree play.old) runs) }
-    ensures whole { IfOk result (λ s. s.complete ≡ true → AllLeaves (IsAmongFound s.found) (P.tree play.old)) }
+    ensures left { IfOk result (λ s. s.left ≡ is_some (nth (P.tree play.old) runs)) }
+    ensures says { IfOk result (λ s. s.says ≡ all_say (P.tree play.old) runs) }
+    ensures whole { IfOk result (λ s. is_searched (P.tree play.old) runs ≡ true → AllLeaves (IsAmongFound s.found) (P.tree play.old)) }
 {
     let mut found = BTreeMap::new(alloc);
     let mut made = Vec::new(alloc);
@@ -149,13 +151,15 @@ pub fn search_all<P: Play>(alloc: Global, play: &mut P, runs: u32) -> Result<Sea
         if !advance(&mut made) {
             return Ok(Searched {
                 found,
-                complete: whole,
+                left: false,
+                says: whole,
             });
         }
         write_numbers(&made, &mut numbers)?;
     }
     Ok(Searched {
         found,
-        complete: false,
+        left: true,
+        says: whole,
     })
 }

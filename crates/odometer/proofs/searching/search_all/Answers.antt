@@ -2,7 +2,7 @@ use Rattle.std.proofs.Common.{◌≡◌, sym, ◌∙◌, ap, subst, refl, Some, 
 use Rattle.odometer.specs.Odometer.{digits, next, Before}
 use Rattle.odometer.specs.Found.{IsAmongFound}
 use Rattle.odometer.proofs.TreeLaws.{before_nil}
-use Rattle.odometer.proofs.FoundLaws.{none_shown, none_numbers, onward_some, went_on, over_found, over_whole, over_all}
+use Rattle.odometer.proofs.FoundLaws.{none_shown, none_numbers, onward_some, went_on, over_found, over_left, over_says, over_whole, over_all, left_some, left_unsearched}
 use Rattle.odometer.proofs.searching.search_all.Goals as goal
 
 pub loop-run-init : goal.loop-run-init
@@ -39,19 +39,26 @@ returns-then-not-advance-clause-found g c =
     c.loop-run.invariant.shown c.loop-run.invariant.numbers_fit c.loop-run.invariant.found c.loop-run.invariant.whole c.loop-run.invariant.before c.in_ok-says.ensures.says c.both-whole.ensures in
     over_found (g.P.Play.tree c.args.play.now) (g.P.Play.shows c.args.play.now) c.run_by.new.found c.run_by.new.made.items c.loop-run._run c.args.runs c.both-whole.result w (c.if-not-advance.ensures.last refl)
 
-pub returns-then-not-advance-clause-complete : goal.returns-then-not-advance-clause-complete
-returns-then-not-advance-clause-complete g c =
+pub returns-then-not-advance-clause-left : goal.returns-then-not-advance-clause-left
+returns-then-not-advance-clause-left g c =
     let w = went_on (g.P.Play.tree c.loop-run.play) (g.P.Play.tree c.args.play.now) (g.P.Play.shows c.loop-run.play) (g.P.Play.shows c.args.play.now) c.loop-run.found c.run_by.new.found c.loop-run.numbers.items c.deref.result.now c.run_by.new.made.items
     c.loop-run._run c.loop-run.whole c.in_ok-says.says c.both-whole.result c.loop-run.invariant.same c.loop-run.invariant.same_shows c.deref.ensures.value c.loop-run.invariant.numbers c.in_ok-says.ensures.found c.in_ok-says.ensures.path
     c.loop-run.invariant.shown c.loop-run.invariant.numbers_fit c.loop-run.invariant.found c.loop-run.invariant.whole c.loop-run.invariant.before c.in_ok-says.ensures.says c.both-whole.ensures in
-    over_whole (g.P.Play.tree c.args.play.now) (g.P.Play.shows c.args.play.now) c.run_by.new.found c.run_by.new.made.items c.loop-run._run c.args.runs c.both-whole.result (omega arith) w (c.if-not-advance.ensures.last refl)
+    sym (over_left (g.P.Play.tree c.args.play.now) (g.P.Play.shows c.args.play.now) c.run_by.new.found c.run_by.new.made.items c.loop-run._run c.args.runs c.both-whole.result (omega arith) w (c.if-not-advance.ensures.last refl))
+
+pub returns-then-not-advance-clause-says : goal.returns-then-not-advance-clause-says
+returns-then-not-advance-clause-says g c =
+    let w = went_on (g.P.Play.tree c.loop-run.play) (g.P.Play.tree c.args.play.now) (g.P.Play.shows c.loop-run.play) (g.P.Play.shows c.args.play.now) c.loop-run.found c.run_by.new.found c.loop-run.numbers.items c.deref.result.now c.run_by.new.made.items
+    c.loop-run._run c.loop-run.whole c.in_ok-says.says c.both-whole.result c.loop-run.invariant.same c.loop-run.invariant.same_shows c.deref.ensures.value c.loop-run.invariant.numbers c.in_ok-says.ensures.found c.in_ok-says.ensures.path
+    c.loop-run.invariant.shown c.loop-run.invariant.numbers_fit c.loop-run.invariant.found c.loop-run.invariant.whole c.loop-run.invariant.before c.in_ok-says.ensures.says c.both-whole.ensures in
+    over_says (g.P.Play.tree c.args.play.now) (g.P.Play.shows c.args.play.now) c.run_by.new.found c.run_by.new.made.items c.loop-run._run c.args.runs c.both-whole.result (omega arith) w (c.if-not-advance.ensures.last refl)
 
 pub returns-then-not-advance-clause-whole : goal.returns-then-not-advance-clause-whole
 returns-then-not-advance-clause-whole g c =
     let w = went_on (g.P.Play.tree c.loop-run.play) (g.P.Play.tree c.args.play.now) (g.P.Play.shows c.loop-run.play) (g.P.Play.shows c.args.play.now) c.loop-run.found c.run_by.new.found c.loop-run.numbers.items c.deref.result.now c.run_by.new.made.items
     c.loop-run._run c.loop-run.whole c.in_ok-says.says c.both-whole.result c.loop-run.invariant.same c.loop-run.invariant.same_shows c.deref.ensures.value c.loop-run.invariant.numbers c.in_ok-says.ensures.found c.in_ok-says.ensures.path
     c.loop-run.invariant.shown c.loop-run.invariant.numbers_fit c.loop-run.invariant.found c.loop-run.invariant.whole c.loop-run.invariant.before c.in_ok-says.ensures.says c.both-whole.ensures in
-    over_all (g.P.Play.tree c.args.play.now) (g.P.Play.shows c.args.play.now) c.run_by.new.found c.run_by.new.made.items c.loop-run._run c.both-whole.result w (c.if-not-advance.ensures.last refl)
+    λ b. over_all (g.P.Play.tree c.args.play.now) (g.P.Play.shows c.args.play.now) c.run_by.new.found c.run_by.new.made.items c.loop-run._run c.both-whole.result w (c.if-not-advance.ensures.last refl) (over_whole (g.P.Play.tree c.args.play.now) (g.P.Play.shows c.args.play.now) c.run_by.new.found c.run_by.new.made.items c.loop-run._run c.args.runs c.both-whole.result (omega arith) w (c.if-not-advance.ensures.last refl) ∙ b)
 
 pub loop-run-preserved : goal.loop-run-preserved
 loop-run-preserved g c =
