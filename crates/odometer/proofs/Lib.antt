@@ -1,3 +1,4 @@
 pub mod NextLaws
 pub mod TreeLaws
 pub mod FoundLaws
+pub mod NoteLaws

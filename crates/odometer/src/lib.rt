@@ -2,8 +2,10 @@
 //! option, as the digits of an odometer do.
 #![tactic(auto)]
 
+mod noting;
 mod picks;
 mod searching;
 
+pub use noting::note;
 pub use picks::{Pick, advance};
 pub use searching::{Play, Searched, search_all};
