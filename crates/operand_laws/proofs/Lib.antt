@@ -1,0 +1,4 @@
+mod Demanded
+mod Places
+mod Moments
+mod Picks
