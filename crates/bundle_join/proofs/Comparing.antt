@@ -1,15 +1,18 @@
 -- Lemmas on the item that another is compared with.
-use Rattle.std.specs.Prelude.{◌≡◌, ℕ, zero, suc, Bool, true, false, ◌&&◌, nat_eq, List, [], ◌∷◌, Option, Some, None, map, take, slice_get, if◌then◌else◌, refl}
+use Rattle.std.specs.Prelude.{◌≡◌, ℕ, zero, suc, Bool, true, false, ◌&&◌, nat_eq, List, [], ◌∷◌, Option, Some, None, take, slice_get, if◌then◌else◌, refl}
 use Rattle.std.specs.Option.{option_map, option_and_then}
 use Rattle.std.proofs.Common.{sym, ◌∙◌, ap}
 use Rattle.std.proofs.Math.Bool.{and_comm}
 use Rattle.std.specs.Str.{bytes_eq}
+use Rattle.std.specs.Cmp.Lexicographic.{nat_list_eq_equiv}
 use Rattle.ir_tree.specs.declared.items.Item.{Item}
 use Rattle.ir_tree.specs.declared.items.Item.TheVariants as items
 use Rattle.demands.specs.Demands.{or_else}
+use Rattle.demands.specs.Names.{Names, found}
+use Rattle.demands.specs.Numbered.{number_in}
 use Rattle.bundle_join.specs.declared.kept.Kept.{Kept}
 use Rattle.bundle_join.specs.Joined.{same_named, same_directive, first_where, compared}
-use Rattle.bundle_join.specs.Firsts.{first_number, number_at, HasItems, text_of, tag, tagged}
+use Rattle.bundle_join.specs.Firsts.{keyed, HasFirsts, HasItems, text_of, tag, tagged}
 
 -- ---- the first item of a key
 
@@ -22,11 +25,11 @@ none_in : (o : Option ℕ) → option_and_then (slice_get {X = Item} []) o ≡ N
 none_in None = refl
 none_in (Some k) = refl
 
-found_where : (f : Item → List ℕ) (key : List ℕ) (is : List Item) (n : ℕ) → option_and_then (slice_get (take n is)) (first_number key (map f is)) ≡ first_where (λ i. bytes_eq (f i) key) (take n is)
+found_where : (f : Item → List ℕ) (key : List ℕ) (is : List Item) (n : ℕ) → option_and_then (slice_get (take n is)) (number_in (keyed f is) key) ≡ first_where (λ i. bytes_eq key (f i)) (take n is)
 found_where f key [] zero = refl
 found_where f key [] (suc n) = refl
-found_where f key (i ∷ is) zero = none_in (first_number key (map f (i ∷ is)))
-found_where f key (i ∷ is) (suc n) = found_step (bytes_eq (f i) key) i (take n is) (first_number key (map f is)) (first_where (λ i. bytes_eq (f i) key) (take n is)) (found_where f key is n)
+found_where f key (i ∷ is) zero = none_in (number_in (keyed f (i ∷ is)) key)
+found_where f key (i ∷ is) (suc n) = found_step (bytes_eq key (f i)) i (take n is) (number_in (keyed f is) key) (first_where (λ i. bytes_eq key (f i)) (take n is)) (found_where f key is n)
 
 first_by : (p q : Item → Bool) → ((i : Item) → p i ≡ q i) → (is : List Item) → first_where p is ≡ first_where q is
 first_by p q h [] = refl
@@ -55,23 +58,21 @@ abbrev by_name : (k : Kept) (n : ℕ) → Item → Option Item
 by_name k n i = first_where (λ e. same_named e i) (take n k.items)
 
 module _ (k : Kept) (n : ℕ) (i : Item) (had : HasItems k) (first : List Item) (is : first ≡ take n k.items) where
-  key_found : (key : List ℕ) → key ≡ tagged i → option_and_then (slice_get first) (number_at k.tagged_names key) ≡ by_key k n i
-  key_found key e =
-      ap (λ (xs : List Item). option_and_then (slice_get xs) (number_at k.tagged_names key)) is ∙ ap (option_and_then (slice_get (take n k.items))) (had.tagged_names.first key)
-      ∙ ap (λ (x : List ℕ). option_and_then (slice_get (take n k.items)) (first_number x (map tagged k.items))) e
-      ∙ found_where tagged (tagged i) k.items n ∙ first_by (λ e. bytes_eq (tagged e) (tagged i)) (λ e. same_named e i && same_directive e i) (λ e. same_tagged e i) (take n k.items)
+  looked_up : (f : Item → List ℕ) (numbers : Names ℕ) (key : List ℕ) (p : Item → Bool) → HasFirsts f numbers k.items → key ≡ f i → ((e : Item) → bytes_eq (f e) (f i) ≡ p e)
+      → option_and_then (slice_get first) (found numbers key) ≡ first_where p (take n k.items)
+  looked_up f numbers key p has e same =
+      ap (λ (xs : List Item). option_and_then (slice_get xs) (found numbers key)) is ∙ ap (option_and_then (slice_get (take n k.items))) (has key)
+      ∙ found_where f key k.items n ∙ first_by (λ e. bytes_eq key (f e)) p (λ x. nat_list_eq_equiv.symm key (f x) ∙ ap (bytes_eq (f x)) e ∙ same x) (take n k.items)
 
-  name_found : (key : List ℕ) → key ≡ text_of i → option_and_then (slice_get first) (number_at k.names key) ≡ by_name k n i
-  name_found key e =
-      ap (λ (xs : List Item). option_and_then (slice_get xs) (number_at k.names key)) is ∙ ap (option_and_then (slice_get (take n k.items))) (had.names.first key)
-      ∙ ap (λ (x : List ℕ). option_and_then (slice_get (take n k.items)) (first_number x (map text_of k.items))) e
-      ∙ found_where text_of (text_of i) k.items n
+  key_found : (key : List ℕ) → key ≡ tagged i → option_and_then (slice_get first) (found k.tagged_names key) ≡ by_key k n i
+  key_found key e = looked_up tagged k.tagged_names key (λ e. same_named e i && same_directive e i) had.tagged_names e (λ e. same_tagged e i)
 
   -- it is the item with the key, where there is one
-  pub compared_by_key : (key : List ℕ) (o : Item) → key ≡ tagged i → Some o ≡ option_and_then (slice_get first) (number_at k.tagged_names key) → Some o ≡ compared (take n k.items) i
+  pub compared_by_key : (key : List ℕ) (o : Item) → key ≡ tagged i → Some o ≡ option_and_then (slice_get first) (found k.tagged_names key) → Some o ≡ compared (take n k.items) i
   compared_by_key key o e h = sym (ap (λ (r : Option Item). or_else r (by_name k n i)) (sym (h ∙ key_found key e)))
 
   -- and else the first of the name
-  pub compared_by_name : (key name : List ℕ) (r : Option Item) → key ≡ tagged i → name ≡ text_of i → None ≡ option_and_then (slice_get first) (number_at k.tagged_names key)
-      → r ≡ option_and_then (slice_get first) (number_at k.names name) → r ≡ compared (take n k.items) i
-  compared_by_name key name r e f h g = g ∙ name_found name f ∙ ap (λ (r : Option Item). or_else r (by_name k n i)) (h ∙ key_found key e)
+  pub compared_by_name : (key name : List ℕ) (r : Option Item) → key ≡ tagged i → name ≡ text_of i → None ≡ option_and_then (slice_get first) (found k.tagged_names key)
+      → r ≡ option_and_then (slice_get first) (found k.names name) → r ≡ compared (take n k.items) i
+  compared_by_name key name r e f h g =
+      g ∙ looked_up text_of k.names name (λ e. same_named e i) had.names f (λ e. refl) ∙ ap (λ (r : Option Item). or_else r (by_name k n i)) (h ∙ key_found key e)

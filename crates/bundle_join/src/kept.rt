@@ -1,13 +1,14 @@
 // The items that are kept, and where the first of each name is.
-ghost use Rattle.std.specs.Prelude.{◌≡◌, ◌≤◌, [], ◌∷◌, ◌++◌, false, is_some, length, take, slice_get, option_copied, IfOk, OnOk};
+ghost use Rattle.std.specs.Prelude.{◌≡◌, ◌≤◌, [], ◌∷◌, ◌++◌, length, take, slice_get, option_copied, IfOk, OnOk};
 ghost use Rattle.std.specs.Option.{option_and_then};
 ghost use Rattle.bundle_join.specs.Joined.{compared};
-ghost use Rattle.bundle_join.specs.Firsts.{number_at, HasItems, Notes, tag, tagged};
+ghost use Rattle.demands.specs.Names.{found};
+ghost use Rattle.bundle_join.specs.Firsts.{HasItems, tag, tagged};
 
 use crate::judging::name_of;
+use demands::Scope;
 use ir_tree::{Bundle, Item};
 use std::alloc::{AllocError, Global};
-use std::collections::BTreeMap;
 use text_forms::Listing;
 
 /// The items that are kept. The number of an item is found by its name in the time of the logarithm of how many there are, whatever
@@ -15,8 +16,10 @@ use text_forms::Listing;
 #[derive(Drop)]
 pub struct Kept {
     pub items: Bundle,
-    names: BTreeMap<Vec<u8>, usize>,
-    tagged_names: BTreeMap<Vec<u8>, usize>,
+    // the number of the first item of each name
+    names: Scope<usize>,
+    // the number of the first item of each directive with each name
+    tagged_names: Scope<usize>,
 }
 
 fn tag(item: &Item) -> u8
@@ -42,44 +45,12 @@ fn tagged(alloc: Global, item: &Item) -> Result<Vec<u8>, AllocError>
     Ok(key)
 }
 
-// Notes the next key, which has no number, with its own.
-fn note_new(
-    alloc: Global,
-    firsts: &mut BTreeMap<Vec<u8>, usize>,
-    key: &[u8],
-    number: usize,
-) -> Result<(), AllocError>
-    requires { is_some (number_at firsts.old key.now) ≡ false }
-    ensures { OnOk result (Notes firsts.old firsts.new key.now number) }
+// The first item with the key, where one is among these.
+fn first_of<'a>(items: &'a [Item], numbers: &Scope<usize>, key: &[u8]) -> Option<&'a Item>
+    ensures { option_copied result ≡ option_and_then (slice_get items.now) (found numbers.now key.now) }
 {
-    let copy = Vec::from_slice(alloc, key)?;
-    firsts.insert(copy, number)?;
-    Ok(())
-}
-
-// Notes the next key with its number, unless the key has one.
-#[tactic(auto, using(crate::proofs::Firsts::noted_old))]
-fn note(
-    alloc: Global,
-    firsts: &mut BTreeMap<Vec<u8>, usize>,
-    key: &[u8],
-    number: usize,
-) -> Result<(), AllocError>
-    ensures { OnOk result (Notes firsts.old firsts.new key.now number) }
-{
-    if firsts.contains_key(key) {
-        return Ok(());
-    }
-    note_new(alloc, firsts, key, number)?;
-    Ok(())
-}
-
-// The item with the number of the key, where the key has one and the item is among these.
-fn noted<'a>(items: &'a [Item], firsts: &BTreeMap<Vec<u8>, usize>, key: &[u8]) -> Option<&'a Item>
-    ensures { option_copied result ≡ option_and_then (slice_get items.now) (number_at firsts.now key.now) }
-{
-    match firsts.get(key) {
-        Some(n) => items.get(*n),
+    match numbers.find(key) {
+        Some(number) => items.get(*number),
         None => None,
     }
 }
@@ -91,8 +62,8 @@ impl Kept {
         ensures found { HasItems result }
     {
         let items = Listing::new(alloc);
-        let names = BTreeMap::new(alloc);
-        let tagged_names = BTreeMap::new(alloc);
+        let names = Scope::new(alloc);
+        let tagged_names = Scope::new(alloc);
         Kept {
             items,
             names,
@@ -118,10 +89,10 @@ impl Kept {
         let key = tagged_name.as_slice();
         let defined = name_of(item);
         let name = defined.text.as_slice();
-        match noted(first, &self.tagged_names, key) {
+        match first_of(first, &self.tagged_names, key) {
             Some(same) => Ok(Some(same)),
             None => {
-                let named = noted(first, &self.names, name);
+                let named = first_of(first, &self.names, name);
                 Ok(named)
             }
         }
@@ -136,10 +107,10 @@ impl Kept {
         let number = self.items.len();
         let tagged_name = tagged(alloc, &item)?;
         let key = tagged_name.as_slice();
-        note(alloc, &mut self.tagged_names, key, number)?;
+        self.tagged_names.define(alloc, key, number)?;
         let defined = name_of(&item);
         let name = defined.text.as_slice();
-        note(alloc, &mut self.names, name, number)?;
+        self.names.define(alloc, name, number)?;
         self.items.push(item)?;
         Ok(())
     }

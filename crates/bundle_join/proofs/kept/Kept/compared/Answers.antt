@@ -11,4 +11,4 @@ returns-in-Some c =
 pub returns : goal.returns
 returns c =
     compared_by_name c.args.self.now c.args.earlier c.args.item.now c.requires.found _ (ap (take c.args.earlier) c.as_slice-kept.ensures) c.as_slice-key.result.now c.as_slice-name.result.now _
-    (c.as_slice-key.ensures.value ∙ c.in_ok-tagged_name.ensures) (c.as_slice-name.ensures ∙ ap (λ (n : Name). n.text) c.name_of-defined.ensures) c.in-None.ensures c.noted-named.ensures
+    (c.as_slice-key.ensures.value ∙ c.in_ok-tagged_name.ensures) (c.as_slice-name.ensures ∙ ap (λ (n : Name). n.text) c.name_of-defined.ensures) c.in-None.ensures c.first_of-named.ensures
