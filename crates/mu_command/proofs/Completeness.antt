@@ -18,7 +18,7 @@ use Rattle.mu_command.specs.Job.{job_of, file_of}
 use Rattle.mu_command.specs.Written.{Writes}
 use Rattle.mu_command.specs.Central.{Answered, IsQuiet, outcome_of, outcome_named, outcomes_of, OneAnswer}
 
-within : (bytes : List ℕ) → length bytes ≤ 1048576 → outcome_of (Some bytes) ≡ got bytes
+pub within : (bytes : List ℕ) → length bytes ≤ 1048576 → outcome_of (Some bytes) ≡ got bytes
 within bytes le = let e : nat_le (length bytes) 1048576 ≡ true = grind (arith, nat_tests) in rw e refl
 
 past : (bytes : List ℕ) → 1048576 < length bytes → outcome_of (Some bytes) ≡ too_long

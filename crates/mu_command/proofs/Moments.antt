@@ -76,6 +76,7 @@ pub record Begins (words : List (List ℕ)) (r : RunJob) (code : List Item) (o :
   pub client : IsScripted code start.setting.client
   pub cells : start.setting.cells ≡ r.cells
   pub budget : start.setting.budget ≡ r.budget
+  pub rule : start.setting.rule ≡ r.rule
   pub entry : entered code (word words r.entry) ≡ Ok start.entry
 
 pub begins : (words : List (List ℕ)) (r : RunJob) (code : List Item) (o : Outcomes) (start : Started) → begun words r code o ≡ Ok start → Begins words r code o start
@@ -94,6 +95,7 @@ begins words r code o start h =
       client = is_scripted code r.auto script.0 k.0 script.2;
       cells = refl {a = r.cells};
       budget = refl {a = r.budget};
+      rule = refl {a = r.rule};
       entry = n.1;
     })
 

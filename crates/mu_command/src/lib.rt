@@ -16,5 +16,7 @@ mod writing;
 
 pub use job::{Job, RunJob};
 pub use program::{answer_is_one, mu};
-pub use sound::{printed_runs_are_judged, runs_are_sound, runs_have_their_endings};
+pub use sound::{
+    printed_runs_are_answered_yes, printed_runs_are_judged, runs_are_sound, runs_have_their_endings,
+};
 pub use words::read_words;

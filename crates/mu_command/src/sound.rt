@@ -2,7 +2,7 @@
 ghost use Rattle.std.specs.Prelude.{List, ℕ};
 ghost use Rattle.text_programs.specs.Moments.{IsSoundMoment};
 ghost use Rattle.mu_command.specs.Central.{EachMoment, EachRunEnds};
-ghost use Rattle.mu_command.specs.Judged.{PrintedRunsAreJudged};
+ghost use Rattle.mu_command.specs.Judged.{PrintedRunsAreJudged, PrintedRunsAreAnsweredYes};
 
 use ir_text::answer_is_one;
 use loaded_programs::loaded_settings_fit;
@@ -33,4 +33,12 @@ pub fn printed_runs_are_judged()
 {
     answer_is_one();
     given_runs_are_judged();
+}
+
+/// The text that is printed of a run, given to `mu judge` with the run's rule of release sequences, is answered by `yes` and the number of the
+/// run's events.
+pub fn printed_runs_are_answered_yes()
+    ensures { PrintedRunsAreAnsweredYes }
+{
+    printed_runs_are_judged();
 }
