@@ -10,7 +10,6 @@ use Rattle.mu_command.specs.declared.job.Job.TheVariants.{Check, Print, Run, Tri
 use Rattle.mu_command.specs.declared.job.RunJob.{RunJob}
 use Rattle.mu_command.specs.declared.options.Options.{Options}
 use Rattle.mu_command.specs.Job.{digits_up_to, given_once, is_digit, is_word, job_of, join_of, judge_with, most_bundles, most_cells, most_steps, no_options, number_up_to, pairs_asked, rule_named, run_with, usual_cells, usual_steps, with_all, with_auto, with_cells, with_client, with_entry, with_hail, with_option, with_rule, with_schedule, with_steps, word}
-use Rattle.mu_command.specs.Judged.{WordsAskForLittle}
 
 digits_few : (limit n m : ℕ) (bs : List ℕ) → n ≤ limit → digits_up_to limit n bs ≡ Some m → m ≤ limit
 digits_few limit n m [] l h = let same : n ≡ m = cc in omega (arith, l, same)
@@ -133,7 +132,7 @@ judge_no_run r (name ∷ []) h = cc
 judge_no_run r (name ∷ value ∷ []) h = named_no_run r (bytes_eq name (codes "--release-sequences")) (rule_named value) h
 judge_no_run r (name ∷ value ∷ next ∷ more) h = cc
 
-pub words_few : WordsAskForLittle
+pub words_few : (words : List (List ℕ)) (r : RunJob) → job_of words ≡ Some (Run r) → (r.budget ≤ most_steps) × (r.cells ≤ most_cells)
 unfolding job_of AsksLittle
 words_few words r h =
     by (nat_eq (length words) 2 && is_word words 0 (codes "check")) (nat_eq (length words) 2 && is_word words 0 (codes "print")) (nat_eq (length words) 2 && is_word words 0 (codes "trial")) (nat_le 2 (length words) && is_word words 0 (codes "run"))

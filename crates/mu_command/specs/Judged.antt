@@ -15,7 +15,7 @@ use Rattle.mu_texts.specs.Answer.{line, run_of}
 use Rattle.mu_texts.specs.Start.{Started}
 use Rattle.mu_command.specs.declared.job.RunJob.{RunJob}
 use Rattle.mu_command.specs.declared.job.Job.TheVariants.{Run, Judge}
-use Rattle.mu_command.specs.Job.{job_of, most_cells, most_steps}
+use Rattle.mu_command.specs.Job.{job_of}
 use Rattle.mu_command.specs.Allowed.{file_limit}
 use Rattle.mu_command.specs.Answer.{Outcomes, answer_of, found}
 use Rattle.mu_command.specs.Central.{outcome_of}
@@ -25,10 +25,6 @@ abbrev pub IsShort : Outcome → Type 0
 IsShort (got bytes) = length bytes ≤ file_limit
 IsShort failed = Unit {0}
 IsShort too_long = Unit {0}
-
--- The words of a run ask for no more steps and cells than they may.
-abbrev pub WordsAskForLittle : Type 0
-WordsAskForLittle = (words : List (List ℕ)) (r : RunJob) → job_of words ≡ Some (Run r) → (r.budget ≤ most_steps) × (r.cells ≤ most_cells)
 
 -- That holds of each run that words ask for and that comes to an ending, whatever the words and the files: of how it begins, of its steps, and
 -- of the text that is to be written.
