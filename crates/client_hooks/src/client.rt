@@ -32,7 +32,7 @@ pub trait Client {
     ghost advances: { Self → Self → Type 0 };
 
     /// Answers a trap, and hands the trapped stack back as it was given, with at least the room for frames that it had. Each value of a
-    /// reply has its class from the view, as zero and NULL for what is asked or as a kept value of a frame, or the client holds it;
+    /// reply is told with its class by the view, as zero and NULL for what is asked or as a kept value of a frame, or the client holds it;
     /// a stack to enter has the type `stackref`, and a function that is pushed is a value that the client holds. `Misuse` comes exactly
     /// where the answer is one. With it nothing is recorded, no watchpoint changes and no frame is popped or pushed. The machine does no
     /// edits yet, so no client replies with one.
