@@ -21,10 +21,11 @@ use Rattle.mem_axioms.specs.Lemmas.Widening.{cells-wider, sound-wider}
 use Rattle.mem_views.specs.Threads.{threads_of}
 use Rattle.mem_views.specs.Holding.{LogHolds, MadeHolds}
 use Rattle.view_parts.specs.Holding.{CellHolds}
-use Rattle.view_parts.specs.Families.{is_any, is_not_atomic, is_not_atomic_modification, has_seq_cst_order}
-use Rattle.mem_axioms.specs.Events.{is_modification, position_of}
-use Rattle.write_history.specs.Rooms.{Accesses}
-use Rattle.view_parts.specs.Indexed.{accesses_at, entries_by, entries_of, by_thread}
+use Rattle.view_parts.specs.Families.{belongs}
+use Rattle.view_parts.specs.Touched.{entries_at}
+use Rattle.mem_axioms.specs.Events.{position_of}
+use Rattle.write_history.specs.declared.access_index.Entry.{Entry}
+use Rattle.view_parts.specs.Indexed.{entries_by, by_thread}
 use Rattle.view_parts.specs.Looks.{IsMade, AllMade}
 use Rattle.view_parts.specs.declared.cell.CellViews.{CellViews}
 use Rattle.view_parts.specs.Lemmas.Entries.{entries-none}
@@ -160,11 +161,11 @@ made-few log [] m = omega arith
 made-few log (x ∷ xs) m = let e : x ∷ xs ≡ threads_of log = m.all (omega arith) in let l = ap (λ (ys : List ℕ). length ys) e in omega (arith, l)
 
 -- only made threads have entries
-pub entries-made : (position : ℕ → Event → ℕ) (test : ℕ → Event → Bool) (rule : Rule) (objects : List (List Scalar)) (log : List Event) (made : List ℕ) (indexes : List Accesses)
-    → LogHolds rule objects log → MadeHolds made log → ((u : ℕ) (e : Event) → test u e ≡ true → u ≡ e.thread) → ((u : ℕ) → accesses_at indexes u ≡ entries_by position (test u) log) → IsMade made indexes
-entries-made position test rule objects log made indexes h m own ix u = go (is_thread log u) refl (nothing-before log made m)
+pub entries-made : (position : ℕ → Event → ℕ) (test : ℕ → Event → Bool) (rule : Rule) (objects : List (List Scalar)) (log : List Event) (made : List ℕ) (entries : ℕ → List Entry)
+    → LogHolds rule objects log → MadeHolds made log → ((u : ℕ) (e : Event) → test u e ≡ true → u ≡ e.thread) → ((u : ℕ) → entries u ≡ entries_by position (test u) log) → IsMade made entries
+entries-made position test rule objects log made entries h m own ix u = go (is_thread log u) refl (nothing-before log made m)
   where
-    none : ((i : ℕ) (e : Event) → event_at log i ≡ Some e → test u e ≡ false) → accesses_at indexes u ≡ []
+    none : ((i : ℕ) (e : Event) → event_at log i ≡ Some e → test u e ≡ false) → entries u ≡ []
     none f = ix u ∙ entries-none position (test u) log f
 
     stranger : is_thread log u ≡ false → (i : ℕ) (e : Event) → event_at log i ≡ Some e → test u e ≡ false
@@ -174,7 +175,7 @@ entries-made position test rule objects log made indexes h m own ix u = go (is_t
         pick false p = refl
         pick true p = let o = own u e p in absurd (false≢true (sym q ∙ rw o (h.threads i e at)))
 
-    go : (b : Bool) → is_thread log u ≡ b → (log ≡ []) ⊎ (made ≡ threads_of log) → Contains made u ⊎ (accesses_at indexes u ≡ [])
+    go : (b : Bool) → is_thread log u ≡ b → (log ≡ []) ⊎ (made ≡ threads_of log) → Contains made u ⊎ (entries u ≡ [])
     go b p (inl z) = inr (ix u ∙ ap (λ (l : List Event). entries_by position (test u) l) z)
     go true p (inr z) = inl (rw z (threads-listed log u p))
     go false p (inr z) = inr (none (stranger p))
@@ -187,16 +188,7 @@ family-own family cell u e h = eqb-true u e.thread (last (accesses cell e && fam
     last false b h = absurd (false≢true h)
 
 pub cell-made : (rule : Rule) (objects : List (List Scalar)) (log : List Event) (made : List ℕ) (cell : CellId) (kept : CellViews) → LogHolds rule objects log → MadeHolds made log → CellHolds log cell kept → AllMade made kept
-cell-made rule objects log made cell kept h m c = record {
-  all = one is_any kept.all.items c.all;
-  modifications = one is_modification kept.modifications.items c.modifications;
-  not_atomic = one is_not_atomic kept.not_atomic.items c.not_atomic;
-  not_atomic_modifications = one is_not_atomic_modification kept.not_atomic_modifications.items c.not_atomic_modifications;
-  seq_cst = one has_seq_cst_order kept.seq_cst.items c.seq_cst;
-}
-  where
-    one : (family : Event → Bool) (indexes : List Accesses) → ((u : ℕ) → accesses_at indexes u ≡ entries_of (by_thread family cell u) log) → IsMade made indexes
-    one family indexes ix = entries-made (λ n e. position_of e) (λ u. by_thread family cell u) rule objects log made indexes h m (family-own family cell) ix
+cell-made rule objects log made cell kept h m c family = entries-made (λ n e. position_of e) (λ u. by_thread (belongs family) cell u) rule objects log made (entries_at kept.accesses family) h m (family-own (belongs family) cell) (c.accesses family)
 
 -- a made thread joins the list
 more-kind : (t : ℕ) (k : Kind) (log : List Event) (made made' : List ℕ) → 0 < length made → MadeHolds made log

@@ -287,7 +287,7 @@ impl ViewMemory {
         let limit = self.limit(thread, known, order, steps);
         // Without a fence neither SEQ_CST accesses nor fences raise the floor.
         if limit == 0 && !seq_cst(order) {
-            return found_floor(&kept.all, &self.made, known, steps);
+            return found_floor(kept, &self.made, known, steps);
         }
         let below = Clock::below(limit);
         let before = fences_before(&self.rows, order, limit);

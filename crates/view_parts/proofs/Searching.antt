@@ -5,8 +5,7 @@ use Rattle.std.proofs.Math.Nat.{suc-mul}
 use Rattle.std.proofs.lemmas.Bool.{cases_lt, ne_eqb, eq-eqb, false≢true}
 use Rattle.std.proofs.lemmas.List.{get_or_default}
 use Rattle.write_history.specs.Indexes.{first_after}
-use Rattle.write_history.specs.Rooms.{Accesses}
-use Rattle.view_parts.specs.Indexed.{accesses_at}
+use Rattle.write_history.specs.declared.access_index.Entry.{Entry}
 use Rattle.view_parts.specs.LookUps.{earlier, LeastOf, FirstAfter}
 
 pub cost-more : (k d first now now' : ℕ) → now ≤ first + k * (d + 1) → now' ≤ now + (d + 1) → now' ≤ first + (k + 1) * (d + 1)
@@ -28,33 +27,33 @@ least-more S (Some a) (Some b) h = (pick (cases_lt a b), λ j s. elim s [ inl p 
     pick (inr p) = let e : min a b ≡ b = omega arith in inr (rw e refl)
 
 -- among the first k threads of a list
-abbrev pub FirstAmong : List Accesses → List ℕ → ℕ → List ℕ → ℕ → ℕ → Type 0
-FirstAmong indexes clock own threads k i = (m : ℕ) × (m < k) × FirstAfter indexes clock own (slice_index threads m) i
+abbrev pub FirstAmong : (ℕ → List Entry) → List ℕ → ℕ → List ℕ → ℕ → ℕ → Type 0
+FirstAmong entries clock own threads k i = (m : ℕ) × (m < k) × FirstAfter entries clock own (slice_index threads m) i
 
-pub first-none : (indexes : List Accesses) (clock : List ℕ) (own : ℕ) (threads : List ℕ) → LeastOf (FirstAmong indexes clock own threads 0) None
-first-none indexes clock own threads = λ i s. (let l = s.1 in omega arith)
+pub first-none : (entries : ℕ → List Entry) (clock : List ℕ) (own : ℕ) (threads : List ℕ) → LeastOf (FirstAmong entries clock own threads 0) None
+first-none entries clock own threads = λ i s. (let l = s.1 in omega arith)
 
-pub first-more : (indexes : List Accesses) (clock : List ℕ) (own : ℕ) (threads : List ℕ) (k : ℕ) (a o : Option ℕ) → LeastOf (FirstAmong indexes clock own threads k) a
-    → o ≡ cond (eqb (slice_index threads k) own) None (first_after (slice_index clock (slice_index threads k)) (accesses_at indexes (slice_index threads k)))
-    → LeastOf (FirstAmong indexes clock own threads (k + 1)) (earlier a o)
-first-more indexes clock own threads k a o h e = least-same (λ i. FirstAmong indexes clock own threads k i ⊎ (o ≡ Some i)) (FirstAmong indexes clock own threads (k + 1)) (earlier a o)
+pub first-more : (entries : ℕ → List Entry) (clock : List ℕ) (own : ℕ) (threads : List ℕ) (k : ℕ) (a o : Option ℕ) → LeastOf (FirstAmong entries clock own threads k) a
+    → o ≡ cond (eqb (slice_index threads k) own) None (first_after (slice_index clock (slice_index threads k)) (entries (slice_index threads k)))
+    → LeastOf (FirstAmong entries clock own threads (k + 1)) (earlier a o)
+first-more entries clock own threads k a o h e = least-same (λ i. FirstAmong entries clock own threads k i ⊎ (o ≡ Some i)) (FirstAmong entries clock own threads (k + 1)) (earlier a o)
     (λ i s. elim (cases_lt s.0 k) [ inl p ↦ inl (s.0, p, s.2) | inr p ↦ (let l = s.1 in let z : s.0 ≡ k = omega arith in inr (there i (rw z at s.2))) ])
     (λ i s. elim s [ inl p ↦ (p.0, (let l = p.1 in omega arith), p.2) | inr p ↦ (k, omega arith, back i (sym e ∙ p)) ])
-    (least-more (FirstAmong indexes clock own threads k) a o h)
+    (least-more (FirstAmong entries clock own threads k) a o h)
   where
-    there : (i : ℕ) → FirstAfter indexes clock own (slice_index threads k) i → o ≡ Some i
+    there : (i : ℕ) → FirstAfter entries clock own (slice_index threads k) i → o ≡ Some i
     there i s = e ∙ rw (ne_eqb (slice_index threads k) own s.0) s.1
 
-    back : (i : ℕ) → cond (eqb (slice_index threads k) own) None (first_after (slice_index clock (slice_index threads k)) (accesses_at indexes (slice_index threads k))) ≡ Some i → FirstAfter indexes clock own (slice_index threads k) i
+    back : (i : ℕ) → cond (eqb (slice_index threads k) own) None (first_after (slice_index clock (slice_index threads k)) (entries (slice_index threads k))) ≡ Some i → FirstAfter entries clock own (slice_index threads k) i
     back i s = go (eqb (slice_index threads k) own) refl
       where
-        go : (b : Bool) → eqb (slice_index threads k) own ≡ b → FirstAfter indexes clock own (slice_index threads k) i
+        go : (b : Bool) → eqb (slice_index threads k) own ≡ b → FirstAfter entries clock own (slice_index threads k) i
         go true p = let q : None ≡ Some i = rw p at s in absurd (cc)
         go false p = (λ z. false≢true (sym p ∙ eq-eqb (slice_index threads k) own z), rw p at s)
 
-pub first-all : (indexes : List Accesses) (clock : List ℕ) (own : ℕ) (threads : List ℕ) (k : ℕ) (a : Option ℕ) → LeastOf (FirstAmong indexes clock own threads k) a → k ≡ length threads
-    → ((u : ℕ) → Contains threads u ⊎ (accesses_at indexes u ≡ [])) → LeastOf (λ i. (u : ℕ) × FirstAfter indexes clock own u i) a
-first-all indexes clock own threads k a h l made = least-same (FirstAmong indexes clock own threads k) (λ i. (u : ℕ) × FirstAfter indexes clock own u i) a
+pub first-all : (entries : ℕ → List Entry) (clock : List ℕ) (own : ℕ) (threads : List ℕ) (k : ℕ) (a : Option ℕ) → LeastOf (FirstAmong entries clock own threads k) a → k ≡ length threads
+    → ((u : ℕ) → Contains threads u ⊎ (entries u ≡ [])) → LeastOf (λ i. (u : ℕ) × FirstAfter entries clock own u i) a
+first-all entries clock own threads k a h l made = least-same (FirstAmong entries clock own threads k) (λ i. (u : ℕ) × FirstAfter entries clock own u i) a
     (λ i s. elim (made s.0) [
       | inl m ↦ (let e : slice_index threads m.0 ≡ s.0 = get_or_default threads m.0 0 s.0 m.1 ∙ m.2 in (m.0, (let b = m.1 in omega arith), rw e s.1))
       | inr e ↦ (let q : None ≡ Some i = rw e at s.1.1 in absurd (cc))

@@ -12,7 +12,9 @@ use Rattle.clocks.specs.Tables.{table_at, row_at}
 use Rattle.clocks.specs.Spans.{Spans}
 use Rattle.view_parts.specs.CellClocks.{released_at, sequence_at, Named}
 use Rattle.view_parts.specs.Indexed.{accesses_at, entries_by, entries_of, by_thread}
-use Rattle.view_parts.specs.Families.{is_any, is_not_atomic, is_not_atomic_modification, has_seq_cst_order}
+use Rattle.view_parts.specs.declared.families.Family.{Family}
+use Rattle.view_parts.specs.Families.{belongs}
+use Rattle.view_parts.specs.Touched.{entries_at}
 use Rattle.view_parts.specs.declared.cell.CellViews.{CellViews}
 use Rattle.view_parts.specs.declared.rows.Rows.{Rows}
 
@@ -39,11 +41,7 @@ pub record RowsHold (rule : Rule) (log : List Event) (rows : Rows) : Type 0 wher
 -- What is kept of a cell: its values and its accesses.
 pub record CellHolds (log : List Event) (cell : CellId) (kept : CellViews) : Type 0 where
   pub values : kept.history.values ≡ values_of log cell
-  pub all : (u : ℕ) → accesses_at kept.all.items u ≡ entries_of (by_thread is_any cell u) log
-  pub modifications : (u : ℕ) → accesses_at kept.modifications.items u ≡ entries_of (by_thread is_modification cell u) log
-  pub not_atomic : (u : ℕ) → accesses_at kept.not_atomic.items u ≡ entries_of (by_thread is_not_atomic cell u) log
-  pub not_atomic_modifications : (u : ℕ) → accesses_at kept.not_atomic_modifications.items u ≡ entries_of (by_thread is_not_atomic_modification cell u) log
-  pub seq_cst : (u : ℕ) → accesses_at kept.seq_cst.items u ≡ entries_of (by_thread has_seq_cst_order cell u) log
+  pub accesses : (family : Family) (u : ℕ) → entries_at kept.accesses family u ≡ entries_of (by_thread (belongs family) cell u) log
 
 -- The clocks of the positions of a cell, and of its sequences that go on.
 pub record ClocksHold (rule : Rule) (log : List Event) (clocks : Spans) (cell : CellId) (kept : CellViews) : Type 0 where

@@ -11,3 +11,4 @@ pub mod FloorFound
 pub mod NoneFound
 pub mod RaceFound
 pub mod Owning
+pub mod Places

@@ -2,6 +2,8 @@
 pub mod Indexed
 pub mod RowsAdded
 pub mod Families
+pub mod Slots
+pub mod Touched
 pub mod CellClocks
 pub mod CellAdded
 pub mod LookUps

@@ -2,18 +2,17 @@
 ghost use Rattle.std.specs.Prelude.{◌≡◌, true, ℕ, suc, ◌+◌, ◌-◌, ◌<◌, ◌≤◌, ◌==◌, ◌&&◌, ◌∷◌, [], ◌++◌, All, if◌then◌else◌, max, length, slice_index, vec_len, vec_capacity, OnOk, IfOk};
 ghost use Rattle.mem_axioms.specs.Events.{is_modification, is_update, position_of, value_of};
 ghost use Rattle.mem_axioms.specs.Synchronizes.{continues};
-ghost use Rattle.view_parts.specs.Families.{is_not_atomic, is_not_atomic_modification, has_seq_cst_order};
 ghost use Rattle.clocks.specs.Knowing.{known_by};
 ghost use Rattle.clocks.specs.KeptClocks.{kept_at, Grown};
-ghost use Rattle.view_parts.specs.Indexed.{index_at, accesses_at};
 
-use crate::indexes;
+use crate::families::NextEvent;
+use crate::touched::CellAccesses;
 use clocks::{Clock, ClockList, keep_with};
-use mem_axioms::event_facts::{atomic, modification, order_in, position_in, seq_cst, update};
+use mem_axioms::event_facts::{atomic, modification, order_in, position_in, update};
 use mem_axioms::{Event, Kind, Rule};
 use mu_values::Scalar;
 use std::alloc::{AllocError, Global};
-use write_history::{AccessIndex, History};
+use write_history::History;
 
 /// What is kept of a cell that was touched: its values, what its positions release, and its accesses by thread.
 #[derive(Drop)]
@@ -23,22 +22,8 @@ pub struct CellViews {
     pub released: Vec<u32>,
     /// The same of the newest position, of the heads by each thread alone.
     pub sequence: Vec<u32>,
-    pub all: Vec<AccessIndex>,
-    pub modifications: Vec<AccessIndex>,
-    pub not_atomic: Vec<AccessIndex>,
-    pub not_atomic_modifications: Vec<AccessIndex>,
-    pub seq_cst: Vec<AccessIndex>,
-}
-
-/// An event that is added.
-#[derive(Clone, Copy)]
-pub struct NextEvent<'a> {
-    /// The event.
-    pub event: &'a Event,
-    /// How many events came before it.
-    pub number: u32,
-    /// The clock that it gives to the sequences that it heads, if it gives one.
-    pub given: &'a Option<Clock>,
+    /// Its accesses by thread.
+    pub accesses: CellAccesses,
 }
 
 /// The value of an access, or NULL.
@@ -49,27 +34,6 @@ fn value_in(event: &Event) -> Scalar
         Kind::Access { value, .. } => value,
         _ => Scalar::Null,
     }
-}
-
-/// Whether the event is a NOT_ATOMIC access.
-pub fn not_atomic(event: &Event) -> bool
-    ensures { result ≡ is_not_atomic event.now }
-{
-    !atomic(order_in(event))
-}
-
-/// Whether the event is a NOT_ATOMIC write or update.
-fn not_atomic_modification(event: &Event) -> bool
-    ensures { result ≡ is_not_atomic_modification event.now }
-{
-    not_atomic(event) && modification(event)
-}
-
-/// Whether the event has SEQ_CST order.
-fn with_seq_cst(event: &Event) -> bool
-    ensures { result ≡ has_seq_cst_order event.now }
-{
-    seq_cst(order_in(event))
 }
 
 /// Whether a write or update goes on the sequences of its own thread.
@@ -162,22 +126,6 @@ fn go_on(sequence: &mut Vec<u32>, event: &Event, own: u32)
     sequence[event.thread as usize] = own;
 }
 
-/// Adds an entry for an access if it belongs to the indexes.
-fn index_if(indexes: &mut Vec<AccessIndex>, belongs: bool, next: NextEvent)
-    requires number { next.number < 4294967295 }
-    requires there { next.event.now.thread < length indexes.old.items }
-    requires room { 0 < (index_at indexes.old.items next.event.now.thread).spare }
-    requires above { All (λ entry. entry.event < suc next.number) (accesses_at indexes.old.items next.event.now.thread) }
-    ensures entries { (u : ℕ) → accesses_at indexes.new.items u ≡ (if belongs && (u == next.entry.event.now.thread) then record { event = suc next.entry.number; position = position_of next.entry.event.now } ∷ accesses_at indexes.old.items u else accesses_at indexes.old.items u) }
-    ensures spare { (u : ℕ) → (index_at indexes.old.items u).spare ≤ (index_at indexes.new.items u).spare + 1 }
-    ensures len { length indexes.new.items ≡ length indexes.old.items }
-{
-    if belongs {
-        let thread = next.event.thread as usize;
-        indexes::push(indexes, thread, next.number + 1, position_in(next.event));
-    }
-}
-
 /// A write or update makes the next position.
 fn make_position(history: &mut History, event: &Event)
     requires room { 0 < history.old.spare }
@@ -256,11 +204,7 @@ impl CellViews {
             history,
             released,
             sequence: Vec::new(alloc),
-            all: Vec::new(alloc),
-            modifications: Vec::new(alloc),
-            not_atomic: Vec::new(alloc),
-            not_atomic_modifications: Vec::new(alloc),
-            seq_cst: Vec::new(alloc),
+            accesses: CellAccesses::new(alloc),
         })
     }
 
@@ -275,11 +219,7 @@ impl CellViews {
         self.history.reserve_many(count)?;
         self.released.reserve(count)?;
         grow_to(&mut self.sequence, thread)?;
-        indexes::reserve(&mut self.all, alloc, thread, count)?;
-        indexes::reserve(&mut self.modifications, alloc, thread, count)?;
-        indexes::reserve(&mut self.not_atomic, alloc, thread, count)?;
-        indexes::reserve(&mut self.not_atomic_modifications, alloc, thread, count)?;
-        indexes::reserve(&mut self.seq_cst, alloc, thread, count)
+        self.accesses.reserve(alloc, thread, count)
     }
 
     /// Adds an access of the cell.
@@ -298,14 +238,6 @@ impl CellViews {
         let event = next.event;
         make_position(&mut self.history, event);
         release_position(rule, clocks, &mut self.released, &mut self.sequence, next);
-        index_if(&mut self.all, true, next);
-        index_if(&mut self.modifications, modification(event), next);
-        index_if(&mut self.not_atomic, not_atomic(event), next);
-        index_if(
-            &mut self.not_atomic_modifications,
-            not_atomic_modification(event),
-            next,
-        );
-        index_if(&mut self.seq_cst, with_seq_cst(event), next);
+        self.accesses.add(next);
     }
 }

@@ -2,8 +2,21 @@
 ghost use Rattle.std.specs.Prelude.{◌≡◌, ℕ, ◌+◌, ◌<◌, ◌≤◌, ◌==◌, ◌∷◌, All, if◌then◌else◌, length, OnOk};
 ghost use Rattle.view_parts.specs.Indexed.{index_at, accesses_at};
 
+use crate::look_ups::ByThread;
 use std::alloc::{AllocError, Global};
 use write_history::AccessIndex;
+
+impl ByThread for Vec<AccessIndex> {
+    ghost entries = { λ indexes. accesses_at indexes.items };
+
+    fn index(&self, thread: usize) -> Option<&AccessIndex> {
+        if thread < self.len() {
+            Some(&self[thread])
+        } else {
+            None
+        }
+    }
+}
 
 /// Makes the indexes up to that of a thread, and room for that many more entries in that of the thread.
 pub fn reserve(

@@ -15,7 +15,8 @@ ghost use Rattle.view_parts.specs.Roominess.{CellFits};
 ghost use Rattle.view_parts.specs.Holding.{CellsHold};
 ghost use Rattle.view_parts.specs.declared.cell.CellViews.{CellViews};
 
-use crate::cell::{CellViews, NextEvent};
+use crate::cell::CellViews;
+use crate::families::NextEvent;
 use crate::places::CellPlaces;
 use clocks::ClockList;
 use heap_cells::CellId;

@@ -3,6 +3,7 @@
 #![tactic(auto)]
 
 mod cell;
+mod families;
 pub mod floors;
 pub mod gains;
 mod indexes;
@@ -11,7 +12,10 @@ pub mod look_ups;
 mod places;
 pub mod racing;
 mod rows;
+mod touched;
 
-pub use cell::{CellViews, NextEvent};
+pub use cell::CellViews;
+pub use families::{Family, NextEvent};
 pub use places::CellPlaces;
 pub use rows::Rows;
+pub use touched::CellAccesses;

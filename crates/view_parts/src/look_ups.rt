@@ -1,7 +1,7 @@
 // Look-ups in indexes by thread, one for each of the threads that were made.
-ghost use Rattle.std.specs.Prelude.{◌≡◌, ℕ, ◌+◌, ◌*◌, ◌^◌, ◌<◌, ◌≤◌, ◌==◌, ◌⊎◌, [], None, if◌then◌else◌, max, length, slice_index, unwrap_or, All, Contains};
+ghost use Rattle.std.specs.Prelude.{◌≡◌, ℕ, ◌+◌, ◌*◌, ◌^◌, ◌<◌, ◌≤◌, ◌==◌, ◌⊎◌, List, [], None, if◌then◌else◌, max, length, slice_index, unwrap_or, All, Contains, MatchOption};
 ghost use Rattle.write_history.specs.Indexes.{last_position, first_after};
-ghost use Rattle.view_parts.specs.Indexed.{accesses_at};
+ghost use Rattle.write_history.specs.declared.access_index.Entry.{Entry};
 ghost use Rattle.view_parts.specs.LookUps.{position_known, FirstAfter, earlier, LeastOf};
 
 use clocks::Clock;
@@ -9,35 +9,44 @@ use mu_base::Steps;
 use std::sync::ledger::Ledger;
 use write_history::AccessIndex;
 
+/// Entries that are found by thread.
+pub trait ByThread {
+    /// The entries of each thread, newest first.
+    ghost entries: { Self → ℕ → List Entry };
+
+    /// The index of a thread, if it has one. A thread without one has no entries.
+    fn index(&self, thread: usize) -> Option<&AccessIndex>
+        ensures { MatchOption result (entries self.now thread ≡ []) (λ found. found.now.accesses ≡ entries self.now thread) };
+}
+
 /// The last position of a thread up to a number, or 0.
-fn floor_at<L: Ledger>(
-    indexes: &[AccessIndex],
+fn floor_at<E: ByThread, L: Ledger>(
+    indexes: &E,
     thread: usize,
     known: u32,
     steps: &mut Steps<L>,
 ) -> u32
-    ensures found { result ≡ unwrap_or (last_position known (accesses_at indexes.now thread)) 0 }
-    ensures cost { (d : ℕ) → length (accesses_at indexes.now thread) < 2 ^ d → steps.new ≤ steps.old + (d + 1) }
+    ensures found { result ≡ unwrap_or (last_position known (E.entries indexes.now thread)) 0 }
+    ensures cost { (d : ℕ) → length (E.entries indexes.now thread) < 2 ^ d → steps.new ≤ steps.old + (d + 1) }
 {
-    if thread < indexes.len() {
-        indexes[thread].floor(known, steps).unwrap_or(0)
-    } else {
-        0
+    match indexes.index(thread) {
+        Some(index) => index.floor(known, steps).unwrap_or(0),
+        None => 0,
     }
 }
 
 /// The greatest position that a clock knows, or 0, by one look-up for each thread.
-pub fn floor_over<L: Ledger>(
-    indexes: &[AccessIndex],
+pub fn floor_over<E: ByThread, L: Ledger>(
+    indexes: &E,
     threads: &[u32],
     clock: &Clock,
     steps: &mut Steps<L>,
 ) -> u32
     requires few { All (λ t. t < 64) threads.now }
-    requires made { (u : ℕ) → Contains threads.now u ⊎ (accesses_at indexes.now u ≡ []) }
-    ensures above { (u : ℕ) → position_known indexes.now clock.now u ≤ result }
-    ensures least { (p : ℕ) → ((u : ℕ) → position_known indexes.now clock.now u ≤ p) → result ≤ p }
-    ensures cost { (d : ℕ) → ((u : ℕ) → length (accesses_at indexes.now u) < 2 ^ d) → steps.new ≤ steps.old + length threads.now * (d + 1) }
+    requires made { (u : ℕ) → Contains threads.now u ⊎ (E.entries indexes.now u ≡ []) }
+    ensures above { (u : ℕ) → position_known (E.entries indexes.now) clock.now u ≤ result }
+    ensures least { (p : ℕ) → ((u : ℕ) → position_known (E.entries indexes.now) clock.now u ≤ p) → result ≤ p }
+    ensures cost { (d : ℕ) → ((u : ℕ) → length (E.entries indexes.now u) < 2 ^ d) → steps.new ≤ steps.old + length threads.now * (d + 1) }
 {
     let mut greatest = 0;
     for thread in threads {
@@ -55,20 +64,22 @@ pub fn greater(a: u32, b: u32) -> u32
 }
 
 /// The first entry of a thread, another than the given one, after a number.
-fn after_at<L: Ledger>(
-    indexes: &[AccessIndex],
+fn after_at<E: ByThread, L: Ledger>(
+    indexes: &E,
     thread: usize,
     own: usize,
     known: u32,
     steps: &mut Steps<L>,
 ) -> Option<u32>
-    ensures found { result ≡ (if thread == own then None else first_after known (accesses_at indexes.now thread)) }
-    ensures cost { (d : ℕ) → length (accesses_at indexes.now thread) < 2 ^ d → steps.new ≤ steps.old + (d + 1) }
+    ensures found { result ≡ (if thread == own then None else first_after known (E.entries indexes.now thread)) }
+    ensures cost { (d : ℕ) → length (E.entries indexes.now thread) < 2 ^ d → steps.new ≤ steps.old + (d + 1) }
 {
-    if thread != own && thread < indexes.len() {
-        indexes[thread].after(known, steps)
-    } else {
-        None
+    if thread == own {
+        return None;
+    }
+    match indexes.index(thread) {
+        Some(index) => index.after(known, steps),
+        None => None,
     }
 }
 
@@ -83,17 +94,17 @@ fn earlier_of(a: Option<u32>, b: Option<u32>) -> Option<u32>
 }
 
 /// The first entry of another thread than the given one that a clock does not know, by one look-up for each thread.
-pub fn first_unknown<L: Ledger>(
-    indexes: &[AccessIndex],
+pub fn first_unknown<E: ByThread, L: Ledger>(
+    indexes: &E,
     threads: &[u32],
     own: usize,
     clock: &Clock,
     steps: &mut Steps<L>,
 ) -> Option<u32>
     requires few { All (λ t. t < 64) threads.now }
-    requires made { (u : ℕ) → Contains threads.now u ⊎ (accesses_at indexes.now u ≡ []) }
-    ensures least { LeastOf (λ i. (u : ℕ) × FirstAfter indexes.now clock.now own u i) result }
-    ensures cost { (d : ℕ) → ((u : ℕ) → length (accesses_at indexes.now u) < 2 ^ d) → steps.new ≤ steps.old + length threads.now * (d + 1) }
+    requires made { (u : ℕ) → Contains threads.now u ⊎ (E.entries indexes.now u ≡ []) }
+    ensures least { LeastOf (λ i. (u : ℕ) × FirstAfter (E.entries indexes.now) clock.now own u i) result }
+    ensures cost { (d : ℕ) → ((u : ℕ) → length (E.entries indexes.now u) < 2 ^ d) → steps.new ≤ steps.old + length threads.now * (d + 1) }
 {
     let mut least = None;
     for thread in threads {

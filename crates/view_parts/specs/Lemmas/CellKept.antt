@@ -10,14 +10,14 @@ use Rattle.mem_axioms.specs.declared.types.Kind.{Kind}
 use Rattle.mem_axioms.specs.declared.types.Kind.TheVariants.{Access, Fence, NewStack, NewThread, Leave, Enter, Wake, Woken}
 use Rattle.mem_axioms.specs.declared.types.Mode.TheVariants.{Read, Write, Update}
 use Rattle.clock_laws.specs.Clocks.{views, gives}
-use Rattle.write_history.specs.Rooms.{Accesses}
 use Rattle.clocks.specs.Knowing.{known_by}
 use Rattle.clocks.specs.Spans.{Spans}
 use Rattle.clocks.specs.KeptClocks.{kept_at, Grown}
-use Rattle.view_parts.specs.Indexed.{accesses_at, entries_of, by_thread}
-use Rattle.view_parts.specs.Families.{is_any, is_not_atomic, is_not_atomic_modification, has_seq_cst_order}
-use Rattle.view_parts.specs.CellAdded.{CellAdded, CellBelow, SameCell, IsFresh, Indexes}
-use Rattle.view_parts.specs.Looks.{IsFew, AllFew}
+use Rattle.view_parts.specs.Indexed.{entries_of, by_thread}
+use Rattle.view_parts.specs.Families.{belongs}
+use Rattle.view_parts.specs.Touched.{entries_at}
+use Rattle.view_parts.specs.CellAdded.{CellAdded, CellBelow, SameCell, IsFresh}
+use Rattle.view_parts.specs.Looks.{AllFew}
 use Rattle.view_parts.specs.Holding.{values_of, CellHolds, ClocksHold, IsUntouched}
 use Rattle.view_parts.specs.declared.cell.CellViews.{CellViews}
 use Rattle.mem_axioms.specs.Lemmas.Numbers.{event-newest}
@@ -43,25 +43,13 @@ of_cell-kind t (Woken o) c h = refl
 pub of_cell : (e : Event) (c : CellId) → accesses c e ≡ true → modifies c e ≡ is_modification e
 of_cell e c = of_cell-kind e.thread e.kind c
 
-indexes-more : (family : Event → Bool) (log : List Event) (cell : CellId) (e : Event) (old new : List Accesses) → accesses cell e ≡ true → Indexes old new (length log) e (family e)
-    → ((u : ℕ) → accesses_at old u ≡ entries_of (by_thread family cell u) log) → (u : ℕ) → accesses_at new u ≡ entries_of (by_thread family cell u) (e ∷ log)
-indexes-more family log cell e old new h a i u = a u ∙ rw (i u, h) refl
-
-indexes-same : (family : Event → Bool) (log : List Event) (cell : CellId) (e : Event) (kept : List Accesses) → accesses cell e ≡ false
-    → ((u : ℕ) → accesses_at kept u ≡ entries_of (by_thread family cell u) log) → (u : ℕ) → accesses_at kept u ≡ entries_of (by_thread family cell u) (e ∷ log)
-indexes-same family log cell e kept h i u = i u ∙ rw h refl
-
 module _ (rule : Rule) (log : List Event) (cell : CellId) (e : Event) where
   pub cell-more : (before after : Spans) (old new : CellViews) (given : Option (List ℕ)) → CellAdded rule before after old new (length log) e given → CellHolds log cell old → accesses cell e ≡ true → CellHolds (e ∷ log) cell new
   cell-more before after old new given a h s =
       let m = of_cell e cell s in
       record {
         values = a.values ∙ rw (m, h.values) refl;
-        all = indexes-more is_any log cell e old.all.items new.all.items s a.all h.all;
-        modifications = indexes-more is_modification log cell e old.modifications.items new.modifications.items s a.modifications h.modifications;
-        not_atomic = indexes-more is_not_atomic log cell e old.not_atomic.items new.not_atomic.items s a.not_atomic h.not_atomic;
-        not_atomic_modifications = indexes-more is_not_atomic_modification log cell e old.not_atomic_modifications.items new.not_atomic_modifications.items s a.not_atomic_modifications h.not_atomic_modifications;
-        seq_cst = indexes-more has_seq_cst_order log cell e old.seq_cst.items new.seq_cst.items s a.seq_cst h.seq_cst;
+        accesses = λ family u. a.accesses family u ∙ rw (h.accesses family u, s) refl;
       }
 
   -- one more position exactly where the cell is changed
@@ -87,11 +75,7 @@ module _ (rule : Rule) (log : List Event) (cell : CellId) (e : Event) where
       let m = untouched-same e cell s in
       record {
         values = h.values ∙ rw m refl;
-        all = indexes-same is_any log cell e kept.all.items s h.all;
-        modifications = indexes-same is_modification log cell e kept.modifications.items s h.modifications;
-        not_atomic = indexes-same is_not_atomic log cell e kept.not_atomic.items s h.not_atomic;
-        not_atomic_modifications = indexes-same is_not_atomic_modification log cell e kept.not_atomic_modifications.items s h.not_atomic_modifications;
-        seq_cst = indexes-same has_seq_cst_order log cell e kept.seq_cst.items s h.seq_cst;
+        accesses = λ family u. h.accesses family u ∙ rw s refl;
       }
 
   pub clocks-same : (clocks : Spans) (kept : CellViews) → ClocksHold rule log clocks cell kept → accesses cell e ≡ false → ClocksHold rule (e ∷ log) clocks cell kept
@@ -121,11 +105,7 @@ module _ (rule : Rule) (log : List Event) (cell : CellId) where
   pub cell-kept : (old new : CellViews) → SameCell old new → CellHolds log cell old → CellHolds log cell new
   cell-kept old new s h = record {
     values = s.values ∙ h.values;
-    all = λ u. s.all u ∙ h.all u;
-    modifications = λ u. s.modifications u ∙ h.modifications u;
-    not_atomic = λ u. s.not_atomic u ∙ h.not_atomic u;
-    not_atomic_modifications = λ u. s.not_atomic_modifications u ∙ h.not_atomic_modifications u;
-    seq_cst = λ u. s.seq_cst u ∙ h.seq_cst u;
+    accesses = λ family u. s.accesses family u ∙ h.accesses family u;
   }
 
   pub clocks-kept : (clocks : Spans) (old new : CellViews) → SameCell old new → ClocksHold rule log clocks cell old → ClocksHold rule log clocks cell new
@@ -141,26 +121,11 @@ module _ (rule : Rule) (log : List Event) (cell : CellId) where
 
   -- its entries have numbers of the log
   pub cell-below : (kept : CellViews) (t : ℕ) → CellHolds log cell kept → CellBelow (suc (length log)) t kept
-  cell-below kept t h = record {
-    all = rw (h.all t) (entries-below (λ n e. position_of e) (by_thread is_any cell t) log);
-    modifications = rw (h.modifications t) (entries-below (λ n e. position_of e) (by_thread is_modification cell t) log);
-    not_atomic = rw (h.not_atomic t) (entries-below (λ n e. position_of e) (by_thread is_not_atomic cell t) log);
-    not_atomic_modifications = rw (h.not_atomic_modifications t) (entries-below (λ n e. position_of e) (by_thread is_not_atomic_modification cell t) log);
-    seq_cst = rw (h.seq_cst t) (entries-below (λ n e. position_of e) (by_thread has_seq_cst_order cell t) log);
-  }
-
-  few : (family : Event → Bool) (kept : List Accesses) (d : ℕ) → ((u : ℕ) → accesses_at kept u ≡ entries_of (by_thread family cell u) log) → length log < 2 ^ d → IsFew d kept
-  few family kept d h l u = rw (h u) (let n = entries-few (λ n e. position_of e) (by_thread family cell u) log in omega arith)
+  cell-below kept t h family = rw (h.accesses family t) (entries-below (λ n e. position_of e) (by_thread (belongs family) cell t) log)
 
   -- and are no more than those of the log
   pub cell-few : (kept : CellViews) (d : ℕ) → CellHolds log cell kept → length log < 2 ^ d → AllFew d kept
-  cell-few kept d h l = record {
-    all = few is_any kept.all.items d h.all l;
-    modifications = few is_modification kept.modifications.items d h.modifications l;
-    not_atomic = few is_not_atomic kept.not_atomic.items d h.not_atomic l;
-    not_atomic_modifications = few is_not_atomic_modification kept.not_atomic_modifications.items d h.not_atomic_modifications l;
-    seq_cst = few has_seq_cst_order kept.seq_cst.items d h.seq_cst l;
-  }
+  cell-few kept d h l family u = rw (h.accesses family u) (let n = entries-few (λ n e. position_of e) (by_thread (belongs family) cell u) log in omega (arith, n, l))
 
 -- what no event accesses is as it was made
 untouched-newest : (log : List Event) (c : CellId) → IsUntouched log c → newest log c ≡ 0
@@ -185,11 +150,7 @@ untouched-entries family log c u h = entries-none (λ n e. position_of e) (by_th
 pub cell-fresh : (log : List Event) (cell : CellId) (kept : CellViews) → IsFresh kept → IsUntouched log cell → CellHolds log cell kept
 cell-fresh log cell kept f h = record {
   values = f.values ∙ sym (untouched-values log cell h);
-  all = λ u. f.all u ∙ sym (untouched-entries is_any log cell u h);
-  modifications = λ u. f.modifications u ∙ sym (untouched-entries is_modification log cell u h);
-  not_atomic = λ u. f.not_atomic u ∙ sym (untouched-entries is_not_atomic log cell u h);
-  not_atomic_modifications = λ u. f.not_atomic_modifications u ∙ sym (untouched-entries is_not_atomic_modification log cell u h);
-  seq_cst = λ u. f.seq_cst u ∙ sym (untouched-entries has_seq_cst_order log cell u h);
+  accesses = λ family u. f.accesses family u ∙ sym (untouched-entries (belongs family) log cell u h);
 }
 
 -- no number but 0 in a list of one 0

@@ -134,11 +134,8 @@ can-add rule log e clocks numbers owners kept cell count o s h l x r = record {
       history = (let q = c.history in omega arith);
       released = (let q = c.released in omega arith);
       sequence = c.sequence;
-      all = record { there = c.all.there; room = (let q = c.all.room in omega arith) };
-      modifications = record { there = c.modifications.there; room = (let q = c.modifications.room in omega arith) };
-      not_atomic = record { there = c.not_atomic.there; room = (let q = c.not_atomic.room in omega arith) };
-      not_atomic_modifications = record { there = c.not_atomic_modifications.there; room = (let q = c.not_atomic_modifications.room in omega arith) };
-      seq_cst = record { there = c.seq_cst.there; room = (let q = c.seq_cst.room in omega arith) };
+      there = c.there;
+      room = λ family. (let q = c.room family in omega arith);
     }
 
 -- less room is there too
@@ -150,11 +147,8 @@ cell-room-less count t numbers kept cell r = record { placed = r.placed; room = 
       history = (let q = c.history in omega arith);
       released = (let q = c.released in omega arith);
       sequence = c.sequence;
-      all = record { there = c.all.there; room = (let q = c.all.room in omega arith) };
-      modifications = record { there = c.modifications.there; room = (let q = c.modifications.room in omega arith) };
-      not_atomic = record { there = c.not_atomic.there; room = (let q = c.not_atomic.room in omega arith) };
-      not_atomic_modifications = record { there = c.not_atomic_modifications.there; room = (let q = c.not_atomic_modifications.room in omega arith) };
-      seq_cst = record { there = c.seq_cst.there; room = (let q = c.seq_cst.room in omega arith) };
+      there = c.there;
+      room = λ family. (let q = c.room family in omega arith);
     }
 
 -- a new place

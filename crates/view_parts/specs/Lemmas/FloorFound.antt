@@ -20,7 +20,9 @@ use Rattle.clock_laws.specs.ViewFloor.{known_access, view_limit, fences_knew, ra
 use Rattle.clock_laws.specs.Lemmas.FloorTests.{view_floor-is}
 use Rattle.clocks.specs.Tables.{table_at}
 use Rattle.view_parts.specs.Families.{is_any, has_seq_cst_order}
-use Rattle.view_parts.specs.Indexed.{by_thread}
+use Rattle.view_parts.specs.declared.families.Family.TheVariants.{Any, SeqCst}
+use Rattle.view_parts.specs.Indexed.{by_thread, accesses_at}
+use Rattle.view_parts.specs.Touched.{entries_at}
 use Rattle.view_parts.specs.Holding.{RowsHold, CellHolds, IsUntouched, fence_by}
 use Rattle.view_parts.specs.Answers.{IsKnown}
 use Rattle.view_parts.specs.FloorLooks.{IsFound, FoundFloor}
@@ -92,9 +94,9 @@ module _ (rule : Rule) (log : List Event) (thread : ℕ) where
   fences-rise : (u : ℕ) → Rises (λ n e. n) (fence_by u) log
   fences-rise u i j ei ej hi hj l ti tj = omega arith
 
-  pub limit-found : (rows : Rows) (known : List ℕ) (found : ℕ) → RowsHold rule log rows → IsKnown rule log thread known → IsFound rows.fences.items known found → found ≡ last_number is_known_fence log
+  pub limit-found : (rows : Rows) (known : List ℕ) (found : ℕ) → RowsHold rule log rows → IsKnown rule log thread known → IsFound (accesses_at rows.fences.items) known found → found ≡ last_number is_known_fence log
   limit-found rows known found h k f =
-      let low : found ≤ last_number is_known_fence log = found-below (λ n e. n) fence_by log rows.fences.items known found h.fences (λ u e t. (fence-parts u e t).1) fences-rise f (last_number is_known_fence log)
+      let low : found ≤ last_number is_known_fence log = found-below (λ n e. n) fence_by log (accesses_at rows.fences.items) known found h.fences (λ u e t. (fence-parts u e t).1) fences-rise f (last_number is_known_fence log)
       (λ y ey at t l. number-at is_known_fence log y ey at (and_from (is_seq_cst_fence ey) (ltb y ((views rule log).thread thread ey.thread)) (fence-parts ey.thread ey t).0 (lt-ltb y ((views rule log).thread thread ey.thread) (let z = k ey.thread in omega (arith, l, z))))) in
       let high : last_number is_known_fence log ≤ found = up (number-there is_known_fence log) in
       omega (arith, low, high)
@@ -104,7 +106,7 @@ module _ (rule : Rule) (log : List Event) (thread : ℕ) where
       up (inr w) =
           let p = and_parts (is_seq_cst_fence w.0) (ltb (last_number is_known_fence log) ((views rule log).thread thread w.0.thread)) w.2 in
           let l = ltb-true (last_number is_known_fence log) ((views rule log).thread thread w.0.thread) p.1 in
-          found-above (λ n e. n) fence_by log rows.fences.items known found h.fences (λ u e t. (fence-parts u e t).1) fences-rise f found (omega arith) (last_number is_known_fence log) w.0 w.1
+          found-above (λ n e. n) fence_by log (accesses_at rows.fences.items) known found h.fences (λ u e t. (fence-parts u e t).1) fences-rise f found (omega arith) (last_number is_known_fence log) w.0 w.1
           (and_from (is_seq_cst_fence w.0) (eqb w.0.thread w.0.thread) p.0 (eq-eqb w.0.thread w.0.thread refl)) (let z = k w.0.thread in omega (arith, l, z))
 
   pub limit-is : (order : Order) → is_seq_cst order ≡ false → view_limit (views rule log) log thread order ≡ last_number is_known_fence log
@@ -162,12 +164,12 @@ module _ (rule : Rule) (right : List Event → CellId → ℕ → Scalar → Boo
   own family u e t = (by-parts family cell u e t).2
 
   first-below : f.first ≤ greatest_position kinds log
-  first-below = found-below (λ n e. position_of e) (λ u. by_thread is_any cell u) log kept.all.items known f.first h.all (own is_any) (family-rises rule right log is_any cell m coherent) f.of_first (greatest_position kinds log)
+  first-below = found-below (λ n e. position_of e) (λ u. by_thread is_any cell u) log (entries_at kept.accesses Any) known f.first (h.accesses Any) (own is_any) (family-rises rule right log is_any cell m coherent) f.of_first (greatest_position kinds log)
       (λ y ey at t l. greatest-at kinds log y ey at (or_left (known_access ((views rule log).thread thread) cell y ey) _
       (and_from (accesses cell ey) (ltb y ((views rule log).thread thread ey.thread)) (by-parts is_any cell ey.thread ey t).0 (lt-ltb y ((views rule log).thread thread ey.thread) (let z = k ey.thread in omega (arith, l, z))))))
 
   second-below : f.second ≤ greatest_position kinds log
-  second-below = found-below (λ n e. position_of e) (λ u. by_thread has_seq_cst_order cell u) log kept.seq_cst.items below f.second h.seq_cst (own has_seq_cst_order) (family-rises rule right log has_seq_cst_order cell m coherent) f.of_second (greatest_position kinds log)
+  second-below = found-below (λ n e. position_of e) (λ u. by_thread has_seq_cst_order cell u) log (entries_at kept.accesses SeqCst) below f.second (h.accesses SeqCst) (own has_seq_cst_order) (family-rises rule right log has_seq_cst_order cell m coherent) f.of_second (greatest_position kinds log)
       (λ y ey at t l. greatest-at kinds log y ey at (or_right (known_access ((views rule log).thread thread) cell y ey) _
       (or_left (second_kind (view_limit (views rule log) log thread order) cell y ey) _
       (let p = by-parts has_seq_cst_order cell ey.thread ey t in
@@ -175,7 +177,7 @@ module _ (rule : Rule) (right : List Event → CellId → ℕ → Scalar → Boo
       (lt-ltb y (view_limit (views rule log) log thread order) (let z = b ey.thread (small y ey at) in omega (arith, l, z, lim)))))))
 
   third-below : f.third ≤ greatest_position kinds log
-  third-below = found-below (λ n e. position_of e) (λ u. by_thread is_any cell u) log kept.all.items before f.third h.all (own is_any) (family-rises rule right log is_any cell m coherent) f.of_third (greatest_position kinds log)
+  third-below = found-below (λ n e. position_of e) (λ u. by_thread is_any cell u) log (entries_at kept.accesses Any) before f.third (h.accesses Any) (own is_any) (family-rises rule right log is_any cell m coherent) f.of_third (greatest_position kinds log)
       (λ y ey at t l. greatest-at kinds log y ey at (or_right (known_access ((views rule log).thread thread) cell y ey) _
       (or_right (second_kind (view_limit (views rule log) log thread order) cell y ey) _
       (and_from (accesses cell ey) (ltb y (fences_knew (views rule log) (view_limit (views rule log) log thread order) order ey.thread)) (by-parts is_any cell ey.thread ey t).0
@@ -186,18 +188,18 @@ module _ (rule : Rule) (right : List Event → CellId → ℕ → Scalar → Boo
     | inl p ↦ (let q = and_parts (accesses cell ey) (ltb y ((views rule log).thread thread ey.thread)) p in
         let l = ltb-true y ((views rule log).thread thread ey.thread) q.1 in
         let z = k ey.thread in
-        found-above (λ n e. position_of e) (λ u. by_thread is_any cell u) log kept.all.items known f.first h.all (own is_any) (family-rises rule right log is_any cell m coherent) f.of_first found (omega (arith, is)) y ey at (by-from is_any cell ey q.0 refl) (omega (arith, l, z)))
+        found-above (λ n e. position_of e) (λ u. by_thread is_any cell u) log (entries_at kept.accesses Any) known f.first (h.accesses Any) (own is_any) (family-rises rule right log is_any cell m coherent) f.of_first found (omega (arith, is)) y ey at (by-from is_any cell ey q.0 refl) (omega (arith, l, z)))
     | inr r ↦ elim (or_cases (second_kind (view_limit (views rule log) log thread order) cell y ey) _ r) [
       | inl p ↦ (let q = and_parts (accesses cell ey && is_seq_cst (order_of ey)) (ltb y (view_limit (views rule log) log thread order)) p in
           let a = and_parts (accesses cell ey) (is_seq_cst (order_of ey)) q.0 in
           let l = ltb-true y (view_limit (views rule log) log thread order) q.1 in
           let z = b ey.thread (small y ey at) in
-          found-above (λ n e. position_of e) (λ u. by_thread has_seq_cst_order cell u) log kept.seq_cst.items below f.second h.seq_cst (own has_seq_cst_order) (family-rises rule right log has_seq_cst_order cell m coherent) f.of_second found (omega (arith, is)) y ey at
+          found-above (λ n e. position_of e) (λ u. by_thread has_seq_cst_order cell u) log (entries_at kept.accesses SeqCst) below f.second (h.accesses SeqCst) (own has_seq_cst_order) (family-rises rule right log has_seq_cst_order cell m coherent) f.of_second found (omega (arith, is)) y ey at
           (by-from has_seq_cst_order cell ey a.0 a.1) (omega (arith, l, z, lim)))
       | inr p ↦ (let q = and_parts (accesses cell ey) (ltb y (fences_knew (views rule log) (view_limit (views rule log) log thread order) order ey.thread)) p in
           let l = ltb-true y (fences_knew (views rule log) (view_limit (views rule log) log thread order) order ey.thread) q.1 in
           let z = s ey.thread in
-          found-above (λ n e. position_of e) (λ u. by_thread is_any cell u) log kept.all.items before f.third h.all (own is_any) (family-rises rule right log is_any cell m coherent) f.of_third found (omega (arith, is)) y ey at (by-from is_any cell ey q.0 refl) (omega (arith, l, z)))
+          found-above (λ n e. position_of e) (λ u. by_thread is_any cell u) log (entries_at kept.accesses Any) before f.third (h.accesses Any) (own is_any) (family-rises rule right log is_any cell m coherent) f.of_third found (omega (arith, is)) y ey at (by-from is_any cell ey q.0 refl) (omega (arith, l, z)))
     ]
   ]
 

@@ -16,8 +16,8 @@ use Rattle.mem_axioms.specs.Lemmas.Steps.{in-order}
 use Rattle.mem_axioms.specs.Lemmas.Positions.{form-less}
 use Rattle.mem_axioms.specs.Lemmas.Relations.{Coherence}
 use Rattle.mem_axioms.specs.Lemmas.Kept.{on_one}
-use Rattle.write_history.specs.Rooms.{Accesses}
-use Rattle.view_parts.specs.Indexed.{accesses_at, entries_by}
+use Rattle.write_history.specs.declared.access_index.Entry.{Entry}
+use Rattle.view_parts.specs.Indexed.{entries_by}
 use Rattle.view_parts.specs.LookUps.{position_known}
 use Rattle.view_parts.specs.FloorLooks.{IsFound}
 use Rattle.view_parts.specs.Lemmas.Entries.{last_below, entries-floor}
@@ -70,12 +70,12 @@ module _ (position : ℕ → Event → ℕ) (test : Event → Bool) (bound : ℕ
       go (inr z) false p = inr (z.0, z.1, event-kept e past z.0 z.1 z.2, z.3, z.4, rw (p, last_below) z.5)
 
 -- it is at most p exactly where the positions of the events that the clock knows are
-module _ (position : ℕ → Event → ℕ) (test : ℕ → Event → Bool) (log : List Event) (indexes : List Accesses) (clock : List ℕ) (found : ℕ)
-    (ix : (u : ℕ) → accesses_at indexes u ≡ entries_by position (test u) log)
+module _ (position : ℕ → Event → ℕ) (test : ℕ → Event → Bool) (log : List Event) (entries : ℕ → List Entry) (clock : List ℕ) (found : ℕ)
+    (ix : (u : ℕ) → entries u ≡ entries_by position (test u) log)
     (own : (u : ℕ) (e : Event) → test u e ≡ true → u ≡ e.thread)
     (up : (u : ℕ) → Rises position (test u) log)
-    (f : IsFound indexes clock found) where
-  known-at : (u : ℕ) → position_known indexes clock u ≡ last_below position (test u) (slice_index clock u) log
+    (f : IsFound entries clock found) where
+  known-at : (u : ℕ) → position_known entries clock u ≡ last_below position (test u) (slice_index clock u) log
   known-at u = rw (ix u) (entries-floor position (test u) (slice_index clock u) log)
 
   pub found-above : (p : ℕ) → found ≤ p → (y : ℕ) (ey : Event) → event_at log y ≡ Some ey → test ey.thread ey ≡ true → y < slice_index clock ey.thread → position y ey ≤ p

@@ -6,11 +6,12 @@ use Rattle.heap_cells.specs.declared.cells.CellId.{CellId}
 use Rattle.mem_axioms.specs.Events.{position_of}
 use Rattle.mem_axioms.specs.declared.types.Event.{Event}
 use Rattle.mem_axioms.specs.declared.types.Rule.{Rule}
-use Rattle.write_history.specs.Rooms.{Accesses}
 use Rattle.write_history.specs.declared.access_index.Entry.{Entry}
 use Rattle.write_history.specs.Indexes.{last_position}
 use Rattle.view_parts.specs.Families.{is_any, has_seq_cst_order}
-use Rattle.view_parts.specs.Indexed.{accesses_at, entries_by, by_thread}
+use Rattle.view_parts.specs.Indexed.{entries_by, by_thread}
+use Rattle.view_parts.specs.declared.families.Family.TheVariants.{Any, SeqCst}
+use Rattle.view_parts.specs.Touched.{entries_at}
 use Rattle.view_parts.specs.LookUps.{position_known}
 use Rattle.view_parts.specs.FloorLooks.{IsFound, FoundFloor}
 use Rattle.view_parts.specs.Holding.{CellHolds}
@@ -26,24 +27,24 @@ none-below position test (e ∷ past) = rw (last_below, le-ltb (length past) 0 (
     go true h = h
     go false h = h
 
-none-found : (position : ℕ → Event → ℕ) (test : ℕ → Event → Bool) (log : List Event) (indexes : List Accesses) → ((u : ℕ) → accesses_at indexes u ≡ entries_by position (test u) log) → IsFound indexes (replicate 64 0) 0
-none-found position test log indexes h = record { above = λ u. (let z = none u in omega (arith, z)); least = λ p l. omega arith }
+none-found : (position : ℕ → Event → ℕ) (test : ℕ → Event → Bool) (log : List Event) (entries : ℕ → List Entry) → ((u : ℕ) → entries u ≡ entries_by position (test u) log) → IsFound entries (replicate 64 0) 0
+none-found position test log entries h = record { above = λ u. (let z = none u in omega (arith, z)); least = λ p l. omega arith }
   where
-    none : (u : ℕ) → position_known indexes (replicate 64 0) u ≡ 0
+    none : (u : ℕ) → position_known entries (replicate 64 0) u ≡ 0
     none u =
-        ap (λ (known : ℕ). unwrap_or (last_position known (accesses_at indexes u)) 0) (zeros-at 64 u)
-        ∙ (ap (λ (entries : List Entry). unwrap_or (last_position 0 entries) 0) (h u)
+        ap (λ (known : ℕ). unwrap_or (last_position known (entries u)) 0) (zeros-at 64 u)
+        ∙ (ap (λ (found : List Entry). unwrap_or (last_position 0 found) 0) (h u)
         ∙ (entries-floor position (test u) 0 log ∙ none-below position (test u) log))
 
-pub known-found : (rule : Rule) (log : List Event) (cell : CellId) (kept : CellViews) (known : List ℕ) (found : ℕ) → CellHolds log cell kept → IsFound kept.all.items known found
+pub known-found : (rule : Rule) (log : List Event) (cell : CellId) (kept : CellViews) (known : List ℕ) (found : ℕ) → CellHolds log cell kept → IsFound (entries_at kept.accesses Any) known found
     → FoundFloor kept known (replicate 64 0) (replicate 64 0) found
 known-found rule log cell kept known found h f = record {
   first = found;
   second = 0;
   third = 0;
   of_first = f;
-  of_second = none-found (λ n e. position_of e) (λ u. by_thread has_seq_cst_order cell u) log kept.seq_cst.items h.seq_cst;
-  of_third = none-found (λ n e. position_of e) (λ u. by_thread is_any cell u) log kept.all.items h.all;
+  of_second = none-found (λ n e. position_of e) (λ u. by_thread has_seq_cst_order cell u) log (entries_at kept.accesses SeqCst) (h.accesses SeqCst);
+  of_third = none-found (λ n e. position_of e) (λ u. by_thread is_any cell u) log (entries_at kept.accesses Any) (h.accesses Any);
   is = omega arith;
 }
 

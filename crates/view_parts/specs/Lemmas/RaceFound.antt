@@ -14,10 +14,12 @@ use Rattle.mem_axioms.specs.Lemmas.Kept.{on_one, one_cell}
 use Rattle.clock_laws.specs.Clocks.{views, knew}
 use Rattle.clock_laws.specs.Lemmas.Tests.{next-test}
 use Rattle.write_history.specs.Indexes.{first_after}
-use Rattle.view_parts.specs.Families.{is_not_atomic}
-use Rattle.view_parts.specs.Indexed.{accesses_at, entries_of, by_thread}
+use Rattle.view_parts.specs.declared.families.Family.TheVariants.{Any, Modifications, NotAtomic, NotAtomicModifications}
+use Rattle.view_parts.specs.Families.{is_not_atomic, race_family}
+use Rattle.view_parts.specs.Touched.{entries_at}
+use Rattle.view_parts.specs.Indexed.{entries_of, by_thread}
 use Rattle.view_parts.specs.LookUps.{FirstAfter, LeastOf}
-use Rattle.view_parts.specs.Racing.{race_indexes, IsFirstUnknown}
+use Rattle.view_parts.specs.Racing.{IsFirstUnknown}
 use Rattle.view_parts.specs.Answers.{one_higher, RaceFacts}
 use Rattle.view_parts.specs.Holding.{CellHolds, IsUntouched}
 use Rattle.view_parts.specs.declared.cell.CellViews.{CellViews}
@@ -61,15 +63,15 @@ module _ (rule : Rule) (right : List Event → CellId → ℕ → Scalar → Boo
   abbrev test : ℕ → Event → Bool
   test u = by_thread (family_of e) cell u
 
-  indexed : (u : ℕ) → accesses_at (race_indexes kept e) u ≡ entries_of (test u) log
+  indexed : (u : ℕ) → entries_at kept.accesses (race_family e) u ≡ entries_of (test u) log
   indexed u = go (is_not_atomic e) (is_modification e)
     where
-      go : (a b : Bool) → accesses_at (cond a (cond b kept.all.items kept.modifications.items) (cond b kept.not_atomic.items kept.not_atomic_modifications.items)) u
+      go : (a b : Bool) → entries_at kept.accesses (cond a (cond b Any Modifications) (cond b NotAtomic NotAtomicModifications)) u
           ≡ entries_of (by_thread (λ ei. cond a (cond b true (is_modification ei)) (cond b (is_not_atomic ei) (is_not_atomic ei && is_modification ei))) cell u) log
-      go true true = f.holds.all u
-      go true false = f.holds.modifications u
-      go false true = f.holds.not_atomic u
-      go false false = f.holds.not_atomic_modifications u
+      go true true = f.holds.accesses Any u
+      go true false = f.holds.accesses Modifications u
+      go false true = f.holds.accesses NotAtomic u
+      go false false = f.holds.accesses NotAtomicModifications u
 
   before-is : (i : ℕ) (ei : Event) → event_at log i ≡ Some ei → happens_before rule (e ∷ log) i (length log) ≡ ltb i (slice_index clock ei.thread)
   before-is i ei at = next-test rule right log f.form e f.fits i ei at ∙ ap (λ (k : ℕ). ltb i k) (sym (f.knows ei.thread))
@@ -104,7 +106,7 @@ module _ (rule : Rule) (right : List Event → CellId → ℕ → Scalar → Boo
       let b : happens_before rule (e ∷ log) i (length log) ≡ false = before-is i ei at ∙ le-ltb i (slice_index clock ei.thread) k in
       and_from (may_race ei e) (not (happens_before rule (e ∷ log) i (length log))) c (rw b refl)
 
-  found-races : (x : ℕ) → (u : ℕ) × FirstAfter (race_indexes kept e) clock e.thread u x → (i : ℕ) × (ei : Event) × (x ≡ suc i) × (event_at log i ≡ Some ei) × (races rule log e i ei ≡ true)
+  found-races : (x : ℕ) → (u : ℕ) × FirstAfter (entries_at kept.accesses (race_family e)) clock e.thread u x → (i : ℕ) × (ei : Event) × (x ≡ suc i) × (event_at log i ≡ Some ei) × (races rule log e i ei ≡ true)
   found-races x h = go (least_event (λ k ek. test h.0 ek && leb (slice_index clock h.0) k) log) (least-is (λ k ek. test h.0 ek && leb (slice_index clock h.0) k) log)
       (sym (entries-after (λ n ek. position_of ek) (test h.0) (slice_index clock h.0) log) ∙ (rw (indexed h.0) at h.1.1))
     where
@@ -114,7 +116,7 @@ module _ (rule : Rule) (right : List Event → CellId → ℕ → Scalar → Boo
           let p = and_parts (test h.0 w.ei) (leb (slice_index clock h.0) i) w.passes in
           (i, w.ei, cc, w.there, are-races i w.ei h.0 w.there h.1.0 p.0 (leb-true (slice_index clock h.0) i p.1))
 
-  race-is-found : (i : ℕ) (ei : Event) → event_at log i ≡ Some ei → races rule log e i ei ≡ true → (x : ℕ) × ((u : ℕ) × FirstAfter (race_indexes kept e) clock e.thread u x) × (x ≤ suc i)
+  race-is-found : (i : ℕ) (ei : Event) → event_at log i ≡ Some ei → races rule log e i ei ≡ true → (x : ℕ) × ((u : ℕ) × FirstAfter (entries_at kept.accesses (race_family e)) clock e.thread u x) × (x ≤ suc i)
   race-is-found i ei at r = go (least_event (λ k ek. test ei.thread ek && leb (slice_index clock ei.thread) k) log) (least-is (λ k ek. test ei.thread ek && leb (slice_index clock ei.thread) k) log)
       (rw (indexed ei.thread) (entries-after (λ n ek. position_of ek) (test ei.thread) (slice_index clock ei.thread) log))
     where
@@ -124,16 +126,16 @@ module _ (rule : Rule) (right : List Event → CellId → ℕ → Scalar → Boo
       passes : (test ei.thread ei && leb (slice_index clock ei.thread) i) ≡ true
       passes = and_from (test ei.thread ei) (leb (slice_index clock ei.thread) i) parts.1 (le-leb (slice_index clock ei.thread) i parts.2)
 
-      go : (o : Option ℕ) → LeastOr (λ k ek. test ei.thread ek && leb (slice_index clock ei.thread) k) log o → first_after (slice_index clock ei.thread) (accesses_at (race_indexes kept e) ei.thread) ≡ one_higher o
-          → (x : ℕ) × ((u : ℕ) × FirstAfter (race_indexes kept e) clock e.thread u x) × (x ≤ suc i)
+      go : (o : Option ℕ) → LeastOr (λ k ek. test ei.thread ek && leb (slice_index clock ei.thread) k) log o → first_after (slice_index clock ei.thread) (entries_at kept.accesses (race_family e) ei.thread) ≡ one_higher o
+          → (x : ℕ) × ((u : ℕ) × FirstAfter (entries_at kept.accesses (race_family e)) clock e.thread u x) × (x ≤ suc i)
       go None w h = absurd (w i ei at passes)
       go (Some k) w h = let l = w.least i ei at passes in (suc k, (ei.thread, (parts.0, h)), omega (arith, l))
 
-  pub race-found : (r : Option ℕ) → IsFirstUnknown (race_indexes kept e) clock e.thread r → r ≡ one_higher (race rule log e)
+  pub race-found : (r : Option ℕ) → IsFirstUnknown (entries_at kept.accesses (race_family e)) clock e.thread r → r ≡ one_higher (race rule log e)
   unfolding race
   race-found r h = go r h.least (race rule log e) (least-is (races rule log e) log)
     where
-      go : (r : Option ℕ) → LeastOf (λ i. (u : ℕ) × FirstAfter (race_indexes kept e) clock e.thread u i) r → (o : Option ℕ) → LeastOr (races rule log e) log o → r ≡ one_higher o
+      go : (r : Option ℕ) → LeastOf (λ i. (u : ℕ) × FirstAfter (entries_at kept.accesses (race_family e)) clock e.thread u i) r → (o : Option ℕ) → LeastOr (races rule log e) log o → r ≡ one_higher o
       go None h None w = refl
       go None h (Some i) w = let c = race-is-found i w.ei w.there w.passes in absurd (h c.0 c.1)
       go (Some x) h None w = let c = found-races x h.0 in absurd (w c.0 c.1 c.3 c.4)

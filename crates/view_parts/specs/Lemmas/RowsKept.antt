@@ -45,7 +45,7 @@ module _ (rule : Rule) (log : List Event) (e : Event) (old new : Rows) (clock : 
   }
 
 -- the fences of a thread are no more than the events
-pub rows-few : (rule : Rule) (log : List Event) (rows : Rows) (d : ℕ) → RowsHold rule log rows → length log < 2 ^ d → IsFew d rows.fences.items
+pub rows-few : (rule : Rule) (log : List Event) (rows : Rows) (d : ℕ) → RowsHold rule log rows → length log < 2 ^ d → IsFew d (accesses_at rows.fences.items)
 rows-few rule log rows d h l u = rw (h.fences u) (let n = entries-few (λ n e. n) (fence_by u) log in omega (arith, n, l))
 
 -- and have numbers of the log

@@ -7,9 +7,9 @@ use Rattle.view_parts.proofs.look_ups.floor_over.Goals as goal
 pub loop-thread-preserved : goal.loop-thread-preserved
 loop-thread-preserved g c =
     let this = slice_index c.args.threads.now c.loop-thread.thread-index in
-    let here : c.floor_at.result ≡ position_known c.args.indexes.now c.args.clock.now this = rw c.of.ensures at c.floor_at.ensures.found in
+    let here : c.floor_at.result ≡ position_known (g.E.ByThread.entries c.args.indexes.now) c.args.clock.now this = rw c.of.ensures at c.floor_at.ensures.found in
     record {
-      above = below_more (λ k. position_known c.args.indexes.now c.args.clock.now (slice_index c.args.threads.now k) ≤ c.greater-greatest.result) _ (λ k h. let q = c.loop-thread.invariant.above k h in omega arith) (omega arith);
+      above = below_more (λ k. position_known (g.E.ByThread.entries c.args.indexes.now) c.args.clock.now (slice_index c.args.threads.now k) ≤ c.greater-greatest.result) _ (λ k h. let q = c.loop-thread.invariant.above k h in omega arith) (omega arith);
       least = λ p h. (let q = c.loop-thread.invariant.least p h in let r = h this in omega arith);
       cost = λ d h. cost-more c.loop-thread.thread-index d c.args.steps.now c.loop-thread.steps c.floor_at.new.steps (c.loop-thread.invariant.cost d h) (c.floor_at.ensures.cost d (h this));
     }

@@ -45,12 +45,12 @@ returns-clause-cost g c d l =
 pub found_floor-requires-clause-few : goal.found_floor-requires-clause-few
 found_floor-requires-clause-few g c =
     let memory = c.args.self.now in
-    rw c.deref-then-not-seq_cst.ensures.value (made-small memory.rule memory.objects.values memory.tape.events memory.made.items memory.log_holds memory.made_holds)
+    rw c.deref.ensures.value (made-small memory.rule memory.objects.values memory.tape.events memory.made.items memory.log_holds memory.made_holds)
 
 pub found_floor-requires-clause-made : goal.found_floor-requires-clause-made
 found_floor-requires-clause-made g c =
     let memory = c.args.self.now in
-    rw (c.deref-then-not-seq_cst.ensures.value, c.deref.ensures.value) (cell-made memory.rule memory.objects.values memory.tape.events memory.made.items c.args.cell c.in-Some.kept.now memory.log_holds memory.made_holds c.in-Some.ensures.views).all
+    rw c.deref.ensures.value (cell-made memory.rule memory.objects.values memory.tape.events memory.made.items c.args.cell c.in-Some.kept.now memory.log_holds memory.made_holds c.in-Some.ensures.views)
 
 pub returns-then-not-seq_cst-clause-floor : goal.returns-then-not-seq_cst-clause-floor
 returns-then-not-seq_cst-clause-floor g c =
@@ -63,7 +63,7 @@ returns-then-not-seq_cst-clause-floor g c =
     (λ u. c.of-known.ensures u ∙ memory.rows_hold.threads c.args.thread u) c.limit-limit.ensures.limit (λ u l. zeros-at 64 u ∙ sym zero)
     (λ u. zeros-at 64 u ∙ (no-fence (is_seq_cst c.args.order) c.limit-limit.result (slice_index memory.rows.joined u) (table_at memory.rows.before c.limit-limit.result u) relaxed zero
     ∙ before-known memory.rule log c.args.thread c.args.order memory.rows c.limit-limit.result memory.rows_hold c.limit-limit.ensures.limit u))
-    (known-found memory.rule log c.args.cell c.in-Some.kept.now c.of-known.result.now c.found_floor.result c.in-Some.ensures.views (rw c.deref.ensures.value at c.found_floor.ensures.found))
+    (known-found memory.rule log c.args.cell c.in-Some.kept.now c.of-known.result.now c.found_floor.result c.in-Some.ensures.views c.found_floor.ensures.found)
 
 pub returns-then-not-seq_cst-clause-cost : goal.returns-then-not-seq_cst-clause-cost
 returns-then-not-seq_cst-clause-cost g c d l =
@@ -71,4 +71,4 @@ returns-then-not-seq_cst-clause-cost g c d l =
     let log = memory.tape.events in
     four-within log (length memory.made.items) d c.args.steps.now c.limit-limit.new.steps c.found_floor.new.steps (made-few log memory.made.items memory.made_holds) (c.limit-limit.ensures.cost d l)
     (one-of-three c.limit-limit.new.steps c.found_floor.new.steps (length memory.made.items * (d + 1))
-    (rw c.deref-then-not-seq_cst.ensures.value at (c.found_floor.ensures.cost d (rw c.deref.ensures.value (cell-few memory.rule log c.args.cell c.in-Some.kept.now d c.in-Some.ensures.views l).all))))
+    (rw c.deref.ensures.value at (c.found_floor.ensures.cost d (cell-few memory.rule log c.args.cell c.in-Some.kept.now d c.in-Some.ensures.views l))))

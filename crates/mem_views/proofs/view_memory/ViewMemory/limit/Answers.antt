@@ -1,5 +1,6 @@
 use Rattle.std.proofs.Common.{◌∙◌, sym}
 use Rattle.view_parts.specs.Holding.{fence_by}
+use Rattle.view_parts.specs.Indexed.{accesses_at}
 use Rattle.view_parts.specs.Lemmas.RowsKept.{rows-few}
 use Rattle.mem_views.proofs.ThreadsMade.{made-small, entries-made}
 use Rattle.view_parts.specs.Lemmas.FloorFound.{fence-parts, limit-found, limit-is}
@@ -13,7 +14,7 @@ last_fence-requires-clause-few g c =
 pub last_fence-requires-clause-made : goal.last_fence-requires-clause-made
 last_fence-requires-clause-made g c =
     let memory = c.args.self.now in
-    rw c.deref.ensures.value (entries-made (λ n e. n) fence_by memory.rule memory.objects.values memory.tape.events memory.made.items memory.rows.fences.items memory.log_holds memory.made_holds
+    rw c.deref.ensures.value (entries-made (λ n e. n) fence_by memory.rule memory.objects.values memory.tape.events memory.made.items (accesses_at memory.rows.fences.items) memory.log_holds memory.made_holds
     (λ u e t. (fence-parts memory.rule memory.tape.events c.args.thread u e t).1) memory.rows_hold.fences)
 
 pub returns-clause-limit : goal.returns-clause-limit
