@@ -10,7 +10,7 @@ use Rattle.mu_values.specs.declared.scalars.Scalar.{Scalar}
 use Rattle.heap_cells.specs.declared.cells.CellId.{CellId}
 use Rattle.heap_cells.specs.SameCell.{same_cell}
 use Rattle.heap_cells.specs.CellLaws.{same_cell-true, same_cell-refl}
-use Rattle.mem_axioms.specs.Events.{accesses, position_of, value_of, is_seq_cst_fence, is_modification}
+use Rattle.mem_axioms.specs.Events.{accesses, position_of, value_of, is_seq_cst_fence}
 use Rattle.mem_axioms.specs.Logs.{event_at}
 use Rattle.mem_axioms.specs.Lemmas.Numbers.{event-cases}
 use Rattle.mem_axioms.specs.declared.types.Rule.{Rule}
@@ -20,9 +20,10 @@ use Rattle.mem_axioms.specs.declared.types.Kind.TheVariants.{Access}
 use Rattle.mem_axioms.specs.declared.types.Event.{Event}
 use Rattle.clocks.specs.Tables.{Table, table_at}
 use Rattle.clock_laws.specs.Clocks.{views, knows}
-use Rattle.write_history.specs.Rooms.{Accesses}
-use Rattle.view_parts.specs.Indexed.{accesses_at, entries_by, entries_of, by_thread}
-use Rattle.view_parts.specs.Families.{is_any, is_not_atomic, is_not_atomic_modification, has_seq_cst_order}
+use Rattle.write_history.specs.declared.access_index.Entry.{Entry}
+use Rattle.view_parts.specs.Indexed.{entries_by, by_thread}
+use Rattle.view_parts.specs.Families.{belongs}
+use Rattle.view_parts.specs.Touched.{entries_at}
 use Rattle.view_parts.specs.Looks.{IsMade, AllMade}
 use Rattle.view_parts.specs.Holding.{CellHolds}
 use Rattle.view_parts.specs.CellRooms.{CellRoomAt}
@@ -75,9 +76,9 @@ pub small-in : (threads : List ℕ) (past whole : List Event) (i : ℕ) (e : Eve
 small-in threads past whole i e h x l at = thread-small threads past h i e (event_there whole past i e x l at)
 
 -- only threads on the list have entries
-entries-listed : (position : ℕ → Event → ℕ) (test : ℕ → Event → Bool) (threads : List ℕ) (log : List Event) (indexes : List Accesses) → ThreadsHold threads log
-    → ((u : ℕ) (e : Event) → test u e ≡ true → u ≡ e.thread) → ((u : ℕ) → accesses_at indexes u ≡ entries_by position (test u) log) → IsMade threads indexes
-entries-listed position test threads log indexes h own ix u = go (cases_lt u (length threads))
+entries-listed : (position : ℕ → Event → ℕ) (test : ℕ → Event → Bool) (threads : List ℕ) (log : List Event) (entries : ℕ → List Entry) → ThreadsHold threads log
+    → ((u : ℕ) (e : Event) → test u e ≡ true → u ≡ e.thread) → ((u : ℕ) → entries u ≡ entries_by position (test u) log) → IsMade threads entries
+entries-listed position test threads log entries h own ix u = go (cases_lt u (length threads))
   where
     stranger : length threads ≤ u → (i : ℕ) (e : Event) → event_at log i ≡ Some e → test u e ≡ false
     stranger l i e at = pick (test u e) refl
@@ -86,25 +87,16 @@ entries-listed position test threads log indexes h own ix u = go (cases_lt u (le
         pick false p = p
         pick true p = absurd (let o = own u e p in let n = h.listed i e at in omega (arith, o, n, l))
 
-    go : (u < length threads) ⊎ (length threads ≤ u) → Contains threads u ⊎ (accesses_at indexes u ≡ [])
+    go : (u < length threads) ⊎ (length threads ≤ u) → Contains threads u ⊎ (entries u ≡ [])
     go (inl l) = inl (u, l, get_or_default threads u u 0 l ∙ h.counted u l)
     go (inr l) = inr (ix u ∙ entries-none position (test u) log (stranger l))
 
-pub fences-listed : (test : ℕ → Event → Bool) (threads : List ℕ) (log : List Event) (indexes : List Accesses) → ThreadsHold threads log
-    → ((u : ℕ) (e : Event) → test u e ≡ true → u ≡ e.thread) → ((u : ℕ) → accesses_at indexes u ≡ entries_by (λ n e. n) (test u) log) → IsMade threads indexes
+pub fences-listed : (test : ℕ → Event → Bool) (threads : List ℕ) (log : List Event) (entries : ℕ → List Entry) → ThreadsHold threads log
+    → ((u : ℕ) (e : Event) → test u e ≡ true → u ≡ e.thread) → ((u : ℕ) → entries u ≡ entries_by (λ n e. n) (test u) log) → IsMade threads entries
 fences-listed = entries-listed (λ n e. n)
 
 pub cell-listed : (threads : List ℕ) (log : List Event) (cell : CellId) (kept : CellViews) → ThreadsHold threads log → CellHolds log cell kept → AllMade threads kept
-cell-listed threads log cell kept h c = record {
-  all = one is_any kept.all.items c.all;
-  modifications = one is_modification kept.modifications.items c.modifications;
-  not_atomic = one is_not_atomic kept.not_atomic.items c.not_atomic;
-  not_atomic_modifications = one is_not_atomic_modification kept.not_atomic_modifications.items c.not_atomic_modifications;
-  seq_cst = one has_seq_cst_order kept.seq_cst.items c.seq_cst;
-}
-  where
-    one : (family : Event → Bool) (indexes : List Accesses) → ((u : ℕ) → accesses_at indexes u ≡ entries_of (by_thread family cell u) log) → IsMade threads indexes
-    one family indexes ix = entries-listed (λ n e. position_of e) (λ u. by_thread family cell u) threads log indexes h (λ u e t. (by-parts family cell u e t).2) ix
+cell-listed threads log cell kept h c family = entries-listed (λ n e. position_of e) (λ u. by_thread (belongs family) cell u) threads log (entries_at kept.accesses family) h (λ u e t. (by-parts (belongs family) cell u e t).2) (c.accesses family)
 
 -- ---- fences
 

@@ -1,7 +1,7 @@
 // The judge over histories and clocks.
 ghost use Rattle.std.specs.Prelude.{◌≡◌, ◌<◌, length, IfOk};
 ghost use Rattle.verdicts.specs.Verdicts.{verdict};
-ghost use Rattle.verdicts.specs.Threads.{HaveFewThreads};
+ghost use Rattle.mem_axioms.specs.Threads.{HaveFewThreads};
 
 use crate::log_views::LogViews;
 use mem_axioms::{Log, Rule};

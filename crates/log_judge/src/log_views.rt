@@ -16,7 +16,7 @@ ghost use Rattle.view_parts.specs.RowsAdded.{RowsRoom};
 ghost use Rattle.view_parts.specs.CellRooms.{CellRoomAt};
 ghost use Rattle.view_parts.specs.Answers.{IsKnown};
 ghost use Rattle.verdicts.specs.Laws.{IsFaultless};
-ghost use Rattle.verdicts.specs.Threads.{HasFewThreads};
+ghost use Rattle.mem_axioms.specs.Threads.{HasFewThreads};
 ghost use Rattle.log_judge.specs.CellKeys.{number_in};
 ghost use Rattle.log_judge.specs.Kept.{initial_read, InitialsHold, ThreadsHold, FencesHold};
 
@@ -260,7 +260,7 @@ impl LogViews {
         let limit = self.limit(thread, known, order, steps);
         // Without a fence neither SEQ_CST accesses nor fences raise the floor.
         if limit == 0 && !seq_cst(order) {
-            return found_floor(&kept.all, &self.threads, known, steps);
+            return found_floor(kept, &self.threads, known, steps);
         }
         let below = Clock::below(limit);
         let before = fences_before(&self.rows, order, limit);

@@ -1,9 +1,7 @@
 -- What is answered to the text of a log.
-use Rattle.std.specs.Prelude.{◌≡◌, ◌<◌, ℕ, true, List, Some, Result, Ok, Err}
+use Rattle.std.specs.Prelude.{◌≡◌, List, Result, Ok, Err}
 use Rattle.demands.specs.declared.fault.Fault.{Fault}
 use Rattle.demands.specs.declared.fault.Fault.TheVariants.{Memory, At}
-use Rattle.mem_axioms.specs.Logs.{event_at}
-use Rattle.mem_axioms.specs.Synchronizes.{makes_thread}
 use Rattle.mem_axioms.specs.declared.types.Event.{Event}
 use Rattle.log_lines.specs.Texts.{ReadLog}
 use Rattle.log_lines.specs.declared.types.LogKind.{LogKind}
@@ -15,11 +13,3 @@ IsRead (Ok r) (Ok log) = log ≡ r.log
 IsRead (Ok r) (Err (At kind place)) = ⊥
 IsRead (Err fault) (Ok log) = ⊥
 IsRead (Err fault) (Err (At kind place)) = fault ≡ At kind place
-
--- the thread of an event, and one that the event makes, is below 64
-abbrev pub AreFew : Event → Type 0
-AreFew e = (e.thread < 64) × ((t : ℕ) → makes_thread t e ≡ true → t < 64)
-
--- so of each event of a log
-abbrev pub HasFewThreads : List Event → Type 0
-HasFewThreads log = (n : ℕ) (e : Event) → event_at log n ≡ Some e → AreFew e

@@ -4,7 +4,7 @@ ghost use Rattle.log_lines.specs.Lines.{kind_after, event_in};
 ghost use Rattle.log_lines.specs.Texts.{is_printable, first_unprintable, begins_with_digit};
 ghost use Rattle.log_lines.specs.declared.types.KindWord.TheVariants as words;
 ghost use Rattle.mem_axioms.specs.Synchronizes.{makes_thread};
-ghost use Rattle.log_reading.specs.Answers.{AreFew};
+ghost use Rattle.mem_axioms.specs.Threads.{HasFewThreads};
 ghost use Rattle.log_reading.specs.Inner.{ReadsKind, IsEvent};
 
 use crate::fields::{Fields, LogFault};
@@ -102,9 +102,10 @@ fn kind_after(names: &mut Names, word: KindWord, fields: &mut Fields<'_>) -> Res
 }
 
 /// The event of a line with these fields, after `n` event lines. Its value may use names that were used before; a new one is kept.
+#[tactic(auto, using(crate::proofs::Few::few_of_event))]
 pub fn event(names: &mut Names, n: u32, fields: &mut Fields<'_>) -> Result<Event, LogFault>
     ensures event { IsEvent (event_in fields.old.end n names.old fields.old.fields) names.new result }
-    ensures few { IfOk result AreFew }
+    ensures few { IfOk result HasFewThreads }
 {
     fields.exactly(n)?;
     let thread = fields.thread()?;

@@ -1,7 +1,8 @@
 // Logs from their texts.
 ghost use Rattle.std.specs.Prelude.{◌≡◌, ◌+◌, ◌<◌, ◌^◌, length, IfOk};
 ghost use Rattle.log_lines.specs.Texts.{line_read, text_read, nothing_read};
-ghost use Rattle.log_reading.specs.Answers.{IsRead, HasFewThreads};
+ghost use Rattle.mem_axioms.specs.Threads.{HaveFewThreads};
+ghost use Rattle.log_reading.specs.Answers.{IsRead};
 ghost use Rattle.log_reading.specs.Inner.{GoesOn};
 
 use crate::fields::{Fields, LogFault};
@@ -27,13 +28,13 @@ struct Reading {
 impl Model for Reading {
     ghost use Rattle.std.specs.Prelude.{◌<◌, length};
     ghost use Rattle.log_lines.specs.Texts.{ReadLog};
-    ghost use Rattle.log_reading.specs.Answers.{HasFewThreads};
+    ghost use Rattle.mem_axioms.specs.Threads.{HaveFewThreads};
 
     ghost Value = { ReadLog };
 
     ghost view = { λ r. record { log = r.log; names = r.names } };
 
-    ghost invariant = { λ r. HasFewThreads r.log × (length r.log < 4294967295) };
+    ghost invariant = { λ r. HaveFewThreads r.log × (length r.log < 4294967295) };
 }
 
 impl Reading {
@@ -89,7 +90,7 @@ impl Reading {
 /// as many names as the logarithm of their number.
 pub fn read_log(alloc: Global, text: &[u8]) -> Result<Log, LogFault>
     ensures read { IsRead (text_read text.now) result }
-    ensures threads { IfOk result HasFewThreads }
+    ensures threads { IfOk result HaveFewThreads }
     ensures count { IfOk result (λ log. length log < 4294967295) }
 {
     let mut reading = Reading::new(alloc);

@@ -41,6 +41,7 @@ pub mod Choices
 pub mod Floor
 pub mod Objects
 pub mod EventFits
+pub mod Threads
 -- The memory of a run: what it promises.
 pub mod Rooms
 pub mod Sound

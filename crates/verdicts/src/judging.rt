@@ -7,7 +7,7 @@ ghost use Rattle.verdicts.specs.Verdicts.{verdict, next_verdict, breaks_coherenc
 ghost use Rattle.verdicts.specs.Laws.{IsFaultless};
 ghost use Rattle.verdicts.specs.declared.types.Verdict.TheVariants.{Yes};
 ghost use Rattle.verdicts.specs.Searches.{reads_below, IsNo, Extends};
-ghost use Rattle.verdicts.specs.Threads.{HaveFewThreads};
+ghost use Rattle.mem_axioms.specs.Threads.{HaveFewThreads};
 
 use crate::past::Past;
 use crate::types::Verdict;

@@ -9,7 +9,7 @@ ghost use Rattle.mem_axioms.specs.declared.types.Event.{Event};
 ghost use Rattle.verdicts.specs.Verdicts.{least_pair, breaks_coherence};
 ghost use Rattle.verdicts.specs.Laws.{IsFaultless};
 ghost use Rattle.verdicts.specs.Searches.{reads_below, Extends};
-ghost use Rattle.verdicts.specs.Threads.{HasFewThreads};
+ghost use Rattle.mem_axioms.specs.Threads.{HasFewThreads};
 
 use mem_axioms::{Event, Log};
 use std::alloc::AllocError;

@@ -36,12 +36,12 @@ returns g c =
 pub found_floor-requires-clause-few : goal.found_floor-requires-clause-few
 found_floor-requires-clause-few g c =
     let memory = c.args.self.now in
-    rw c.deref-then-not-seq_cst.ensures.value (threads-small memory.threads.items memory.tape.events memory.threads_hold)
+    rw c.deref.ensures.value (threads-small memory.threads.items memory.tape.events memory.threads_hold)
 
 pub found_floor-requires-clause-made : goal.found_floor-requires-clause-made
 found_floor-requires-clause-made g c =
     let memory = c.args.self.now in
-    rw (c.deref-then-not-seq_cst.ensures.value, c.deref.ensures.value) (cell-listed memory.threads.items memory.tape.events c.args.cell c.in-Some.kept.now memory.threads_hold c.in-Some.ensures.views).all
+    rw c.deref.ensures.value (cell-listed memory.threads.items memory.tape.events c.args.cell c.in-Some.kept.now memory.threads_hold c.in-Some.ensures.views)
 
 pub returns-then-not-seq_cst : goal.returns-then-not-seq_cst
 returns-then-not-seq_cst g c =
@@ -54,4 +54,4 @@ returns-then-not-seq_cst g c =
     (λ u. c.of-known.ensures u ∙ memory.rows_hold.threads c.args.thread u) c.limit-limit.ensures (λ u l. zeros-at 64 u ∙ sym zero)
     (λ u. zeros-at 64 u ∙ (no-fence (is_seq_cst c.args.order) c.limit-limit.result (slice_index memory.rows.joined u) (table_at memory.rows.before c.limit-limit.result u) relaxed zero
     ∙ before-known memory.rule log c.args.thread c.args.order memory.rows c.limit-limit.result memory.rows_hold c.limit-limit.ensures u))
-    (known-found memory.rule log c.args.cell c.in-Some.kept.now c.of-known.result.now c.found_floor.result c.in-Some.ensures.views (rw c.deref.ensures.value at c.found_floor.ensures.found))
+    (known-found memory.rule log c.args.cell c.in-Some.kept.now c.of-known.result.now c.found_floor.result c.in-Some.ensures.views c.found_floor.ensures.found)

@@ -1,5 +1,6 @@
 use Rattle.std.proofs.Common.{◌∙◌, sym}
 use Rattle.view_parts.specs.Holding.{fence_by}
+use Rattle.view_parts.specs.Indexed.{accesses_at}
 use Rattle.view_parts.specs.Lemmas.FloorFound.{fence-parts, limit-found, limit-is}
 use Rattle.log_judge.proofs.Listed.{threads-small, fences-listed}
 use Rattle.log_judge.proofs.log_views.LogViews.limit.Goals as goal
@@ -12,7 +13,7 @@ last_fence-requires-clause-few g c =
 pub last_fence-requires-clause-made : goal.last_fence-requires-clause-made
 last_fence-requires-clause-made g c =
     let memory = c.args.self.now in
-    rw c.deref.ensures.value (fences-listed fence_by memory.threads.items memory.tape.events memory.rows.fences.items memory.threads_hold
+    rw c.deref.ensures.value (fences-listed fence_by memory.threads.items memory.tape.events (accesses_at memory.rows.fences.items) memory.threads_hold
     (λ u e t. (fence-parts memory.rule memory.tape.events c.args.thread u e t).1) memory.rows_hold.fences)
 
 pub returns : goal.returns

@@ -1,4 +1,4 @@
--- The threads of the events that are judged.
+-- Logs whose threads are few: those that are read, and those that are judged.
 use Rattle.std.specs.Prelude.{◌≡◌, ℕ, ◌<◌, true, List, Some}
 use Rattle.mem_axioms.specs.Logs.{event_at}
 use Rattle.mem_axioms.specs.Synchronizes.{makes_thread}
