@@ -39,7 +39,7 @@ use Rattle.mu_model.specs.Exceptions.{EnteredFrames, body_or_case, caught_by, un
 use Rattle.mu_model.specs.Frames.{caught, fresh_frame, passed}
 use Rattle.mu_model.specs.Operands.{scalar_in}
 use Rattle.mu_model.specs.Outcomes.{Next, Outcome, refused, tried, unless_refused}
-use Rattle.mu_model.specs.Traps.{answered, edits, entering_of, enters_by, goes, is_among, replied, taken, trap_note, trapped, meets_watchpoint}
+use Rattle.mu_model.specs.Traps.{answered, edits, entering_of, enters_by, goes, is_watched, replied, taken, trap_note, trapped, meets_watchpoint}
 use Rattle.mu_model.specs.Turns.{Turn, waiting}
 use Rattle.mu_model.specs.Types.{type_graph}
 use Rattle.mu_model.specs.declared.endings.Case.{Case}
@@ -267,7 +267,7 @@ module _ (p : Program) (t : Places) (typed : IsTyped p t) where
 
   pub watches_good : (c : Configuration) (u : Turn) (n : ℕ) (cs : List ℕ) (goal : Goal) (th : Thread) → Going p t c u → Turned p t (world p.tables c) u → slice_get c.threads u.thread ≡ Some (Some th) → is_thread c.log u.thread ≡ true →
       u.doing.act ≡ Some (acts.Watches n cs goal) → ActFits p t (world p.tables c) u.top.block u.top.at (acts.Watches n cs goal) → GoesWell p t (world p.tables c) (meets_watchpoint p c u n cs goal)
-  watches_good c u n cs goal th g k there known act h = by (is_among n c.watched)
+  watches_good c u n cs goal th g k there known act h = by (is_watched n c.watched)
     where
       by : (b : Bool) → GoesWell p t (world p.tables c) (if b then trapped p c u (Some n) cs else goes c u goal)
       by true = trapped_good c u (Some n) cs th g k there known (ap (λ o. with_some o (waits_for p.tables)) act)

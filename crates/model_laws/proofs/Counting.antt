@@ -32,7 +32,7 @@ use Rattle.mu_model.specs.Operands.{scalar_in}
 use Rattle.mu_model.specs.Outcomes.{Asks, End, Next, Outcome, Stuck, excepted, faulted, has_results, has_result, next, on, onto, refused, tried, unless_refused}
 use Rattle.mu_model.specs.Edits.{edited}
 use Rattle.model_laws.proofs.Editing.{edited_depth}
-use Rattle.mu_model.specs.Traps.{answered, edits, chooses, entering_of, enters_by, goes, is_among, replied, taken, trap_note, trapped, meets_watchpoint}
+use Rattle.mu_model.specs.Traps.{answered, edits, chooses, entering_of, enters_by, goes, is_watched, replied, taken, trap_note, trapped, meets_watchpoint}
 use Rattle.mu_model.specs.Turns.{Turn, waiting}
 use Rattle.mu_model.specs.Types.{type_graph, classes_given}
 use Rattle.mu_model.specs.Waiting.{found_another, futex_waits, times_out, waits_at, without}
@@ -298,14 +298,14 @@ module _ (p : Program) (b : Configuration) (n : ℕ) where
       trapped_done m cs = every_on Done (waiting u cs) _ (λ f q a. answered_done (noted (trap_note u m) (leaving u f b)) (f ∷ u.below) a low (left_within f))
 
       pub watches_done : (m : ℕ) (cs : List ℕ) (g : Goal) → Every Done (meets_watchpoint p b u m cs g)
-      watches_done m cs g = by (is_among m b.watched)
+      watches_done m cs g = by (is_watched m b.watched)
         where
           by : (x : Bool) → Every Done (if x then trapped p b u (Some m) cs else goes b u g)
           by true = trapped_done (Some m) cs
           by false = goes_done g
 
       pub chooses_done : (m : ℕ) (g h : Goal) → Every Done (chooses b u m g h)
-      chooses_done m g h = by (is_among m b.watched)
+      chooses_done m g h = by (is_watched m b.watched)
         where
           by : (x : Bool) → Every Done (if x then goes b u h else goes b u g)
           by true = goes_done h

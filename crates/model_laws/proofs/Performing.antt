@@ -39,7 +39,7 @@ use Rattle.mu_model.specs.Exceptions.{returns}
 use Rattle.mu_model.specs.Objects.{cast_any}
 use Rattle.mu_model.specs.Outcomes.{End, has_result, or_case, tried}
 use Rattle.mu_model.specs.Step.{is_blocked, performed, picked, picking_thread, runnable, step, ends_or_picks, threads_from, turned, turns}
-use Rattle.mu_model.specs.Traps.{chooses, goes, is_among}
+use Rattle.mu_model.specs.Traps.{chooses, goes, is_watched}
 use Rattle.mu_model.specs.Turns.{Turn, turn_of}
 use Rattle.mu_model.specs.Types.{class_definition, type_graph}
 use Rattle.mu_model.specs.Waiting.{is_of}
@@ -88,7 +88,7 @@ module _ (p : Program) (t : Places) (typed : IsTyped p t) where
       (one_fits (type_graph p.tables) (world p.tables c) (ref_void p.tables.types) k.thread.own typed.types.ref_void.leaf (at_place (ThreadFits p.tables (world p.tables c)) c.threads u.thread (Some k.thread) k.going.fits.threads k.there)))))
 
   chooses_good : (v : World) (c : Configuration) (u : Turn) (n : ℕ) (a b : Goal) → HasTurn p t c u → ActFits p t (world p.tables c) u.top.block u.top.at (acts.Chooses n a b) → GoesWell p t v (chooses c u n a b)
-  chooses_good v c u n a b k h = by (is_among n c.watched)
+  chooses_good v c u n a b k h = by (is_watched n c.watched)
     where
       by : (x : Bool) → GoesWell p t v (if x then goes c u b else goes c u a)
       by true = goes_good p t typed v c u b k.going k.turned h.1

@@ -47,7 +47,7 @@ use Rattle.mu_model.specs.Outcomes.{Asks, End, Next, Outcome, Stuck, excepted, f
 use Rattle.mu_model.specs.Run.{begins_in, client_answers, with_client}
 use Rattle.mu_model.specs.Step.{ends_or_picks, performed, picked, picking_thread, runnable, step, threads_from, turned, turns, with_own}
 use Rattle.mu_model.specs.Edits.{edited}
-use Rattle.mu_model.specs.Traps.{answered, edits, entering_of, enters_by, goes, is_among, replied, taken, trap_note, trapped}
+use Rattle.mu_model.specs.Traps.{answered, edits, entering_of, enters_by, goes, is_watched, replied, taken, trap_note, trapped}
 use Rattle.mu_model.specs.Turns.{Turn, turn_of, waiting}
 use Rattle.mu_model.specs.Types.{type_graph}
 use Rattle.mu_model.specs.Waiting.{found_another, futex_waits, is_at, is_of, wakes_all, wakes_one, wakes_these, was_woken, waits_at, without}
@@ -278,8 +278,8 @@ module _ (p : Program) (m : ℕ) where
         accessed_keeps (record b { picks = (pick (length (choices b.rule (initial b) b.log u.thread at (wanted a))) b.picks).1 }) u (kind_of a at k) (with_some (passed p u.top (access_results a k)) (onto u)) h (λ x e. kind_is_printable (length b.stacks) a at k x o e)))
     performed_keeps (acts.Fences r) o = next_keeps (logged u.thread (kinds.Fence r) b) u _ (logged_good b u.thread (kinds.Fence r) h o)
     performed_keeps (acts.Traps cs) o = trapped_keeps None cs
-    performed_keeps (acts.Watches n cs g) o = watches_keep n cs g (is_among n b.watched)
-    performed_keeps (acts.Chooses n g k) o = chooses_keep g k (is_among n b.watched)
+    performed_keeps (acts.Watches n cs g) o = watches_keep n cs g (is_watched n b.watched)
+    performed_keeps (acts.Chooses n g k) o = chooses_keep g k (is_watched n b.watched)
     performed_keeps (acts.Swaps s cs e) o = every_on Good (waiting u cs) _ (λ f q. over_keeps b u s e (leaving u f b) h (left_good f) (length-set b.stacks u.stack (Ready (f ∷ u.below))))
     performed_keeps (acts.Leaves s e) o = over_keeps b u s e (stack_dies u.stack (u.top ∷ u.below) b) h (dies_good b u.stack (u.top ∷ u.below) h) (length-set b.stacks u.stack Dead)
     performed_keeps (acts.Starts s own e) o = starts_keep s own e (nat_le most_threads (length b.threads))

@@ -1,6 +1,8 @@
 -- Traps, watchpoints, and what comes of the client's answer.
 use Rattle.std.specs.Prelude.{ℕ, Bool, ◌==◌, not, List, ◌∷◌, Option, Some, None, map, filter, fold, reverse, ◌++◌, if◌then◌else◌}
 use Rattle.std.specs.List.{list_any}
+use Rattle.std.specs.Ordering.{nat_cmp}
+use Rattle.std.specs.BTreeSet.{insert_key}
 use Rattle.mu_values.specs.declared.scalars.Scalar.{Scalar}
 use Rattle.mu_values.specs.declared.scalars.Scalar.TheVariants as scalars
 use Rattle.mu_values.specs.Slots.{TypedValues}
@@ -32,12 +34,12 @@ abbrev pub entering_of : Tables → With TypedValues Classed → Option Entering
 entering_of p (Pass vs) = Some (Passes vs.types vs.values)
 entering_of p (Throw v) = if v.0 == ref_void p.types then with_some (scalar_in (Some v.1)) (λ e. Some (ThrowsInto e)) else Some Misfits
 
-abbrev pub is_among : ℕ → List ℕ → Bool
-is_among n ns = list_any (λ m. m == n) ns
+abbrev pub is_watched : ℕ → List ℕ → Bool
+is_watched n ns = list_any (λ m. m == n) ns
 
--- a watchpoint that is enabled stands in the list once
+-- the watchpoints that are enabled stand in rising order, each once
 abbrev pub watch : List ℕ → ℕ × Bool → List ℕ
-watch ns w = if w.1 then (if is_among w.0 ns then ns else w.0 ∷ ns) else filter (λ n. not (n == w.0)) ns
+watch ns w = if w.1 then insert_key nat_cmp ns w.0 else filter (λ n. not (n == w.0)) ns
 
 -- its records and watches
 abbrev pub taken : Answer → Configuration → Configuration
@@ -79,7 +81,7 @@ abbrev pub goes : Configuration → Turn → Goal → Outcome
 goes c u g = next c u (onto u (arrived u.top g))
 
 abbrev pub meets_watchpoint : Program → Configuration → Turn → ℕ → List ℕ → Goal → Outcome
-meets_watchpoint p c u n cs disabled = if is_among n c.watched then trapped p c u (Some n) cs else goes c u disabled
+meets_watchpoint p c u n cs disabled = if is_watched n c.watched then trapped p c u (Some n) cs else goes c u disabled
 
 abbrev pub chooses : Configuration → Turn → ℕ → Goal → Goal → Outcome
-chooses c u n disabled enabled = if is_among n c.watched then goes c u enabled else goes c u disabled
+chooses c u n disabled enabled = if is_watched n c.watched then goes c u enabled else goes c u disabled

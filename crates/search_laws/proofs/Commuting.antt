@@ -40,7 +40,7 @@ use Rattle.mu_model.specs.Objects.{object_added, asks_cells}
 use Rattle.mu_model.specs.Accesses.{initial, wanted, kind_of, access_results, raced, accessed, takes_option}
 use Rattle.mu_model.specs.Waiting.{is_of, is_at, without, was_woken, found_another, waits_at, waited, wakes_one, wakes_all, wakes_these, times_out}
 use Rattle.mu_model.specs.Edits.{edited}
-use Rattle.mu_model.specs.Traps.{trapped, trap_note, answered, edits, replied, taken, enters_by, entering_of, is_among, goes}
+use Rattle.mu_model.specs.Traps.{trapped, trap_note, answered, edits, replied, taken, enters_by, entering_of, is_watched, goes}
 use Rattle.mu_model.specs.Step.{performed, turned, turns, threads_from, runnable, picked, picking_thread, ends_or_picks, step, with_own}
 use Rattle.mu_model.specs.Run.{Run, Ends, Breaks, Unfinished, behind, client_answers, with_client, goes_on, run}
 use Rattle.mu_threads.specs.Picks.{pick}
@@ -295,14 +295,14 @@ module _ (p : Program) (i k : ℕ) (x : Option Thread) (y : Stack) (shut : IsShu
       ∙ ap (Asks (record { thread = u.thread; watchpoint = m; asked = cs; frames = f ∷ u.below })) (fun_ext (λ a. answered_after (noted (trap_note u m) (leaving u f c)) (f ∷ u.below) a (left c f (trap_note u m) h))))
 
   watches_after : (c : Configuration) (m : ℕ) (cs : List ℕ) (g : Goal) → Stands i k c → performed p (far c) u (acts.Watches m cs g) ≡ mapped far (performed p c u (acts.Watches m cs g))
-  watches_after c m cs g h = by (is_among m c.watched)
+  watches_after c m cs g h = by (is_watched m c.watched)
     where
       by : (b : Bool) → (if b then trapped p (far c) u (Some m) cs else goes (far c) u g) ≡ mapped far (if b then trapped p c u (Some m) cs else goes c u g)
       by true = trapped_after c (Some m) cs h
       by false = next_after c _
 
   chooses_after : (c : Configuration) (m : ℕ) (g h : Goal) → performed p (far c) u (acts.Chooses m g h) ≡ mapped far (performed p c u (acts.Chooses m g h))
-  chooses_after c m g h = by (is_among m c.watched)
+  chooses_after c m g h = by (is_watched m c.watched)
     where
       by : (b : Bool) → (if b then goes (far c) u h else goes (far c) u g) ≡ mapped far (if b then goes c u h else goes c u g)
       by true = next_after c _

@@ -39,7 +39,7 @@ use Rattle.mu_model.specs.EnteringStacks.{ready, entering, enters, leaving, most
 use Rattle.mu_model.specs.Objects.{object_added, asks_cells}
 use Rattle.mu_model.specs.Accesses.{initial, wanted, kind_of, access_results, raced, accessed, takes_option}
 use Rattle.mu_model.specs.Waiting.{is_of, is_at, without, was_woken, found_another, waits_at, waited, wakes_one, wakes_all, wakes_these, times_out}
-use Rattle.mu_model.specs.Traps.{trapped, trap_note, answered, replied, taken, enters_by, entering_of, is_among, goes}
+use Rattle.mu_model.specs.Traps.{trapped, trap_note, answered, replied, taken, enters_by, entering_of, is_watched, goes}
 use Rattle.mu_model.specs.Step.{performed, turned, turns, threads_from, runnable, picked, picking_thread, ends_or_picks, step, with_own}
 use Rattle.mu_model.specs.Run.{Run, Ends, Breaks, Unfinished, behind, client_answers, with_client, goes_on, run}
 use Rattle.mu_threads.specs.Picks.{pick}
@@ -127,14 +127,14 @@ module _ (p : Program) where
         by Stuck e = tt
 
     watches_asks : (c : Configuration) (m : ℕ) (cs : List ℕ) (g : Goal) → AsksByTrap p (performed p c u (acts.Watches m cs g))
-    watches_asks c m cs g = by (is_among m c.watched)
+    watches_asks c m cs g = by (is_watched m c.watched)
       where
         by : (b : Bool) → AsksByTrap p (if b then trapped p c u (Some m) cs else goes c u g)
         by true = trap_asks c (Some m) cs
         by false = next_asks c _
 
     chooses_asks : (c : Configuration) (m : ℕ) (g j : Goal) → AsksByTrap p (performed p c u (acts.Chooses m g j))
-    chooses_asks c m g j = by (is_among m c.watched)
+    chooses_asks c m g j = by (is_watched m c.watched)
       where
         by : (b : Bool) → AsksByTrap p (if b then goes c u j else goes c u g)
         by true = next_asks c _

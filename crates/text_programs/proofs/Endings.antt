@@ -52,7 +52,7 @@ use Rattle.mu_model.specs.Outcomes.{Asks, End, Next, Outcome, Stuck, excepted, f
 use Rattle.mu_model.specs.Run.{client_answers, with_client}
 use Rattle.mu_model.specs.Step.{ends_or_picks, performed, picked, picking_thread, runnable, step, threads_from, turned, turns}
 use Rattle.mu_model.specs.Edits.{edited}
-use Rattle.mu_model.specs.Traps.{answered, edits, entering_of, enters_by, goes, is_among, replied, taken, trap_note, trapped}
+use Rattle.mu_model.specs.Traps.{answered, edits, entering_of, enters_by, goes, is_watched, replied, taken, trap_note, trapped}
 use Rattle.mu_model.specs.Turns.{Turn, active_on, turn_at, turn_of, waiting}
 use Rattle.mu_model.specs.Waiting.{found_another, futex_waits, futex_wakes, is_of, waits_at}
 use Rattle.model_laws.specs.Places.{Places}
@@ -188,8 +188,8 @@ module _ (p : Program) (P : List Line → Type 0) where
         accessed_ends (record b { picks = (pick (length (choices b.rule (initial b) b.log u.thread at (wanted a))) b.picks).1 }) u (kind_of a at k) (with_some (passed p u.top (access_results a k)) (onto u)) here))
     performed_ends (acts.Fences o) = next_ends P _ _
     performed_ends (acts.Traps cs) = trapped_ends None cs
-    performed_ends (acts.Watches n cs g) = watches_ends n cs g (is_among n b.watched)
-    performed_ends (acts.Chooses n g h) = chooses_ends g h (is_among n b.watched)
+    performed_ends (acts.Watches n cs g) = watches_ends n cs g (is_watched n b.watched)
+    performed_ends (acts.Chooses n g h) = chooses_ends g h (is_watched n b.watched)
     performed_ends (acts.Swaps s cs e) = ends_on P (waiting u cs) _ (λ f. enters_ends b u s e _ here)
     performed_ends (acts.Leaves s e) = enters_ends b u s e _ here
     performed_ends (acts.Starts s own e) = starts_ends s own e (nat_le most_threads (length b.threads))

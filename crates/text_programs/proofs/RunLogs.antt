@@ -46,7 +46,7 @@ use Rattle.mu_model.specs.Programs.{named}
 use Rattle.mu_model.specs.Run.{Breaks, Ends, Run, Setting, Unfinished, begins_in, behind, client_answers, first_configuration, goes_on, program_run, run, run_from, with_client}
 use Rattle.mu_model.specs.Step.{ends_or_picks, performed, picked, picking_thread, runnable, step, threads_from, turned, turns, with_own}
 use Rattle.mu_model.specs.Edits.{edited}
-use Rattle.mu_model.specs.Traps.{answered, edits, entering_of, enters_by, goes, is_among, replied, taken, trap_note, trapped}
+use Rattle.mu_model.specs.Traps.{answered, edits, entering_of, enters_by, goes, is_watched, replied, taken, trap_note, trapped}
 use Rattle.mu_model.specs.Turns.{Turn, turn_of, waiting}
 use Rattle.mu_model.specs.Types.{type_graph}
 use Rattle.mu_model.specs.Waiting.{found_another, futex_waits, is_of, wakes_all, wakes_one, wakes_these, was_woken, waits_at, without}
@@ -205,8 +205,8 @@ module _ (p : Program) (rule : Rule) (log : List Event) where
         accessed_keeps (record b { picks = (pick (length (choices b.rule (initial b) b.log u.thread at (wanted a))) b.picks).1 }) u (kind_of a at k) (with_some (passed p u.top (access_results a k)) (onto u)) h))
     performed_keeps (acts.Fences o) = next_keeps (logged u.thread (kinds.Fence o) b) u _ (logged_keeps b u.thread (kinds.Fence o) h)
     performed_keeps (acts.Traps cs) = trapped_keeps None cs
-    performed_keeps (acts.Watches n cs g) = watches_keep n cs g (is_among n b.watched)
-    performed_keeps (acts.Chooses n g k) = chooses_keep g k (is_among n b.watched)
+    performed_keeps (acts.Watches n cs g) = watches_keep n cs g (is_watched n b.watched)
+    performed_keeps (acts.Chooses n g k) = chooses_keep g k (is_watched n b.watched)
     performed_keeps (acts.Swaps s cs e) = every_on Keeps (waiting u cs) _ (λ f q. over_keeps b u s e (leaving u f b) h (left_keeps f))
     performed_keeps (acts.Leaves s e) = over_keeps b u s e (stack_dies u.stack (u.top ∷ u.below) b) h h
     performed_keeps (acts.Starts s own e) = starts_keep s own e (nat_le most_threads (length b.threads))
