@@ -33,7 +33,7 @@ impl Schedule {
     }
 
     /// These numbers, in their order.
-    pub(crate) fn from_numbers(numbers: Ids) -> Schedule
+    pub fn from_numbers(numbers: Ids) -> Schedule
         ensures { result ≡ numbers.members }
     {
         Schedule { numbers, taken: 0 }

@@ -1,5 +1,5 @@
 // The picks of a run, noted as they are made by the numbers of a schedule.
-ghost use Rattle.std.specs.Prelude.{◌≡◌, ◌≤◌, ◌++◌, [], OnOk, drop, length};
+ghost use Rattle.std.specs.Prelude.{◌≡◌, ◌≤◌, ◌++◌, [], OnErr, OnOk, drop, length};
 ghost use Rattle.odometer.specs.Trees.{pick};
 ghost use Rattle.odometer.specs.GrownLaws.{picks_one};
 
@@ -20,11 +20,12 @@ fn next_pick(made: &[Pick], numbers: &[u32], options: u32) -> Pick
 }
 
 /// Notes the pick that the numbers make, after those that were made, among so many options: where there are two at least. After the last
-/// number each pick is 0. It fails only out of memory.
+/// number each pick is 0. It fails only out of memory, and then the list is as it was.
 #[tactic(auto, using(crate::proofs::NoteLaws::noting))]
 pub fn note(made: &mut Vec<Pick>, numbers: &[u32], options: u32) -> Result<(), AllocError>
     ensures made { OnOk result (made.new.items ≡ made.old.items ++ picks_one options (pick options (drop (length made.old.items) numbers.now)).0 []) }
     ensures left { OnOk result (drop (length made.new.items) numbers.now ≡ (pick options (drop (length made.old.items) numbers.now)).1) }
+    ensures same { OnErr result (made.new.items ≡ made.old.items) }
 {
     if options < 2 {
         return Ok(());
