@@ -2,7 +2,7 @@
 ghost use Rattle.std.specs.Prelude.{◌≡◌, Bool, List, Option, Some, None, IfOk, IfErr};
 ghost use Rattle.std.specs.List.{Contains};
 ghost use Rattle.check_tables.specs.declared.tables.Tables.{Tables};
-ghost use Rattle.mu_model.specs.Clients.{Classed, Answer, no_edit};
+ghost use Rattle.mu_model.specs.Clients.{Classed, Answer};
 ghost use Rattle.mu_model.specs.Outcomes.{View};
 ghost use Rattle.client_hooks.specs.Traps.{view_of};
 ghost use Rattle.client_hooks.specs.Replies.{answer_in, stack_of, stack_in, IsMisuse, IsBack};
@@ -32,10 +32,9 @@ pub trait Client {
     ghost advances: { Self → Self → Type 0 };
 
     /// Answers a trap, and hands the trapped stack back as it was given, with at least the room for frames that it had. Each value of a
-    /// reply is told with its class by the view, as zero and NULL for what is asked or as a kept value of a frame, or the client holds it;
+    /// reply has its class from the view, as zero and NULL for what is asked or as a kept value of a frame, or the client holds it;
     /// a stack to enter has the type `stackref`, and a function that is pushed is a value that the client holds. `Misuse` comes exactly
-    /// where the answer is one. With it nothing is recorded, no watchpoint changes and no frame is popped or pushed. The machine does no
-    /// edits yet, so no client replies with one.
+    /// where the answer is one. With it nothing is recorded, no watchpoint changes and no frame is popped or pushed.
     fn answer(
         &self,
         alloc: Global,
@@ -45,7 +44,6 @@ pub trait Client {
         ensures reply { IfOk result (λ r. may self.now view.now.tables (view_of view.now stack) (Some (answer_in r))) }
         ensures told { IfOk result (λ r. AnswerIsTold view.now.tables (view_of view.now stack) (holds self.now) (answer_in r)) }
         ensures stack { IfOk result (λ r. IsBack stack (stack_of r.end)) }
-        ensures keeps { IfOk result (λ r. (answer_in r).edit ≡ no_edit) }
 
         ensures misuse { IfErr result (λ e. IsMisuse e → may self.now view.now.tables (view_of view.now stack) None) }
         ensures stack_back { IfErr result (λ e. IsBack stack (stack_in e)) };

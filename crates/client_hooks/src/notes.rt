@@ -92,7 +92,7 @@ impl Watches {
         }
     }
 
-    /// Adds a change behind the others. When out of memory, they are as before.
+    /// Adds a change after the others. When it is out of memory, they are as before.
     pub fn add(&mut self, watch: Watch) -> Result<(), AllocError>
         ensures added { OnOk result (self.new ≡ self.old ++ (watch.number, watch.enabled) ∷ []) }
         ensures same { OnErr result (self.new ≡ self.old) }

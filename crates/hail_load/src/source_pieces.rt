@@ -21,7 +21,7 @@ impl Model for Pieces {
     ghost view = { λ p. p.pieces.items };
 }
 
-/// Whether an index may come next: behind a reference alone, or an index alone.
+/// Whether an index may come next: only after a reference or after another index.
 pub(crate) fn is_open(pieces: &[Piece]) -> bool
     ensures { result ≡ is_open pieces.now }
 {
@@ -87,7 +87,7 @@ impl Pieces {
         &self.pieces[n..]
     }
 
-    /// Whether an index may come next: behind a reference alone, or an index alone.
+    /// Whether an index may come next: only after a reference or after another index.
     pub fn is_open(&self) -> bool
         ensures { result ≡ is_open self.now }
     {

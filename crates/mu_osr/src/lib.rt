@@ -11,5 +11,5 @@ mod room;
 
 pub use editing::{NoFrame, pop_to};
 pub use laws::{edits_are_abstract_edits, edits_keep_frames_well_typed};
-pub use pushing::{PushFault, parameters_of, push, results_of};
+pub use pushing::{PushFault, has_results, parameters_of, push, results_of};
 pub use room::EditRoom;

@@ -63,6 +63,14 @@ fn are_same(classes: &[u32], list: &Types) -> bool
     classes == list.as_slice()
 }
 
+/// Whether the results of a function are of these classes, in order.
+pub fn has_results(code: &Checked, function: u32, classes: &Types) -> bool
+    ensures same { result ≡ true → classes_given (bundle_tables code.now) function ≡ classes.now.members }
+    ensures apart { result ≡ false → classes_given (bundle_tables code.now) function ≢ classes.now.members }
+{
+    are_same(results_of(code, function), classes)
+}
+
 /// A frame that waits for the parameters of its block, which are of these classes.
 fn frame_before(alloc: Global, block: u32, waits: Types) -> Frame
     ensures { frame_of result ≡ before_parameters block waits.members }
@@ -119,7 +127,7 @@ pub fn push(
     let Some(block) = code.function(function).first else {
         return Err((stack, PushFault::NoBody));
     };
-    if !are_same(results_of(code, function), stack.waits()) {
+    if !has_results(code, function, stack.waits()) {
         return Err((stack, PushFault::Misfit));
     }
     append(&mut room.takes, parameters_of(code, function));

@@ -11,7 +11,7 @@ use std::marker::Model;
 use std::snapshot::Snapshot;
 
 /// The text of a bundle gives a function at most so many parameters.
-const MOST_PARAMETERS: u32 = 256;
+const MOST_PARAMETERS: usize = 256;
 
 /// Room for one pop and one push of the stack that it was made for, and the objects of the frames that were popped. Contracts see the
 /// frames that the stack has now, how far may be popped and how many parameters may be pushed, and what was done.
@@ -128,7 +128,7 @@ impl EditRoom {
         alloc: Global,
         stack: &mut ReadyStack,
         pops: u32,
-        parameters: u32,
+        parameters: usize,
     ) -> Result<EditRoom, AllocError>
         ensures number { stack.new.number ≡ stack.old.number }
         ensures frames { frames_in stack.new.frames ≡ frames_in stack.old.frames }
@@ -138,7 +138,6 @@ impl EditRoom {
         ensures room { IfOk result (λ r. r ≡ record { frames = frames_in stack.old.frames; pops = pops; popped = false; parameters = parameters; pushed = false; cells = [] }) }
     {
         let needs = needs_of(stack.frames(), pops)?;
-        let parameters = parameters as usize;
         let cells = with_room(alloc, needs.cells)?;
         let waits = with_room(alloc, larger(needs.waits, parameters))?;
         let takes = with_room(alloc, parameters)?;
@@ -164,5 +163,12 @@ impl EditRoom {
         ensures { result.now.members ≡ self.now.cells }
     {
         &self.cells
+    }
+
+    /// The objects of the frames that were popped, and the rest of the room is given back.
+    pub fn into_cells(self) -> Ids
+        ensures { result.members ≡ self.cells }
+    {
+        self.cells
     }
 }

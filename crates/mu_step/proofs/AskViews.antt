@@ -7,13 +7,15 @@ use Rattle.bundle_check.specs.Checking.{bundle_tables, bundle_blocks, check_dema
 use Rattle.bundle_names.specs.Naming.{name_demands}
 use Rattle.demands.specs.Demands.{first_unmet}
 use Rattle.frames.specs.Activations.{Value, Activation}
-use Rattle.mu_model.specs.Acts.{Act}
+use Rattle.typed_heap.specs.Places.{with_some}
+use Rattle.mu_model.specs.Acts.{Act, Doing}
 use Rattle.mu_model.specs.Outcomes.{Stuck}
 use Rattle.model_numbers.specs.Forms.{act_at}
 use Rattle.step_forms.specs.Classes.{FormIsThere, FormsAreThere}
 use Rattle.thread_acts.specs.Held.{Held}
 use Rattle.thread_acts.specs.Acting.{acting, stepping}
-use Rattle.thread_acts.specs.StepLaws.{GoesOn, step_stands, step_acts}
+use Rattle.thread_acts.specs.Counting.{act_of}
+use Rattle.thread_acts.specs.StepLaws.{GoesOn, step_stands, step_acts, doing_is}
 use Rattle.thread_acts.proofs.ActViews.{there_by}
 
 -- ---- what an instruction asks
@@ -22,6 +24,7 @@ pub record AsksAt (bundle : List Item) (s : Held) (f : Activation) (b : BlockCod
   pub there : slice_get b.code f.at ≡ Some i
   pub asks : IsSome (act_at bundle b.classes f.vars i.form)
   pub acts : (a : Act) → act_at bundle b.classes f.vars i.form ≡ Some a → stepping bundle s ≡ acting bundle s a
+  pub does : act_of bundle s ≡ act_at bundle b.classes f.vars i.form
 
 asks_there : (bundle : List Item) (s : Held) (b : BlockCode) (xs : List Code) (i : Code) → GoesOn s → stepping bundle s ≢ Stuck
     → slice_get (bundle_blocks bundle) s.frames.top.block ≡ Some b → xs ≡ b.code → i ≡ slice_index_or xs s.frames.top.at i → AsksAt bundle s s.frames.top b i
@@ -36,6 +39,7 @@ asks_there bundle s b xs i waits h there listed is =
       there = here;
       asks = subst (λ (i : Code). IsSome (act_at bundle b.classes f.vars i.form)) code (subst (λ (b : BlockCode). IsSome (act_at bundle b.classes f.vars q.2.form)) same q.4);
       acts = λ a asked. step_acts bundle s b i a waits there here asked;
+      does = ap (λ o. with_some o (λ (d : Doing). d.act)) (doing_is bundle f b i there here);
     }
 
 pub asks_at : (bundle : List Item) (s v : Held) (f : Activation) (b : BlockCode) (xs : List Code) (i : Code) → v ≡ s → f ≡ v.frames.top → GoesOn s → stepping bundle s ≢ Stuck
@@ -56,3 +60,9 @@ pub asked_so : {A E : Type 0} (bundle : List Item) (s : Held) (f : Activation) (
 asked_so bundle s f b i j cs vs (Ok a) act at same classes vars h =
     at.acts (act a) (ap (λ cs. act_at bundle cs f.vars i.form) (sym classes) ∙ ap (λ vs. act_at bundle cs vs i.form) (sym vars) ∙ ap (λ (i : Code). act_at bundle cs vs i.form) same ∙ h)
 asked_so bundle s f b i j cs vs (Err e) act at same classes vars h = tt
+
+pub act_so : {A E : Type 0} (bundle : List Item) (s : Held) (f : Activation) (b : BlockCode) (i j : Code) (cs : List ℕ) (vs : List Value) (r : Result A E) (act : A → Act) → AsksAt bundle s f b i → i ≡ j → cs ≡ b.classes → vs ≡ f.vars
+    → IfOk r (λ a. act_at bundle cs vs j.form ≡ Some (act a)) → IfOk r (λ a. act_of bundle s ≡ Some (act a))
+act_so bundle s f b i j cs vs (Ok a) act at same classes vars h =
+    at.does ∙ ap (λ cs. act_at bundle cs f.vars i.form) (sym classes) ∙ ap (λ vs. act_at bundle cs vs i.form) (sym vars) ∙ ap (λ (i : Code). act_at bundle cs vs i.form) same ∙ h
+act_so bundle s f b i j cs vs (Err e) act at same classes vars h = tt

@@ -1,5 +1,5 @@
 -- Lemmas of wakes, over the parts of a state.
-use Rattle.std.proofs.Common.{◌≡◌, ◌≢◌, ℕ, suc, ◌+◌, true, List, [], ◌∷◌, ◌++◌, Option, Some, None, IsSome, IsSomeAnd, Result, Ok, Err, OnOk, length, slice_get, slice_set, refl, sym, ◌∙◌, ap, subst, arith, add-one}
+use Rattle.std.proofs.Common.{◌≡◌, ◌≢◌, ℕ, suc, ◌+◌, true, List, [], ◌∷◌, ◌++◌, Option, Some, None, IsSome, IsSomeAnd, Result, Ok, Err, OnOk, OnErr, length, slice_get, slice_set, refl, sym, ◌∙◌, ap, subst, arith, add-one}
 use Rattle.std.proofs.lemmas.List.{append-nil, append_assoc}
 use Rattle.ir_tree.specs.declared.items.Item.{Item}
 use Rattle.mu_values.specs.declared.scalars.Scalar.{Scalar}
@@ -8,7 +8,7 @@ use Rattle.heap_cells.specs.declared.cells.CellId.{CellId}
 use Rattle.typed_heap.specs.declared.faults.PlaceFault.{PlaceFault}
 use Rattle.typed_heap.specs.Places.{with_some, cell_of}
 use Rattle.frames.specs.Activations.{Value, Activation}
-use Rattle.frames.specs.Chains.{Chain, frames_of, stands}
+use Rattle.frames.specs.Chains.{Chain, StoredChain, frames_of, chain_of, stands}
 use Rattle.mem_axioms.specs.declared.types.Rule.{Rule}
 use Rattle.mem_axioms.specs.declared.types.Event.{Event}
 use Rattle.mem_axioms.specs.EventFits.{is_thread, wakes_at, EventFits}
@@ -77,9 +77,18 @@ stood_there s mid after i k block at vs c before now on there first stands_so se
 
 -- ---- all that go on
 
-pub none_go : (bundle : List Item) (s : Seats) (is : List ℕ) → is ≡ [] → IsSomeAnd (all_go bundle s.threads is s.stacks) (λ ss. s ≡ record s { stacks = ss })
+pub none_go : {A E : Type 0} (bundle : List Item) (s : Seats) (is : List ℕ) (r : Result A E) → is ≡ [] → OnOk r (IsSomeAnd (all_go bundle s.threads is s.stacks) (λ ss. s ≡ record s { stacks = ss }))
 unfolding all_go
-none_go bundle s is e = subst (λ is. IsSomeAnd (all_go bundle s.threads is s.stacks) (λ ss. s ≡ record s { stacks = ss })) (sym e) refl
+none_go bundle s is (Ok a) e = subst (λ is. IsSomeAnd (all_go bundle s.threads is s.stacks) (λ ss. s ≡ record s { stacks = ss })) (sym e) refl
+none_go bundle s is (Err x) e = tt
+
+pub none_changes : {A E B : Type 0} (r : Result A E) (x : B) → OnErr r (x ≡ x)
+none_changes (Ok a) x = tt
+none_changes (Err e) x = refl
+
+pub none_moves : {A E : Type 0} (r : Result A E) (x y : StoredChain) → OnErr r (x ≡ y) → OnErr r (chain_of x ≡ chain_of y)
+none_moves (Ok a) x y h = tt
+none_moves (Err e) x y h = ap chain_of h
 
 pub first_goes : (bundle : List Item) (s : Seats) (is js : List ℕ) (i : ℕ) → is ≡ i ∷ js → IsSome (all_go bundle s.threads is s.stacks) → IsSome (goes_behind bundle s.threads i s.stacks)
 unfolding all_go
@@ -186,10 +195,9 @@ module _ (bundle : List Item) (s v : Held) (many : ℕ) (cell : CellId) (is : Li
   results : (n : ℕ) → n ≡ length is → n ≡ length (woken_of v many cell)
   results n e = e ∙ ap length q.those
 
-  pub wake_goes_on : (n : ℕ) (f : Activation) (vs : List Value) → n ≡ length is → f ≡ v.frames.top → vs ≡ (Int 32 n ∷ []) ∷ [] → IsSome (goes_on bundle f vs)
-  wake_goes_on n f vs count top told =
-      subst (λ f. IsSome (goes_on bundle f vs)) (sym top)
-      (subst (λ vs. IsSome (goes_on bundle v.frames.top vs)) (sym told) (subst (λ n. IsSome (goes_on bundle v.frames.top ((Int 32 n ∷ []) ∷ []))) (sym (results n count)) parts.goes))
+  pub wake_goes_on : (n : ℕ) (vs : List Value) → n ≡ length is → vs ≡ (Int 32 n ∷ []) ∷ [] → IsSome (goes_on bundle v.frames.top vs)
+  wake_goes_on n vs count told =
+      subst (λ vs. IsSome (goes_on bundle v.frames.top vs)) (sym told) (subst (λ n. IsSome (goes_on bundle v.frames.top ((Int 32 n ∷ []) ∷ []))) (sym (results n count)) parts.goes)
 
   pub wake_all_go : IsSome (all_go bundle v.seats.threads is v.seats.stacks)
   wake_all_go = some_there (all_go bundle v.seats.threads is v.seats.stacks) parts.stacks all
@@ -217,26 +225,25 @@ module _ (bundle : List Item) (s v : Held) (many : ℕ) (cell : CellId) (is : Li
             ap (λ lg. is_thread lg i) added ∙ logs_same number is (wake_event v.thread cell n ∷ lg) i ∙ thread-same lg (wake_event v.thread cell n) i refl ∙ ap (λ lg. is_thread lg i) log ∙ q.sound.made i;
       })
 
-  pub waked : (f : Activation) (vs out : List Value) (n number block at : ℕ) (mid after : Seats) (held fr : Chain) (lg new : List Event) (rl kept : Rule) (ls : List Line) → n ≡ length is → number ≡ length v.log → f ≡ v.frames.top → vs ≡ (Int 32 n ∷ []) ∷ []
-      → goes_on bundle f vs ≡ Some (stands f block at out)
+  pub waked : (vs : List Value) (n number : ℕ) (mid after : Seats) (fr : Chain) (lg new : List Event) (rl kept : Rule) (ls : List Line) → n ≡ length is → number ≡ length v.log → vs ≡ (Int 32 n ∷ []) ∷ []
+      → goes_on bundle v.frames.top vs ≡ Some fr.top → fr.below ≡ v.frames.below
       → IsSomeAnd (all_go bundle v.seats.threads is v.seats.stacks) (λ ss. mid ≡ record v.seats { stacks = ss }) → after ≡ record mid { waiters = without (oldest_at cell many mid.waiters) mid.waiters }
-      → held ≡ v.frames → fr ≡ record held { top = stands held.top block at out } → lg ≡ v.log → new ≡ logs_woken number is (wake_event v.thread cell (length is) ∷ lg) → rl ≡ v.rule → kept ≡ rl
+      → lg ≡ v.log → new ≡ logs_woken number is (wake_event v.thread cell (length is) ∷ lg) → rl ≡ v.rule → kept ≡ rl
       → ls ≡ lines.Event number (wake_event v.thread cell (length is)) ∷ woken_lines number is (number + 1)
       → answers (Went ls) (record v { frames = fr; seats = after; log = new; rule = kept; steps = v.steps + 1 }) ≡ waking_at bundle s many cell
-  waked f vs out n number block at mid after held fr lg new rl kept ls count numbered_so top told way went woken frames stands_so log added rule same written =
-      let now = stands v.frames.top block at out in
+  waked vs n number mid after fr lg new rl kept ls count numbered_so told way below went woken log added rule same written =
+      let now = fr.top in
       let t = woke v many cell parts.stacks now in
       let lines_so : List ℕ → ℕ → List Line = λ is number. lines.Event number (wake_event v.thread cell (length is)) ∷ woken_lines number is (suc number) in
       let ls_is : ls ≡ lines_so (woken_of v many cell) (length v.log) =
       written ∙ ap (λ m. lines.Event number (wake_event v.thread cell (length is)) ∷ woken_lines number is m) (add-one number) ∙ ap (lines_so is) numbered_so ∙ ap (λ is. lines_so is (length v.log)) q.those in
-      let frames_is : fr ≡ record v.frames { top = now } = stands_so ∙ ap (λ (c : Chain). record c { top = stands c.top block at out }) frames in
       let log_is : new ≡ t.log =
       added ∙ ap (λ lg. logs_woken number is (wake_event v.thread cell (length is) ∷ lg)) log ∙ ap (λ m. logs_woken m is (wake_event v.thread cell (length is) ∷ v.log)) numbered_so
       ∙ ap (λ is. logs_woken (length v.log) is (wake_event v.thread cell (length is) ∷ v.log)) q.those in
       let on : goes_on bundle v.frames.top ((Int 32 (length (woken_of v many cell)) ∷ []) ∷ []) ≡ Some now =
-      ap (λ m. goes_on bundle v.frames.top ((Int 32 m ∷ []) ∷ [])) (sym (results n count)) ∙ ap (goes_on bundle v.frames.top) (sym told) ∙ subst (λ f. goes_on bundle f vs ≡ Some (stands f block at out)) top way in
+      ap (λ m. goes_on bundle v.frames.top ((Int 32 m ∷ []) ∷ [])) (sym (results n count)) ∙ ap (goes_on bundle v.frames.top) (sym told) ∙ way in
       ap (λ ls. answers (Went ls) (record v { frames = fr; seats = after; log = new; rule = kept; steps = v.steps + 1 })) ls_is
-      ∙ ap (λ fr. answers (Went (lines_so (woken_of v many cell) (length v.log))) (record v { frames = fr; seats = after; log = new; rule = kept; steps = v.steps + 1 })) frames_is
+      ∙ ap (λ bs. answers (Went (lines_so (woken_of v many cell) (length v.log))) (record v { frames = record { top = now; below = bs }; seats = after; log = new; rule = kept; steps = v.steps + 1 })) below
       ∙ ap (λ seats. answers (Went (lines_so (woken_of v many cell) (length v.log))) (record v { frames = record v.frames { top = now }; seats = seats; log = new; rule = kept; steps = v.steps + 1 })) (seats_so mid after went woken)
       ∙ ap (λ new. answers (Went (lines_so (woken_of v many cell) (length v.log))) (record t { log = new; rule = kept; steps = v.steps + 1 })) log_is
       ∙ ap (λ rl. answers (Went (lines_so (woken_of v many cell) (length v.log))) (record t { rule = rl; steps = v.steps + 1 })) (same ∙ rule)

@@ -19,6 +19,7 @@ use Rattle.mu_model.specs.Run.{client_answers}
 use Rattle.thread_acts.specs.Outcome.{outcome_of}
 use Rattle.thread_acts.specs.Held.{Held, configuration}
 use Rattle.thread_acts.specs.Acting.{told}
+use Rattle.thread_acts.specs.Options.{step_options}
 use Rattle.mu_step.specs.Running.{without_lines}
 
 -- a step by numbers is one by names
@@ -30,6 +31,10 @@ pub steps_answer : (bundle : List Item) (s t : Held) (end : StepEnd) → Program
     → outcome_of end (configuration t) ≡ told bundle (configuration s).client (step (numbered bundle) (configuration s))
     → outcome_of end (configuration t) ≡ client_answers (named bundle) (configuration s).client (step (named bundle) (configuration s))
 steps_answer bundle s t end same are met h = h ∙ ap (λ p. client_answers p (configuration s).client (step p (configuration s))) (sym (same bundle are met))
+
+-- so many options
+pub options_same : (bundle : List Item) (c : Configuration) → ProgramsAreSame → first_unmet (name_demands bundle) ≡ None → first_unmet (check_demands bundle) ≡ None → step_options (named bundle) c ≡ step_options (numbered bundle) c
+options_same bundle c same are met = ap (λ p. step_options p c) (same bundle are met)
 
 -- what comes again: a step that went on went so, and one that ended says its ending without its lines
 pub went_again : (o : Outcome) (d : Configuration) (ls : List Line) (end : StepEnd) → outcome_of (Went ls) d ≡ o → end ≡ Went ls → outcome_of end d ≡ without_lines o

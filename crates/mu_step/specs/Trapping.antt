@@ -6,18 +6,23 @@ use Rattle.frames.specs.Activations.{Activation}
 use Rattle.frames.specs.Chains.{frames_of, Chain}
 use Rattle.mu_model.specs.declared.lines.Line.{Line}
 use Rattle.mu_model.specs.declared.lines.Note.{Note}
-use Rattle.mu_model.specs.Clients.{Client, Classed, Reply, Answer}
+use Rattle.client_hooks.specs.Replies.{edit_of}
+use Rattle.mem_axioms.specs.declared.types.Kind.TheVariants.{Leave}
+use Rattle.mu_model.specs.Changes.{logged, stack_becomes, frames_end}
+use Rattle.mu_model.specs.Clients.{Client, Classed, Edit, Reply, Answer}
 use Rattle.mu_model.specs.Answers.{advanced}
-use Rattle.mu_model.specs.Configuration.{Configuration}
+use Rattle.mu_model.specs.Configuration.{Ready, Configuration}
+use Rattle.mu_model.specs.Edits.{edited}
 use Rattle.mu_model.specs.Exceptions.{EnteredFrames}
-use Rattle.mu_model.specs.EnteringStacks.{leaving, enters}
-use Rattle.mu_model.specs.Outcomes.{Outcome, Next, View, on}
+use Rattle.mu_model.specs.EnteringStacks.{enters}
+use Rattle.mu_model.specs.Outcomes.{Outcome, Next, View, on, tried}
 use Rattle.mu_model.specs.Run.{with_client}
-use Rattle.mu_model.specs.Traps.{trap_note, taken, replied}
+use Rattle.mu_model.specs.Traps.{trap_note, taken, replied, watch}
 use Rattle.model_numbers.specs.Numbered.{numbered}
 use Rattle.thread_acts.specs.Held.{Held}
 use Rattle.thread_acts.specs.Acting.{begun, turn, doing_of, with_awaited, Awaited}
 use Rattle.mu_step.specs.declared.trapping.Trapped.{Trapped}
+use Rattle.mu_step.specs.Editing.{kept, after_edit, IsMade}
 use Rattle.mu_step.specs.Entering.{nothing}
 
 -- what an answer changes before its reply: the watchpoints that are enabled, and the lines so far
@@ -25,8 +30,8 @@ pub record Change : Type 0 where
   pub watched : List ℕ
   pub lines : List Line
 
-abbrev pub change_by : Trapped → Change
-change_by t = record { watched = t.watched; lines = t.lines }
+abbrev pub change_by : Held → Trapped → Change
+change_by s t = record { watched = fold watch s.watched t.watches; lines = t.lines }
 
 -- the top frame waits so
 abbrev pub waiting_frames : Held → Awaited → Chain
@@ -40,18 +45,36 @@ seen s watchpoint w = record { thread = s.thread; watchpoint = watchpoint; asked
 abbrev pub note_of : Held → Option ℕ → Note
 note_of s watchpoint = trap_note (turn s nothing) watchpoint
 
--- the configuration once the stack is left, and the answer's records and watches are taken
-abbrev pub changed_by : Held → Awaited → Change → Configuration
-changed_by s w x = record (leaving (turn s nothing) (with_awaited s.frames.top w) (begun s)) { watched = x.watched; lines = reverse x.lines }
+-- the configuration once the stack is left with these frames; those that were popped have ended with their objects
+abbrev pub left_with : Held → EnteredFrames → Configuration
+left_with s w = frames_end w.ended (logged s.thread (Leave s.stack) (stack_becomes s.stack (Ready w.frames) (begun s)))
+
+-- and the answer's records and watches are taken
+abbrev pub changed_by : Held → EnteredFrames → Change → Configuration
+changed_by s w x = record (left_with s w) { watched = x.watched; lines = reverse x.lines }
 
 -- the reply after that
-unfoldable pub replying : List Item → Held → Awaited → Change → Reply TypedValues Classed → Outcome
+unfoldable pub replying : List Item → Held → EnteredFrames → Change → Reply TypedValues Classed → Outcome
 replying bundle s w x r = on (doing_of (numbered bundle) s) (λ d. replied (numbered bundle) (changed_by s w x) (turn s d) r)
+
+-- first the edit of the frames, and then the reply
+unfoldable pub answering : List Item → Held → Awaited → Edit → Change → Reply TypedValues Classed → Outcome
+answering bundle s w e x r =
+    on (doing_of (numbered bundle) s) (λ d.
+    tried (numbered bundle) (changed_by s (kept (frames_of (waiting_frames s w))) x) (turn s d) (edited (numbered bundle) e (frames_of (waiting_frames s w))) (λ q. replied (numbered bundle) (changed_by s q x) (turn s d) r))
+
+-- the frames of the trapped stack once the edit is made
+abbrev pub left_by : List Item → Held → Trapped → EnteredFrames
+left_by bundle s t = after_edit bundle (edit_of t.edit) (frames_of (waiting_frames s t.wait))
+
+-- the edit is not refused
+abbrev pub IsEdited : List Item → Held → Trapped → Type 0
+IsEdited bundle s t = IsMade bundle (edit_of t.edit) (frames_of (waiting_frames s t.wait))
 
 -- the client goes past its answer
 unfoldable pub past : Held → Outcome → Outcome
 past s o = with_client (advanced s.client) o
 
 -- the stack k is entered then
-unfoldable pub entering_then : Held → Awaited → Change → ℕ → EnteredFrames → Outcome
+unfoldable pub entering_then : Held → EnteredFrames → Change → ℕ → EnteredFrames → Outcome
 entering_then s w x k r = Next (enters s.thread k r (changed_by s w x))

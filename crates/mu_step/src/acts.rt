@@ -1,5 +1,5 @@
 // What the thread in hand does, by the act that its next instruction asks.
-ghost use Rattle.std.specs.Prelude.{◌≡◌, ◌≢◌, ◌<◌, IfOk, OnErr, true, false};
+ghost use Rattle.std.specs.Prelude.{◌≡◌, ◌≢◌, ◌<◌, IfOk, OnErr, Some, true, false};
 ghost use Rattle.typed_heap.specs.Heap.{AreNarrow};
 ghost use Rattle.mu_model.specs.Outcomes.{Stuck};
 ghost use Rattle.mu_model.specs.Acts as acts;
@@ -7,6 +7,7 @@ ghost use Rattle.step_forms.specs.Asked.{asked, lists_of};
 ghost use Rattle.step_forms.specs.Classes.{ActIsThere};
 ghost use Rattle.thread_acts.specs.Outcome.{Stays};
 ghost use Rattle.thread_acts.specs.Acting.{answers, acting, stepping, told};
+ghost use Rattle.thread_acts.specs.Counting.{act_of};
 ghost use Rattle.thread_acts.specs.Making.{graph_of};
 ghost use Rattle.thread_acts.specs.StepLaws.{GoesOn};
 ghost use Rattle.mu_step.specs.Rare.{is_rare, may_ask};
@@ -137,7 +138,7 @@ fn perform_rare<M: Memory, C: Determined>(
 
 /// What the thread's next instruction asks, with values and classes in the room.
 #[tactic(auto, using(thread_acts::specs::StepLaws::running))]
-fn asks<M: Memory, C: Determined>(
+pub(crate) fn asks<M: Memory, C: Determined>(
     state: &State<M, C>,
     code: &Checked,
     room: &mut Room,
@@ -145,6 +146,7 @@ fn asks<M: Memory, C: Determined>(
     requires waits { GoesOn state.now }
     requires there { stepping code.now state.now ≢ Stuck }
     ensures act { IfOk result (λ act. stepping code.now state.now ≡ acting code.now state.now (asked act (lists_of room.new))) }
+    ensures asked { IfOk result (λ act. act_of code.now state.now ≡ Some (asked act (lists_of room.new))) }
     ensures classes { IfOk result (ActIsThere (graph_of code.now) (lists_of room.new)) }
 {
     let _items = code.items();

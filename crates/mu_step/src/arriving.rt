@@ -1,8 +1,9 @@
 // Where a stack that is entered goes on.
-ghost use Rattle.std.specs.Prelude.{◌≡◌, ◌≢◌, ◌<◌, IsSome, Some, IfOk, length, take, true, false};
+ghost use Rattle.std.specs.Prelude.{◌≡◌, ◌≢◌, ◌<◌, IsSome, Some, IfOk, length, slice_get, take, true, false};
 ghost use Rattle.std.specs.List.{flat_map};
 ghost use Rattle.frames.specs.Activations.{Activation};
-ghost use Rattle.frames.specs.Chains.{frames_in};
+ghost use Rattle.frames.specs.Chains.{frames_in, frames_of};
+ghost use Rattle.frames.specs.FrameOf.{frame_of};
 ghost use Rattle.frames.specs.Handlers.{first_handler};
 ghost use Rattle.mu_model.specs.Acts as acts;
 ghost use Rattle.step_forms.specs.Asked.{entering_of};
@@ -10,15 +11,16 @@ ghost use Rattle.thread_acts.specs.Acting.{objects_end};
 ghost use Rattle.thread_acts.specs.Remembering.{initials};
 ghost use Rattle.mu_step.specs.Entering.{entered_by, arrives, found, IsPlain};
 
+use crate::edited::{Catcher, Edited};
 use bundle_check::Checked;
-use frames::{Frames, Unwound};
+use frames::Frames;
 use mu_base::Types;
 use mu_model::Case;
 use mu_values::{Scalar, Slots};
 use std::alloc::AllocError;
 use step_forms::{Entering, Room};
 use thread_acts::exceptions::{add_exception, handler_goal};
-use thread_acts::flow::{Place, passing, stand};
+use thread_acts::flow::{Place, stand};
 use thread_acts::objects::leave_frames;
 use typed_heap::Heap;
 
@@ -43,27 +45,27 @@ pub(crate) enum Found {
     Refused(Case),
 }
 
-/// Whether two lists have the same classes.
-fn are_same(types: &Types, waits: &Types) -> bool
-    ensures same { result ≡ true → types.now.members ≡ waits.now.members }
-    ensures apart { result ≡ false → types.now.members ≢ waits.now.members }
+/// Whether a list has these classes.
+fn are_same(types: &Types, waits: &[u32]) -> bool
+    ensures same { result ≡ true → types.now.members ≡ waits.now }
+    ensures apart { result ≡ false → types.now.members ≢ waits.now }
 {
-    types.as_slice() == waits.as_slice()
+    types.as_slice() == waits
 }
 
 /// Where the top frame goes on with values of the classes that it waits for.
 fn pass_at(
     code: &Checked,
-    frames: &Frames,
+    frames: &Edited,
     types: &Types,
     values: &Slots,
     out: &mut Slots,
 ) -> Result<Arrival, AllocError>
     requires same { types.now.members ≡ frames.now.top.waits }
-    requires there { IsSome (entered_by code.now (frames_in frames.now) (acts.Passes types.now.members values.now.values)) }
-    ensures { IfOk result (λ a. entered_by code.now (frames_in frames.now) (acts.Passes types.now.members values.now.values) ≡ found (Found.Lands a) (frames_in frames.now) out.new.values) }
+    requires there { IsSome (entered_by code.now (frames_of frames.now) (acts.Passes types.now.members values.now.values)) }
+    ensures { IfOk result (λ a. entered_by code.now (frames_of frames.now) (acts.Passes types.now.members values.now.values) ≡ found (Found.Lands a) (frames_of frames.now) out.new.values) }
 {
-    let place = passing(code, frames.top(), values, out)?;
+    let place = frames.passing(code, values, out)?;
     Ok(Arrival { above: 0, place })
 }
 
@@ -71,16 +73,16 @@ fn pass_at(
 #[tactic(auto, using(crate::specs::EnteringLaws::values_misfit))]
 fn pass(
     code: &Checked,
-    frames: &Frames,
+    frames: &Edited,
     types: &Types,
     values: &Slots,
     out: &mut Slots,
 ) -> Result<Found, AllocError>
-    requires { IsSome (entered_by code.now (frames_in frames.now) (acts.Passes types.now.members values.now.values)) }
-    ensures is { IfOk result (λ r. entered_by code.now (frames_in frames.now) (acts.Passes types.now.members values.now.values) ≡ found r (frames_in frames.now) out.new.values) }
+    requires { IsSome (entered_by code.now (frames_of frames.now) (acts.Passes types.now.members values.now.values)) }
+    ensures is { IfOk result (λ r. entered_by code.now (frames_of frames.now) (acts.Passes types.now.members values.now.values) ≡ found r (frames_of frames.now) out.new.values) }
     ensures plain { IfOk result IsPlain }
 {
-    if are_same(types, &frames.top().waits) {
+    if are_same(types, frames.waits()) {
         let arrival = pass_at(code, frames, types, values, out)?;
         Ok(Found::Lands(arrival))
     } else {
@@ -88,22 +90,25 @@ fn pass(
     }
 }
 
-/// Where the frame with that number catches an exception, which has the first handler.
+/// Where a frame catches an exception, which is the first that has a handler.
 fn catch_at(
     code: &Checked,
-    frames: &Frames,
-    above: u32,
+    frames: &Edited,
+    catching: Catcher,
     exception: Scalar,
     out: &mut Slots,
 ) -> Result<Arrival, AllocError>
-    requires first { first_handler (frames_in frames.now) ≡ Some above }
-    requires there { IsSome (entered_by code.now (frames_in frames.now) (acts.ThrowsInto exception)) }
-    ensures { IfOk result (λ a. entered_by code.now (frames_in frames.now) (acts.ThrowsInto exception) ≡ found (Found.Lands a) (frames_in frames.now) out.new.values) }
+    requires first { first_handler (frames_of frames.now) ≡ Some catching.above }
+    requires frame { slice_get (frames_of frames.now) catching.above ≡ Some (frame_of catching.frame.now) }
+    requires there { IsSome (entered_by code.now (frames_of frames.now) (acts.ThrowsInto exception)) }
+    ensures { IfOk result (λ a. entered_by code.now (frames_of frames.now) (acts.ThrowsInto exception) ≡ found (Found.Lands a) (frames_of frames.now) out.new.values) }
 {
-    let block = handler_goal(frames.frame(above), out)?;
+    // Contracts alone speak of all of the frames.
+    let _ = frames;
+    let block = handler_goal(catching.frame, out)?;
     add_exception(code, block, exception, out)?;
     Ok(Arrival {
-        above,
+        above: catching.above,
         place: Place { block, at: 0 },
     })
 }
@@ -112,18 +117,18 @@ fn catch_at(
 #[tactic(auto, using(crate::specs::EnteringLaws::thrown_uncaught))]
 fn catch(
     code: &Checked,
-    frames: &Frames,
+    frames: &Edited,
     exception: Scalar,
     out: &mut Slots,
 ) -> Result<Found, AllocError>
-    requires { IsSome (entered_by code.now (frames_in frames.now) (acts.ThrowsInto exception)) }
-    ensures is { IfOk result (λ r. entered_by code.now (frames_in frames.now) (acts.ThrowsInto exception) ≡ found r (frames_in frames.now) out.new.values) }
+    requires { IsSome (entered_by code.now (frames_of frames.now) (acts.ThrowsInto exception)) }
+    ensures is { IfOk result (λ r. entered_by code.now (frames_of frames.now) (acts.ThrowsInto exception) ≡ found r (frames_of frames.now) out.new.values) }
     ensures plain { IfOk result IsPlain }
 {
-    match frames.unwind() {
-        Unwound::Uncaught => Ok(Found::Refused(Case::Uncaught)),
-        Unwound::Caught(above) => {
-            let arrival = catch_at(code, frames, above, exception, out)?;
+    match frames.catching() {
+        None => Ok(Found::Refused(Case::Uncaught)),
+        Some(catching) => {
+            let arrival = catch_at(code, frames, catching, exception, out)?;
             Ok(Found::Lands(arrival))
         }
     }
@@ -134,13 +139,13 @@ fn catch(
 #[tactic(auto, using(crate::specs::EnteringLaws::misfits))]
 pub(crate) fn prepare(
     code: &Checked,
-    frames: &Frames,
+    frames: &Edited,
     entering: Entering,
     room: &Room,
     out: &mut Slots,
 ) -> Result<Found, AllocError>
-    requires { IsSome (entered_by code.now (frames_in frames.now) (entering_of entering room.now.types.members room.now.values.values)) }
-    ensures is { IfOk result (λ r. entered_by code.now (frames_in frames.now) (entering_of entering room.now.types.members room.now.values.values) ≡ found r (frames_in frames.now) out.new.values) }
+    requires { IsSome (entered_by code.now (frames_of frames.now) (entering_of entering room.now.types.members room.now.values.values)) }
+    ensures is { IfOk result (λ r. entered_by code.now (frames_of frames.now) (entering_of entering room.now.types.members room.now.values.values) ≡ found r (frames_of frames.now) out.new.values) }
     ensures plain { IfOk result IsPlain }
 {
     match entering {

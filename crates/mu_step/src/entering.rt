@@ -15,6 +15,7 @@ ghost use Rattle.thread_acts.specs.Acting.{answers, acting, with_awaited};
 ghost use Rattle.mu_step.specs.Entering.{entered_by, arrives, frames_at, found, IsPlain, swapped_with, left_dead};
 
 use crate::arriving::{Found, Landing, arrive, prepare};
+use crate::edited::Edited;
 use crate::moving::{
     Seat, copied, hand_back, hand_over, lines_of, log_other, log_two, switch, switch_ending,
 };
@@ -49,7 +50,7 @@ pub(crate) fn look(
     ensures plain { IfOk result IsPlain }
 {
     match seats.ready(to) {
-        Some(stack) => prepare(code, stack.frames(), entering, room, out),
+        Some(stack) => prepare(code, &Edited::whole(stack.frames()), entering, room, out),
         None => unreachable!(),
     }
 }

@@ -9,9 +9,11 @@
 mod acts;
 mod arriving;
 mod at_once;
+mod edited;
 mod entering;
 mod machine;
 mod moving;
+mod options;
 mod starting;
 mod step;
 mod trapping;

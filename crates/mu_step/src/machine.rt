@@ -1,15 +1,17 @@
 // The machine.
-ghost use Rattle.std.specs.Prelude.{◌≡◌, ◌≢◌, ℕ, ◌≤◌, [], IsSome, IsSomeAnd, Some, IfOk, OnErr, true, false, ◌||◌};
+ghost use Rattle.std.specs.Prelude.{◌≡◌, ◌≢◌, ℕ, ◌≤◌, ◌==◌, [], IsSome, IsSomeAnd, Some, IfOk, OnErr, length, true, false, ◌||◌};
 ghost use Rattle.bundle_check.specs.Checking.{bundle_tables};
 ghost use Rattle.mu_model.specs.declared.endings.StepEnd.TheVariants.{Went, Ended};
 ghost use Rattle.mu_model.specs.Programs.{named};
 ghost use Rattle.mu_model.specs.Outcomes.{Stuck};
-ghost use Rattle.mu_model.specs.Step.{step};
+ghost use Rattle.mu_model.specs.Step.{runnable, step};
 ghost use Rattle.mu_model.specs.Run.{cells_left, first_configuration, client_answers};
 ghost use Rattle.mu_step.specs.Running.{gives_ending, without_lines};
 ghost use Rattle.thread_acts.specs.Outcome.{outcome_of, Stays};
+ghost use Rattle.thread_acts.specs.Options.{step_options};
 
 use crate::at_once::step_at_once;
+use crate::options::options;
 use crate::step::{Lists, step};
 use bundle_check::Checked;
 use client_hooks::Determined;
@@ -130,5 +132,34 @@ impl<'a, M: Memory + Drop, C: Determined + Drop> Machine<'a, M, C> {
             Ok(StepEnd::Ended(lines, ending)) => Ok(self.end(lines, ending)),
             Err(refused) => Err(refused),
         }
+    }
+
+    /// How many threads may make the next step.
+    pub fn runnable(&self) -> u32
+        ensures { result ≡ length (runnable self.now.configuration) }
+    {
+        self.state.seats.runnable()
+    }
+
+    /// Whether so many steps were made as may be.
+    pub fn is_spent(&self) -> bool
+        ensures { result ≡ (self.now.configuration.steps == self.now.configuration.budget) }
+    {
+        self.state.steps == self.state.budget
+    }
+
+    /// How many options the next step has to pick from, once its thread is picked: those of its access, where it has one and the cell is
+    /// there, else 1. The machine stays as it is, also where no memory is found.
+    #[tactic(auto, using(crate::specs::Machines::machines, crate::specs::Machines::options_same))]
+    pub fn options(&mut self) -> Result<u32, AllocError>
+        requires there { client_answers (named self.old.bundle) self.old.configuration.client (step (named self.old.bundle) self.old.configuration) ≢ Stuck }
+        ensures count { IfOk result (λ n. n ≡ step_options (named self.old.bundle) self.old.configuration) }
+        ensures same { self.new ≡ self.old }
+    {
+        let _items = self.code.items();
+        programs_are_same();
+        let code = self.code;
+        let count = options(&mut self.state, code, &mut self.lists.room)?;
+        Ok(count)
     }
 }

@@ -1,13 +1,12 @@
 // Threads that are started.
 ghost use Rattle.std.specs.Prelude.{◌≡◌, ◌≢◌, ◌<◌, [], ◌∷◌, IsSome, IfOk, IfSome, OnErr, length, nat_lt, slice_get, true};
 ghost use Rattle.mu_values.specs.declared.scalars.Scalar.TheVariants as scalars;
-ghost use Rattle.frames.specs.Chains.{stands};
 ghost use Rattle.mu_model.specs.Acts as acts;
 ghost use Rattle.mu_model.specs.Outcomes.{Stuck};
 ghost use Rattle.seats.specs.Seats.{IsReady, IsReadyFor};
 ghost use Rattle.step_forms.specs.Asked.{entering_of};
 ghost use Rattle.thread_acts.specs.Outcome.{Stays};
-ghost use Rattle.thread_acts.specs.Acting.{answers, acting};
+ghost use Rattle.thread_acts.specs.Acting.{answers, acting, goes_on};
 ghost use Rattle.mu_step.specs.Entering.{entered_by, arrives, frames_at, found, begins};
 
 use crate::arriving::{Found, Landing, arrive};
@@ -22,7 +21,7 @@ use mu_values::{Scalar, Slots};
 use stacks::Entered;
 use std::alloc::{AllocError, Global};
 use step_forms::Entering;
-use thread_acts::flow::{Place, passing, stand};
+use thread_acts::flow::go_on;
 use thread_acts::state::State;
 
 /// A list of one value of one scalar.
@@ -118,16 +117,16 @@ pub(crate) fn start_on<M: Memory, C: Determined>(
     let handing = hand_over(state.alloc, entering, &mut lists.room)?;
     let number = state.seats.made();
     let results = one(state.alloc, Scalar::Thread(number))?;
-    let place = passing(code, state.frames.top(), &results, &mut lists.room.others)?;
-    begin(state, landing, own, place, handing, lists)
+    begin(state, code, landing, own, &results, handing, lists)
 }
 
-/// The same, where the thread goes on at that place, with the values of the room's second list.
+/// The same, where the thread goes on with these results of its instruction.
 fn begin<M: Memory, C: Determined>(
     state: &mut State<M, C>,
+    code: &Checked,
     landing: Landing,
     own: Scalar,
-    place: Place,
+    results: &Slots,
     handing: Entered,
     lists: &mut Lists,
 ) -> Result<StepEnd, AllocError>
@@ -137,7 +136,8 @@ fn begin<M: Memory, C: Determined>(
     requires other { landing.stack ≢ state.old.stack }
     requires takes { IsReadyFor (slice_get state.old.seats.stacks landing.stack) handing }
     requires lands { IsSome (arrives landing.arrival (frames_at (slice_get state.old.seats.stacks landing.stack)) lists.old.out.values) }
-    ensures ok { IfOk result (λ end. IfSome (arrives landing.arrival (frames_at (slice_get state.old.seats.stacks landing.stack)) lists.old.out.values) (λ r. answers end state.new ≡ begins state.old own landing.stack r (stands state.old.frames.top place.block place.at lists.old.room.others.values))) }
+    requires there { IsSome (goes_on code.now state.old.frames.top results.now.values) }
+    ensures ok { IfOk result (λ end. IfSome (arrives landing.arrival (frames_at (slice_get state.old.seats.stacks landing.stack)) lists.old.out.values) (λ r. IfSome (goes_on code.now state.old.frames.top results.now.values) (λ f. answers end state.new ≡ begins state.old own landing.stack r f))) }
     ensures err { OnErr result (state.new ≡ state.old) }
     ensures stays { IfOk result (λ end. Stays end state.old state.new) }
 {
@@ -157,7 +157,7 @@ fn begin<M: Memory, C: Determined>(
     };
     let lines = lines_of(state.alloc, state.events, made, enter)?;
     state.memory.reserve(state.thread, None, 2)?;
-    stand(&mut state.frames, place, &mut lists.room.others);
+    go_on(code, &mut state.frames, results, &mut lists.room.others)?;
     let passed = switch_starting(&mut state.seats, seat, &mut state.frames, own, to, handing);
     hand_back(passed, &mut lists.room);
     arrive(&mut state.frames, &mut state.heap, arrival, &mut lists.out);

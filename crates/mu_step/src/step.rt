@@ -11,6 +11,8 @@ ghost use Rattle.thread_acts.specs.Held.{Held, ahead, configuration};
 ghost use Rattle.thread_acts.specs.Hand.{IsTakenUp, is_went};
 ghost use Rattle.thread_acts.specs.Outcome.{outcome_of, Stays};
 ghost use Rattle.thread_acts.specs.Acting.{answers, stepping, told};
+ghost use Rattle.thread_acts.specs.Options.{step_options};
+ghost use Rattle.thread_acts.specs.Counting.{stepping_count};
 
 use crate::acts::run;
 use bundle_check::Checked;
@@ -78,7 +80,7 @@ fn take_up<M: Memory, C: Determined>(state: &mut State<M, C>, thread: u32)
 }
 
 /// Picks one of so many threads, and takes it up. The pick is looked at, and not taken yet.
-#[tactic(auto, using(thread_acts::specs::Hand::picks_thread))]
+#[tactic(auto, using(thread_acts::specs::Hand::picks_thread, thread_acts::specs::Counting::options_so))]
 pub(crate) fn pick_thread<M: Memory, C: Determined>(state: &mut State<M, C>, many: u32)
     requires many { many ≡ length (runnable_of state.old.seats) }
     requires some { 0 < many }
@@ -89,6 +91,7 @@ pub(crate) fn pick_thread<M: Memory, C: Determined>(state: &mut State<M, C>, man
     ensures back { configuration (record state.new { skip = 0 }) ≡ configuration state.old }
     ensures client { state.new.client ≡ state.old.client }
     ensures step { (bundle : List Item) → step (numbered bundle) (configuration state.old) ≡ stepping bundle state.new }
+    ensures options { (bundle : List Item) → step_options (numbered bundle) (configuration state.old) ≡ stepping_count bundle state.new }
 {
     let picked = state.picks.look(0, many);
     let thread = state.seats.nth_runnable(picked);

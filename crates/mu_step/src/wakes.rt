@@ -9,7 +9,7 @@ ghost use Rattle.seats.specs.Seats.{IsOn};
 ghost use Rattle.mu_model.specs.Acts as acts;
 ghost use Rattle.mu_model.specs.Outcomes.{Stuck};
 ghost use Rattle.thread_acts.specs.Outcome.{Stays};
-ghost use Rattle.thread_acts.specs.Acting.{answers, acting};
+ghost use Rattle.thread_acts.specs.Acting.{answers, acting, goes_on};
 ghost use Rattle.thread_acts.specs.Remembering.{initials};
 ghost use Rattle.thread_acts.specs.StepLaws.{GoesOn};
 ghost use Rattle.mu_step.specs.WakeLaws.{waking_at};
@@ -26,7 +26,7 @@ use mu_values::{Scalar, Slots};
 use seats::Seats;
 use std::alloc::{AllocError, Global};
 use thread_acts::finding::case_of;
-use thread_acts::flow::{Place, passing, stand};
+use thread_acts::flow::{Place, go_on, passing, stand};
 use thread_acts::futexes::tell;
 use thread_acts::state::State;
 use typed_heap::what_is_found_fits;
@@ -67,28 +67,34 @@ fn stand_there(
     seats.exchange(thread, stack, frames);
 }
 
-/// These threads, of which none is in hand, go on behind their waits. A refusal leaves all as it was.
+/// These threads, of which none is in hand, go on behind their waits, and the top frame of the one in hand with these results of its
+/// instruction. A refusal leaves all as it was; the list may have changed.
 fn go_on_all(
     alloc: Global,
     code: &Checked,
     seats: &mut Seats,
     frames: &mut Frames,
     woken: &[u32],
+    results: &Slots,
+    out: &mut Slots,
 ) -> Result<(), AllocError>
     requires distinct { AreDistinct woken.now }
     requires there { IsSome (all_go code.now seats.old.threads woken.now seats.old.stacks) }
+    requires goes { IsSome (goes_on code.now frames.old.top results.now.values) }
     ensures ok { OnOk result (IsSomeAnd (all_go code.now seats.old.threads woken.now seats.old.stacks) (λ ss. seats.new ≡ record seats.old { stacks = ss })) }
     ensures err { OnErr result (seats.new ≡ seats.old) }
-    ensures frames { chain_of frames.new ≡ chain_of frames.old }
+    ensures top { OnOk result (goes_on code.now frames.old.top results.now.values ≡ Some frames.new.top) }
+    ensures below { frames.new.below ≡ frames.old.below }
+    ensures same { OnErr result (chain_of frames.new ≡ chain_of frames.old) }
 {
     match woken.split_first() {
-        None => Ok(()),
+        None => go_on(code, frames, results, out),
         Some((thread, rest)) => {
-            let mut out = Slots::new(alloc);
-            let (stack, place) = behind_wait(alloc, code, seats, *thread, &mut out)?;
+            let mut values = Slots::new(alloc);
+            let (stack, place) = behind_wait(alloc, code, seats, *thread, &mut values)?;
             // All that can fail comes before the first change, so each goes on after those behind it.
-            go_on_all(alloc, code, seats, frames, rest)?;
-            stand_there(seats, frames, *thread, stack, place, &mut out);
+            go_on_all(alloc, code, seats, frames, rest, results, out)?;
+            stand_there(seats, frames, *thread, stack, place, &mut values);
             Ok(())
         }
     }
@@ -241,7 +247,6 @@ fn wake_at<M: Memory, C: Determined>(
     let count = waking.count();
     let lines = wake_lines(state.alloc, state.thread, cell, state.events, woken)?;
     tell(count as u128, values)?;
-    let place = passing(code, state.frames.top(), values, out)?;
     state.memory.reserve(state.thread, None, count + 1)?;
     go_on_all(
         state.alloc,
@@ -249,10 +254,11 @@ fn wake_at<M: Memory, C: Determined>(
         &mut state.seats,
         &mut state.frames,
         woken,
+        values,
+        out,
     )?;
     let _gone = state.seats.wake(cell, many);
     log_wake(&mut state.memory, state.thread, cell, state.events, woken);
-    stand(&mut state.frames, place, out);
     state.events += count + 1;
     state.steps += 1;
     Ok(StepEnd::Went(lines))

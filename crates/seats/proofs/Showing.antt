@@ -23,6 +23,13 @@ use Rattle.seats.proofs.Seen.{IsSeated}
 frames_same : (i : ℕ) (fs gs : List Activation) → Some (Active i fs) ≡ Some (Active i gs) → fs ≡ gs
 frames_same i fs gs e = cc
 
+-- what is true of the frames that are seen is true of those that are held
+pub takes_here : (t : Threads) (es : List Entry) (owns : List Scalar) (room : ℕ) (ws : List Waiter) (s : Seats) (i k : ℕ) (Q : List Activation → Type 0) → IsSound t.states t.stacks es owns room ws → (h : IsSeated t.stacks owns s i) → seats_seen t.stacks owns es ws ≡ s → h.stack.number ≡ k
+    → ((fs : List Activation) → slice_get s.stacks k ≡ Some (Active i fs) → Q fs) → IfSome (stack_of t i) (λ b. Q (frames_in b.frames))
+takes_here t es owns room ws s i k Q sound h v number takes =
+    let there_now = ap (λ (w : Seats). slice_get w.stacks k) (sym v) ∙ ap (slice_get (stacks_seen t.stacks es)) (sym number) ∙ own_stack t.stacks es i h.stack sound.agree h.listed in
+    subst (λ o. IfSome (there o) (λ b. Q (frames_in b.frames))) (sym h.listed) (takes (frames_in h.stack.frames) there_now)
+
 -- by which number and frames a stack was shown, and which frames it has then
 abbrev pub Shown : Threads → Threads → ℕ → (ℕ → List Activation → List Activation → Type 0) → Type 0
 Shown t u i P = IfSome (stack_of t i) (λ b. IsShown t u i b.number (P b.number (frames_in b.frames)))

@@ -220,7 +220,8 @@ impl Seats {
 
     /// Shows a thread's stack, as one that waits for values of these types. Nothing changes but what was asked, and the frames of the stack.
     pub fn ask<A: Asks>(&mut self, thread: u32, stack: u32, waits: Types, asks: &mut A)
-        requires { IsOn self.old thread stack }
+        requires on { IsOn self.old thread stack }
+        requires takes { (frames : List Activation) → slice_get self.old.stacks stack ≡ Some (Active thread frames) → A.takes asks.old frames waits.members }
         ensures { (frames : List Activation) → slice_get self.old.stacks stack ≡ Some (Active thread frames)
             → (after : List Activation) × (self.new ≡ record self.old { stacks = slice_set self.old.stacks stack (Active thread after) }) × A.asked asks.old stack frames waits.members asks.new after }
     {

@@ -42,7 +42,7 @@ fn bits_in(value: &[Scalar]) -> u128
     }
 }
 
-/// The bits of a constant, and 0 where there is none: no contract says that a case behind the first equal one has a constant.
+/// The bits of a constant, and 0 where there is none: a case after the first equal one need not have a constant by any contract.
 #[tactic(auto, using(crate::specs::CaseRows::constants))]
 fn constant_bits(code: &Checked, n: u32) -> u128
     ensures { result ≡ constant_bits code.now n }

@@ -1,5 +1,5 @@
 -- Lemmas of accesses, over the view of a state and its parts.
-use Rattle.std.proofs.Common.{◌≡◌, ◌≢◌, ℕ, ◌+◌, ◌<◌, ◌≤◌, true, List, [], ◌∷◌, ◌++◌, drop, Some, None, IsSome, Result, Ok, Err, IfOk, length, slice_get, sym, ◌∙◌, ap, subst, arith, add-one}
+use Rattle.std.proofs.Common.{◌≡◌, ◌≢◌, ℕ, ◌+◌, ◌<◌, ◌≤◌, true, List, [], ◌∷◌, ◌++◌, drop, Option, Some, None, IsSome, IfSome, Result, Ok, Err, IfOk, length, slice_get, sym, ◌∙◌, ap, subst, arith, add-one}
 use Rattle.std.specs.Prelude.{reverse}
 use Rattle.ir_tree.specs.declared.items.Item.{Item}
 use Rattle.mu_values.specs.declared.scalars.Scalar.{Scalar}
@@ -34,7 +34,7 @@ use Rattle.thread_acts.specs.Held.{Held, ahead}
 use Rattle.thread_acts.specs.Acting.{left_configuration, answers, went_with, acting, goes_on}
 use Rattle.thread_acts.specs.Remembering.{initials}
 use Rattle.thread_acts.specs.Accessing.{options_of, picking, race_at, logs_unless, logs}
-use Rattle.thread_acts.specs.StepLaws.{configuration_left}
+use Rattle.thread_acts.specs.StepLaws.{configuration_left, some_of}
 use Rattle.thread_acts.specs.AccessLaws.{option_there, option_is, position_low, access_fits, access_room, fence_there, fence_is}
 
 -- ---- an act that does the same as another
@@ -84,10 +84,8 @@ module _ (bundle : List Item) (s v : Held) (a : Access) (cell : CellId) (w : Wan
   pub kind_there : picking bundle s a cell ≢ Stuck → IsSome (kind_of a cell k)
   kind_there h = (option_there bundle s a cell k h chosen).0
 
-  pub goes_there : (f : Activation) (vs : List Value) → f ≡ v.frames.top → vs ≡ access_results a k → picking bundle s a cell ≢ Stuck → IsSome (goes_on bundle f vs)
-  goes_there f vs top results h =
-      let is : f ≡ s.frames.top = top ∙ ap (λ (s : Held). s.frames.top) q.view in
-      subst (λ f. IsSome (goes_on bundle f vs)) (sym is) (subst (λ vs. IsSome (goes_on bundle s.frames.top vs)) (sym results) (option_there bundle s a cell k h chosen).1)
+  pub goes_there : (vs : List Value) → vs ≡ access_results a k → picking bundle s a cell ≢ Stuck → IsSome (goes_on bundle s.frames.top vs)
+  goes_there vs results h = subst (λ vs. IsSome (goes_on bundle s.frames.top vs)) (sym results) (option_there bundle s a cell k h chosen).1
 
   thread : s.thread ≡ v.thread
   thread = ap (λ (s : Held). s.thread) (sym q.view)
@@ -102,17 +100,16 @@ module _ (bundle : List Item) (s v : Held) (a : Access) (cell : CellId) (w : Wan
       let same : is_thread s.log s.thread ≡ true = subst (λ (s : Held). is_thread s.log s.thread ≡ true) q.view own in
       subst (λ i. HasRoom (record { thread = s.thread; cell = Some cell; events = 1 }) (event i x)) thread (access_room s a cell (pick (length (options_of s a cell)) (ahead s)).0 k x same there chosen e)
 
-  pub picked : {E : Type 0} (r : Result StepEnd E) (t : Held) (x : Kind) (f : Activation) (vs out : List Value) (block at : ℕ) → picking bundle s a cell ≢ Stuck → kind_of a cell k ≡ Some x → f ≡ v.frames.top → vs ≡ access_results a k
-      → goes_on bundle f vs ≡ Some (stands f block at out)
-      → IfOk r (λ end. answers end t ≡ logs s (event v.thread x) (pick options (ahead s)).1 (record s.frames { top = stands s.frames.top block at out })) → IfOk r (λ end. answers end t ≡ picking bundle s a cell)
-  picked (Err e') t x f vs out block at h kind top results way answer = tt
-  picked (Ok end) t x f vs out block at h kind top results way answer =
-      let is : f ≡ s.frames.top = top ∙ ap (λ (s : Held). s.frames.top) q.view in
-      let on : goes_on bundle s.frames.top (access_results a k) ≡ Some (stands s.frames.top block at out) =
-      ap (goes_on bundle s.frames.top) (sym results) ∙ subst (λ f. goes_on bundle f vs ≡ Some (stands f block at out)) is way in
-      answer ∙ ap (λ i. logs s (event i x) (pick options (ahead s)).1 (record s.frames { top = stands s.frames.top block at out })) (sym thread)
-      ∙ ap (λ m. logs s (event s.thread x) (pick m (ahead s)).1 (record s.frames { top = stands s.frames.top block at out })) many
-      ∙ sym (option_is bundle s a cell k x (stands s.frames.top block at out) h chosen kind on)
+  pub picked : {E : Type 0} (r : Result StepEnd E) (t : Held) (x : Kind) (vs : List Value) → picking bundle s a cell ≢ Stuck → kind_of a cell k ≡ Some x → vs ≡ access_results a k
+      → IfOk r (λ end. IfSome (goes_on bundle s.frames.top vs) (λ f. answers end t ≡ logs s (event v.thread x) (pick options (ahead s)).1 (record s.frames { top = f }))) → IfOk r (λ end. answers end t ≡ picking bundle s a cell)
+  picked (Err e') t x vs h kind results answer = tt
+  picked (Ok end) t x vs h kind results answer =
+      let there = some_of (goes_on bundle s.frames.top (access_results a k)) (option_there bundle s a cell k h chosen).1 in
+      let told : answers end t ≡ logs s (event v.thread x) (pick options (ahead s)).1 (record s.frames { top = there.0 }) =
+      subst (λ (o : Option Activation). IfSome o (λ f. answers end t ≡ logs s (event v.thread x) (pick options (ahead s)).1 (record s.frames { top = f }))) (ap (goes_on bundle s.frames.top) results ∙ there.1) answer in
+      told ∙ ap (λ i. logs s (event i x) (pick options (ahead s)).1 (record s.frames { top = there.0 })) (sym thread)
+      ∙ ap (λ m. logs s (event s.thread x) (pick m (ahead s)).1 (record s.frames { top = there.0 })) many
+      ∙ sym (option_is bundle s a cell k x there.0 h chosen kind there.1)
 
 -- where a frame goes on at a place of its block, in the words of the frame that it is
 pub next_of : (bundle : List Item) (f w : Activation) (vs : List Value) (at : ℕ) → f ≡ w → goes_on bundle f vs ≡ Some (stands f f.block at (f.vars ++ vs)) → goes_on bundle f vs ≡ Some (stands f w.block at (w.vars ++ vs))
@@ -168,18 +165,25 @@ logs_next s v e options at number vs fr lg after rl kept ps skip ls view left lo
     logs_on s v e options v.frames.top.block at number (v.frames.top.vars ++ vs) fr lg after rl kept ps skip ls view left log rule alone added same frames picks ahead_none count written
     ∙ ap (λ (x : Held). logs s e (pick options (ahead s)).1 (record s.frames { top = stands s.frames.top x.frames.top.block at (x.frames.top.vars ++ vs) })) view
 
+-- the same, in the words of where the frame goes on
+pub logged_on : {E : Type 0} (bundle : List Item) (s t : Held) (e : Event) (picks : List ℕ) (f : Activation) (vs out : List Value) (block at : ℕ) (r : Result StepEnd E) → f ≡ s.frames.top → goes_on bundle f vs ≡ Some (stands f block at out)
+    → IfOk r (λ end. answers end t ≡ logs s e picks (record s.frames { top = stands s.frames.top block at out }))
+    → IfOk r (λ end. IfSome (goes_on bundle s.frames.top vs) (λ f. answers end t ≡ logs s e picks (record s.frames { top = f })))
+logged_on bundle s t e picks f vs out block at (Err x) top way answer = tt
+logged_on bundle s t e picks f vs out block at (Ok end) top way answer =
+    let on : goes_on bundle s.frames.top vs ≡ Some (stands s.frames.top block at out) = subst (λ f. goes_on bundle f vs ≡ Some (stands f block at out)) top way in
+    subst (λ (o : Option Activation). IfSome o (λ f. answers end t ≡ logs s e picks (record s.frames { top = f }))) (sym on) answer
+
 -- ---- a fence
 
-pub fence_goes_there : (bundle : List Item) (s v : Held) (o : Order) (f : Activation) (vs : List Value) → v ≡ s → acting bundle s (Fences o) ≢ Stuck → f ≡ v.frames.top → vs ≡ [] → IsSome (goes_on bundle f vs)
-fence_goes_there bundle s v o f vs view h top none =
-    let is : f ≡ s.frames.top = top ∙ ap (λ (s : Held). s.frames.top) view in
-    subst (λ f. IsSome (goes_on bundle f vs)) (sym is) (subst (λ vs. IsSome (goes_on bundle s.frames.top vs)) (sym none) (fence_there bundle s o h))
+pub fence_goes_there : (bundle : List Item) (s : Held) (o : Order) (vs : List Value) → acting bundle s (Fences o) ≢ Stuck → vs ≡ [] → IsSome (goes_on bundle s.frames.top vs)
+fence_goes_there bundle s o vs h none = subst (λ vs. IsSome (goes_on bundle s.frames.top vs)) (sym none) (fence_there bundle s o h)
 
-pub fenced : {E : Type 0} (bundle : List Item) (s v t : Held) (o : Order) (f : Activation) (vs out : List Value) (block at : ℕ) (r : Result StepEnd E) → v ≡ s → acting bundle s (Fences o) ≢ Stuck → f ≡ v.frames.top → vs ≡ []
-    → goes_on bundle f vs ≡ Some (stands f block at out)
-    → IfOk r (λ end. answers end t ≡ logs s (event v.thread (Fence o)) (pick 1 (ahead s)).1 (record s.frames { top = stands s.frames.top block at out })) → IfOk r (λ end. answers end t ≡ acting bundle s (Fences o))
-fenced bundle s v t o f vs out block at (Err e) view h top none way answer = tt
-fenced bundle s v t o f vs out block at (Ok end) view h top none way answer =
-    let is : f ≡ s.frames.top = top ∙ ap (λ (s : Held). s.frames.top) view in
-    let on : goes_on bundle s.frames.top [] ≡ Some (stands s.frames.top block at out) = ap (goes_on bundle s.frames.top) (sym none) ∙ subst (λ f. goes_on bundle f vs ≡ Some (stands f block at out)) is way in
-    answer ∙ ap (λ i. logs s (event i (Fence o)) (pick 1 (ahead s)).1 (record s.frames { top = stands s.frames.top block at out })) (ap (λ (s : Held). s.thread) view) ∙ sym (fence_is bundle s o (stands s.frames.top block at out) h on)
+pub fenced : {E : Type 0} (bundle : List Item) (s v t : Held) (o : Order) (vs : List Value) (r : Result StepEnd E) → v ≡ s → acting bundle s (Fences o) ≢ Stuck → vs ≡ []
+    → IfOk r (λ end. IfSome (goes_on bundle s.frames.top vs) (λ f. answers end t ≡ logs s (event v.thread (Fence o)) (pick 1 (ahead s)).1 (record s.frames { top = f }))) → IfOk r (λ end. answers end t ≡ acting bundle s (Fences o))
+fenced bundle s v t o vs (Err e) view h none answer = tt
+fenced bundle s v t o vs (Ok end) view h none answer =
+    let there = some_of (goes_on bundle s.frames.top []) (fence_there bundle s o h) in
+    let told : answers end t ≡ logs s (event v.thread (Fence o)) (pick 1 (ahead s)).1 (record s.frames { top = there.0 }) =
+    subst (λ (o' : Option Activation). IfSome o' (λ f. answers end t ≡ logs s (event v.thread (Fence o)) (pick 1 (ahead s)).1 (record s.frames { top = f }))) (ap (goes_on bundle s.frames.top) none ∙ there.1) answer in
+    told ∙ ap (λ i. logs s (event i (Fence o)) (pick 1 (ahead s)).1 (record s.frames { top = there.0 })) (ap (λ (s : Held). s.thread) view) ∙ sym (fence_is bundle s o there.0 h there.1)

@@ -7,7 +7,7 @@ use Rattle.mu_values.specs.declared.scalars.Scalar.{Scalar}
 use Rattle.mu_values.specs.SameScalar.{same_scalar}
 use Rattle.heap_cells.specs.declared.cells.CellId.{CellId}
 use Rattle.frames.specs.Activations.{Value, Activation}
-use Rattle.frames.specs.Chains.{Chain, stands}
+use Rattle.frames.specs.Chains.{Chain}
 use Rattle.mem_axioms.specs.declared.types.Rule.{Rule}
 use Rattle.mem_axioms.specs.declared.types.Mode.TheVariants.{Read}
 use Rattle.mem_axioms.specs.declared.types.Kind.{Kind}
@@ -36,7 +36,7 @@ use Rattle.thread_acts.specs.Acting.{answers, went_with, stepping, goes_on}
 use Rattle.thread_acts.specs.Remembering.{initials}
 use Rattle.thread_acts.specs.Accessing.{options_of, race_at, logs}
 use Rattle.thread_acts.specs.Hand.{IsSound}
-use Rattle.thread_acts.specs.StepLaws.{GoesOn}
+use Rattle.thread_acts.specs.StepLaws.{GoesOn, some_of}
 use Rattle.thread_acts.specs.AccessLaws.{access_fits}
 use Rattle.thread_acts.specs.FutexLaws.{timed_out, time_out_there, time_out_is, waiting_at, read_by, waiter, waits_unless, waits_with, wait_stands, wait_goes_there, wait_goes, last_found}
 use Rattle.thread_acts.specs.Outcome.{Stays}
@@ -57,39 +57,36 @@ stop_there s v cell view h =
     let q = found_at (find (is_of s.thread) s.seats.waiters) cell h in
     subst (λ (x : Held). IsSome (find (is_of x.thread) x.seats.waiters)) (sym view) (ap is_some q.1)
 
-pub time_out_goes : (bundle : List Item) (s v : Held) (cell : CellId) (f : Activation) (vs : List Value) → v ≡ s → At (find (is_of s.thread) s.seats.waiters) cell → stepping bundle s ≢ Stuck
-    → f ≡ v.frames.top → vs ≡ (time_was_over ∷ []) ∷ [] → IsSome (goes_on bundle f vs)
-time_out_goes bundle s v cell f vs view at h top results =
+pub time_out_goes : (bundle : List Item) (s v : Held) (cell : CellId) (vs : List Value) → v ≡ s → At (find (is_of s.thread) s.seats.waiters) cell → stepping bundle s ≢ Stuck
+    → vs ≡ (time_was_over ∷ []) ∷ [] → IsSome (goes_on bundle v.frames.top vs)
+time_out_goes bundle s v cell vs view at h results =
     let q = found_at (find (is_of s.thread) s.seats.waiters) cell at in
-    let is : f ≡ s.frames.top = top ∙ ap (λ (x : Held). x.frames.top) view in
-    subst (λ f. IsSome (goes_on bundle f vs)) (sym is) (subst (λ vs. IsSome (goes_on bundle s.frames.top vs)) (sym results) (time_out_there bundle s q.0 q.1 h))
+    subst (λ (x : Held). IsSome (goes_on bundle x.frames.top vs)) (sym view) (subst (λ vs. IsSome (goes_on bundle s.frames.top vs)) (sym results) (time_out_there bundle s q.0 q.1 h))
 
-time_out_by : (bundle : List Item) (v : Held) (cell : CellId) (vs out : List Value) (block at : ℕ) (fr : Chain) (seats : Seats) (ls : List Line) → v.left ≡ true → At (find (is_of v.thread) v.seats.waiters) cell → stepping bundle v ≢ Stuck
-    → vs ≡ (time_was_over ∷ []) ∷ [] → goes_on bundle v.frames.top vs ≡ Some (stands v.frames.top block at out)
+time_out_by : (bundle : List Item) (v : Held) (cell : CellId) (vs : List Value) (fr : Chain) (seats : Seats) (ls : List Line) → v.left ≡ true → At (find (is_of v.thread) v.seats.waiters) cell → stepping bundle v ≢ Stuck
+    → vs ≡ (time_was_over ∷ []) ∷ [] → goes_on bundle v.frames.top vs ≡ Some fr.top
     → IfSome (find (is_of v.thread) v.seats.waiters) (λ w. seats ≡ record v.seats { waiters = without (w ∷ []) v.seats.waiters })
-    → fr ≡ record v.frames { top = stands v.frames.top block at out } → ls ≡ lines.Note (TimedOut v.thread cell) ∷ []
+    → fr.below ≡ v.frames.below → ls ≡ lines.Note (TimedOut v.thread cell) ∷ []
     → answers (Went ls) (record v { frames = fr; seats = seats; steps = v.steps + 1 }) ≡ stepping bundle v
-time_out_by bundle v cell vs out block at fr seats ls left waits h results way stopped same told =
+time_out_by bundle v cell vs fr seats ls left waits h results way stopped below told =
     let q = found_at (find (is_of v.thread) v.seats.waiters) cell waits in
     let w = q.0 in
-    let top = stands v.frames.top block at out in
     let fewer : seats ≡ record v.seats { waiters = without (w ∷ []) v.seats.waiters } = subst (λ (o : Option Waiter). IfSome o (λ w. seats ≡ record v.seats { waiters = without (w ∷ []) v.seats.waiters })) q.1 stopped in
     let written : ls ≡ lines.Note (TimedOut v.thread w.cell) ∷ [] = told ∙ ap (λ cell. lines.Note (TimedOut v.thread cell) ∷ []) (sym q.2) in
     ap (λ ls. answers (Went ls) (record v { frames = fr; seats = seats; steps = v.steps + 1 })) written
-    ∙ ap (λ fr. answers (Went (lines.Note (TimedOut v.thread w.cell) ∷ [])) (record v { frames = fr; seats = seats; steps = v.steps + 1 })) same
-    ∙ ap (λ seats. answers (Went (lines.Note (TimedOut v.thread w.cell) ∷ [])) (record v { frames = record v.frames { top = top }; seats = seats; steps = v.steps + 1 })) fewer
-    ∙ answers_lines (timed_out v w top) (lines.Note (TimedOut v.thread w.cell) ∷ []) left
-    ∙ sym (time_out_is bundle v w top q.1 h (ap (goes_on bundle v.frames.top) (sym results) ∙ way))
+    ∙ ap (λ bs. answers (Went (lines.Note (TimedOut v.thread w.cell) ∷ [])) (record v { frames = record { top = fr.top; below = bs }; seats = seats; steps = v.steps + 1 })) below
+    ∙ ap (λ seats. answers (Went (lines.Note (TimedOut v.thread w.cell) ∷ [])) (record v { frames = record v.frames { top = fr.top }; seats = seats; steps = v.steps + 1 })) fewer
+    ∙ answers_lines (timed_out v w fr.top) (lines.Note (TimedOut v.thread w.cell) ∷ []) left
+    ∙ sym (time_out_is bundle v w fr.top q.1 h (ap (goes_on bundle v.frames.top) (sym results) ∙ way))
 
-pub timed_out_so : (bundle : List Item) (s v : Held) (cell : CellId) (f : Activation) (vs out : List Value) (block at : ℕ) (fr : Chain) (seats : Seats) (ls : List Line) → v ≡ s → s.left ≡ true → At (find (is_of s.thread) s.seats.waiters) cell
-    → stepping bundle s ≢ Stuck → f ≡ v.frames.top → vs ≡ (time_was_over ∷ []) ∷ [] → goes_on bundle f vs ≡ Some (stands f block at out)
+pub timed_out_so : (bundle : List Item) (s v : Held) (cell : CellId) (vs : List Value) (fr : Chain) (seats : Seats) (ls : List Line) → v ≡ s → s.left ≡ true → At (find (is_of s.thread) s.seats.waiters) cell
+    → stepping bundle s ≢ Stuck → vs ≡ (time_was_over ∷ []) ∷ [] → goes_on bundle v.frames.top vs ≡ Some fr.top
     → IfSome (find (is_of v.thread) v.seats.waiters) (λ w. seats ≡ record v.seats { waiters = without (w ∷ []) v.seats.waiters })
-    → fr ≡ record v.frames { top = stands v.frames.top block at out } → ls ≡ lines.Note (TimedOut v.thread cell) ∷ []
+    → fr.below ≡ v.frames.below → ls ≡ lines.Note (TimedOut v.thread cell) ∷ []
     → answers (Went ls) (record v { frames = fr; seats = seats; steps = v.steps + 1 }) ≡ stepping bundle s
-timed_out_so bundle s v cell f vs out block at fr seats ls view left waits h top results way stopped same told =
-    let on : goes_on bundle v.frames.top vs ≡ Some (stands v.frames.top block at out) = subst (λ f. goes_on bundle f vs ≡ Some (stands f block at out)) top way in
+timed_out_so bundle s v cell vs fr seats ls view left waits h results way stopped below told =
     let main : v.left ≡ true → At (find (is_of v.thread) v.seats.waiters) cell → stepping bundle v ≢ Stuck → answers (Went ls) (record v { frames = fr; seats = seats; steps = v.steps + 1 }) ≡ stepping bundle v =
-    λ left waits h. time_out_by bundle v cell vs out block at fr seats ls left waits h results on stopped same told in
+    λ left waits h. time_out_by bundle v cell vs fr seats ls left waits h results way stopped below told in
     subst (λ (s : Held). s.left ≡ true → At (find (is_of s.thread) s.seats.waiters) cell → stepping bundle s ≢ Stuck → answers (Went ls) (record v { frames = fr; seats = seats; steps = v.steps + 1 }) ≡ stepping bundle s) view main left waits h
 
 -- ---- a wait at a cell that is there
@@ -115,22 +112,20 @@ module _ (bundle : List Item) (s v : Held) (timed : Bool) (expected : Scalar) (c
       subst (λ i. EventFits s.rule (initials s.objects) s.log (event i x)) thread
       (subst (λ x. EventFits s.rule (initials s.objects) s.log (event s.thread x)) (sym is) (access_fits s (Loads Relaxed) cell 0 k _ (same_thread own) there chosen refl))
 
-  pub wait_goes_on : (f : Activation) (vs : List Value) → waiting_at bundle s timed expected cell ≢ Stuck → same_scalar k.value expected ≡ false → f ≡ v.frames.top → vs ≡ (found_another ∷ []) ∷ [] → IsSome (goes_on bundle f vs)
-  wait_goes_on f vs h other top results =
-      let is : f ≡ s.frames.top = top ∙ ap (λ (s : Held). s.frames.top) view in
-      subst (λ f. IsSome (goes_on bundle f vs)) (sym is) (subst (λ vs. IsSome (goes_on bundle s.frames.top vs)) (sym results) (wait_goes_there bundle s timed expected cell k h chosen other))
+  pub wait_goes_on : (vs : List Value) → waiting_at bundle s timed expected cell ≢ Stuck → same_scalar k.value expected ≡ false → vs ≡ (found_another ∷ []) ∷ [] → IsSome (goes_on bundle s.frames.top vs)
+  wait_goes_on vs h other results = subst (λ vs. IsSome (goes_on bundle s.frames.top vs)) (sym results) (wait_goes_there bundle s timed expected cell k h chosen other)
 
-  pub waited_on : {E : Type 0} (r : Result StepEnd E) (t : Held) (x : Kind) (f : Activation) (vs out : List Value) (block at : ℕ) → waiting_at bundle s timed expected cell ≢ Stuck → same_scalar k.value expected ≡ false → f ≡ v.frames.top → vs ≡ (found_another ∷ []) ∷ []
-      → goes_on bundle f vs ≡ Some (stands f block at out) → x ≡ Access Read cell Relaxed k.position k.value
-      → IfOk r (λ end. answers end t ≡ logs s (event v.thread x) (ahead s) (record s.frames { top = stands s.frames.top block at out })) → IfOk r (λ end. answers end t ≡ waiting_at bundle s timed expected cell)
-  waited_on (Err e') t x f vs out block at h other top results way read answer = tt
-  waited_on (Ok end) t x f vs out block at h other top results way read answer =
-      let is : f ≡ s.frames.top = top ∙ ap (λ (s : Held). s.frames.top) view in
-      let on : goes_on bundle s.frames.top ((found_another ∷ []) ∷ []) ≡ Some (stands s.frames.top block at out) =
-      ap (goes_on bundle s.frames.top) (sym results) ∙ subst (λ f. goes_on bundle f vs ≡ Some (stands f block at out)) is way in
-      answer ∙ ap (λ x. logs s (event v.thread x) (ahead s) (record s.frames { top = stands s.frames.top block at out })) read
-      ∙ ap (λ i. logs s (read_by i cell k) (ahead s) (record s.frames { top = stands s.frames.top block at out })) (sym thread)
-      ∙ sym (wait_goes bundle s timed expected cell k (stands s.frames.top block at out) h chosen other on)
+  pub waited_on : {E : Type 0} (r : Result StepEnd E) (t : Held) (x : Kind) (vs : List Value) → waiting_at bundle s timed expected cell ≢ Stuck → same_scalar k.value expected ≡ false → vs ≡ (found_another ∷ []) ∷ []
+      → x ≡ Access Read cell Relaxed k.position k.value
+      → IfOk r (λ end. IfSome (goes_on bundle s.frames.top vs) (λ f. answers end t ≡ logs s (event v.thread x) (ahead s) (record s.frames { top = f }))) → IfOk r (λ end. answers end t ≡ waiting_at bundle s timed expected cell)
+  waited_on (Err e') t x vs h other results read answer = tt
+  waited_on (Ok end) t x vs h other results read answer =
+      let there = some_of (goes_on bundle s.frames.top ((found_another ∷ []) ∷ [])) (wait_goes_there bundle s timed expected cell k h chosen other) in
+      let told : answers end t ≡ logs s (event v.thread x) (ahead s) (record s.frames { top = there.0 }) =
+      subst (λ (o : Option Activation). IfSome o (λ f. answers end t ≡ logs s (event v.thread x) (ahead s) (record s.frames { top = f }))) (ap (goes_on bundle s.frames.top) results ∙ there.1) answer in
+      told ∙ ap (λ x. logs s (event v.thread x) (ahead s) (record s.frames { top = there.0 })) read
+      ∙ ap (λ i. logs s (read_by i cell k) (ahead s) (record s.frames { top = there.0 })) (sym thread)
+      ∙ sym (wait_goes bundle s timed expected cell k there.0 h chosen other there.1)
 
   pub waited_here : {E : Type 0} (r : Result StepEnd E) (t : Held) (x : Kind) → waiting_at bundle s timed expected cell ≢ Stuck → same_scalar k.value expected ≡ true → x ≡ Access Read cell Relaxed k.position k.value
       → IfOk r (λ end. answers end t ≡ waits_with s (event v.thread x) cell timed) → IfOk r (λ end. answers end t ≡ waiting_at bundle s timed expected cell)

@@ -167,7 +167,7 @@ same_is i = elim (eqb_tells i i) [ inl t ↦ t.0 | inr f ↦ absurd (f.1 refl) ]
 active_there : (i : ℕ) (fs : List Activation) → active_on i (Active i fs) ≡ Some fs
 active_there i fs = ap (λ (b : Bool). if b then Some fs else None) (same_is i)
 
-turn_there : (bundle : List Item) (t : Held) → IsOn t.seats t.thread t.stack → t.stack < length t.seats.stacks
+pub turn_there : (bundle : List Item) (t : Held) → IsOn t.seats t.thread t.stack → t.stack < length t.seats.stacks
     → turn_of (numbered bundle) (begun t) t.thread ≡ with_some (doing_of (numbered bundle) t) (λ d. Some (turn t d))
 turn_there bundle t seated within =
     let p = numbered bundle in

@@ -2,6 +2,7 @@ pub mod AccessLaws
 pub mod Accessing
 pub mod ActLaws
 pub mod Acting
+pub mod Counting
 pub mod FutexLaws
 pub mod Hand
 pub mod Held
@@ -9,6 +10,7 @@ pub mod Kept
 pub mod Lists
 pub mod Making
 pub mod ObjectLaws
+pub mod Options
 pub mod Outcome
 pub mod Remembering
 pub mod StackLaws

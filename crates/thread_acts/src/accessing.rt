@@ -1,5 +1,5 @@
 // Accesses of memory, and fences.
-ghost use Rattle.std.specs.Prelude.{◌≡◌, ◌≢◌, suc, ℕ, ◌+◌, ◌-◌, ◌<◌, [], ◌∷◌, ◌++◌, IsSome, IsNone, Some, None, MatchOption, IfOk, OnOk, OnErr, length, slice_get, drop, true, false};
+ghost use Rattle.std.specs.Prelude.{◌≡◌, ◌≢◌, suc, ℕ, ◌+◌, ◌-◌, ◌<◌, [], ◌∷◌, ◌++◌, IsSome, IsNone, IfSome, Some, None, MatchOption, IfOk, OnOk, OnErr, length, slice_get, drop, true, false};
 ghost use Rattle.mem_axioms.specs.declared.types.Mode.TheVariants.{Read};
 ghost use Rattle.mem_axioms.specs.declared.types.Kind.TheVariants as kinds;
 ghost use Rattle.mem_axioms.specs.Objects.{HasCell, initial_of};
@@ -18,7 +18,7 @@ ghost use Rattle.frames.specs.Chains.{stands};
 ghost use Rattle.step_forms.specs.Asked.{access_of};
 ghost use Rattle.thread_acts.specs.Held.{ahead};
 ghost use Rattle.thread_acts.specs.Outcome.{Stays};
-ghost use Rattle.thread_acts.specs.Acting.{answers, acting};
+ghost use Rattle.thread_acts.specs.Acting.{answers, acting, goes_on};
 ghost use Rattle.thread_acts.specs.Remembering.{initials};
 ghost use Rattle.thread_acts.specs.Accessing.{picking, race_at, logs};
 
@@ -40,7 +40,7 @@ use std::sync::ledger::{Blank, Ledger};
 use step_forms::Access;
 
 /// An access in the words of memory.
-fn wanted(access: Access) -> Wanted
+pub(crate) fn wanted(access: Access) -> Wanted
     ensures { result ≡ wanted (access_of access) }
 {
     match access {
@@ -346,13 +346,7 @@ impl<M: Memory, C: Determined> State<M, C> {
             kind: kind_of(access, cell, chosen),
         };
         write_results(access, chosen, values)?;
-        match next_place(code, self.frames.top()) {
-            Some(at) => self.log_next(event, Some(cell), options, at, values),
-            None => {
-                let place = passing(code, self.frames.top(), values, out)?;
-                self.log(event, Some(cell), options, place, out)
-            }
-        }
+        self.log_on(code, event, Some(cell), options, values, out)
     }
 
     /// The ending of a run whose last event races.
@@ -448,6 +442,37 @@ impl<M: Memory, C: Determined> State<M, C> {
         }
     }
 
+    /// The thread's event is logged, and it goes on with these results of its instruction; a pick among so many options is taken. Where
+    /// the event races that is the ending. Where no memory is found the state is as before; the list may have changed.
+    pub(crate) fn log_on(
+        &mut self,
+        code: &Checked,
+        event: Event,
+        cell: Option<CellId>,
+        options: u32,
+        results: &Slots,
+        out: &mut Slots,
+    ) -> Result<StepEnd, AllocError>
+        requires left { self.old.left ≡ true }
+        requires room { self.old.steps < self.old.budget }
+        requires makes { (i : ℕ) → makes_thread i event ≡ false }
+        requires fits { EventFits self.old.rule (initials self.old.objects) self.old.log event }
+        requires cell { HasRoom (record { thread = self.old.thread; cell = cell; events = 1 }) event }
+        requires options { 0 < options }
+        requires there { IsSome (goes_on code.now self.old.frames.top results.now.values) }
+        ensures ok { IfOk result (λ end. IfSome (goes_on code.now self.old.frames.top results.now.values) (λ f. answers end self.new ≡ logs self.old event (pick options (ahead self.old)).1 (record self.old.frames { top = f }))) }
+        ensures err { OnErr result (self.new ≡ self.old) }
+        ensures stays { IfOk result (λ end. Stays end self.old self.new) }
+    {
+        match next_place(code, self.frames.top()) {
+            Some(at) => self.log_next(event, cell, options, at, results),
+            None => {
+                let place = passing(code, self.frames.top(), results, out)?;
+                self.log(event, cell, options, place, out)
+            }
+        }
+    }
+
     /// The thread passes a fence.
     pub fn fence(
         &mut self,
@@ -468,12 +493,6 @@ impl<M: Memory, C: Determined> State<M, C> {
             kind: Kind::Fence { order },
         };
         values.clear();
-        match next_place(code, self.frames.top()) {
-            Some(at) => self.log_next(event, None, 1, at, values),
-            None => {
-                let place = passing(code, self.frames.top(), values, out)?;
-                self.log(event, None, 1, place, out)
-            }
-        }
+        self.log_on(code, event, None, 1, values, out)
     }
 }

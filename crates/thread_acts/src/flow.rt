@@ -151,7 +151,7 @@ fn stand_next(frames: &mut Frames, at: u32, results: &Slots) -> Result<(), Alloc
 
 /// The top frame goes on with these results of its instruction. Where no memory is found the frames are as before; the list may have
 /// changed.
-pub(crate) fn go_on(
+pub fn go_on(
     code: &Checked,
     frames: &mut Frames,
     results: &Slots,

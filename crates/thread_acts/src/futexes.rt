@@ -19,7 +19,7 @@ ghost use Rattle.thread_acts.specs.FutexLaws.{waiting_at, waits_with};
 
 use crate::accessing::{commit, line_of, read};
 use crate::finding::case_of;
-use crate::flow::{passing, stand};
+use crate::flow::go_on;
 use crate::results::line;
 use crate::state::{State, ended};
 use bundle_check::Checked;
@@ -98,9 +98,8 @@ impl<M: Memory, C: Determined> State<M, C> {
         let thread = self.thread;
         let lines = line(self.alloc, Note::TimedOut { thread, cell })?;
         tell(OVER, values)?;
-        let place = passing(code, self.frames.top(), values, out)?;
+        go_on(code, &mut self.frames, values, out)?;
         self.seats.stop(thread);
-        stand(&mut self.frames, place, out);
         self.steps += 1;
         Ok(StepEnd::Went(lines))
     }
@@ -157,8 +156,7 @@ impl<M: Memory, C: Determined> State<M, C> {
             return self.stand_waiting(event, cell, wait.timed);
         }
         tell(ANOTHER, values)?;
-        let place = passing(code, self.frames.top(), values, out)?;
-        self.log(event, Some(cell), 1, place, out)
+        self.log_on(code, event, Some(cell), 1, values, out)
     }
 
     /// The thread's read is logged, and it waits where it stands. Where the read races that is the ending, and it does not wait.

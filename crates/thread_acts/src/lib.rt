@@ -4,6 +4,7 @@
 
 pub mod accessing;
 mod calls;
+mod counting;
 pub mod exceptions;
 pub mod finding;
 pub mod flow;

@@ -30,7 +30,7 @@ fn end_object(heap: &mut Heap, object: u32)
 
 /// The cells of these objects are dead.
 #[tactic(auto, using(crate::specs::Lists::ending))]
-pub(crate) fn end_objects(heap: &mut Heap, objects: &[u32])
+pub fn end_objects(heap: &mut Heap, objects: &[u32])
     ensures objects { heap.new.objects ≡ objects_end heap.old.objects objects.now }
     ensures left { heap.new.left ≡ heap.old.left }
     ensures initials { initials heap.new.objects ≡ initials heap.old.objects }

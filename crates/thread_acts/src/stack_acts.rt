@@ -1,7 +1,8 @@
 // Stacks that are made and killed, a thread's own object, and what a thread tells of itself.
-ghost use Rattle.std.specs.Prelude.{◌≡◌, ◌≢◌, ◌<◌, IsSome, Some, Err, IfOk, IfSome, IfNone, OnOk, OnErr, slice_get, true};
+ghost use Rattle.std.specs.Prelude.{◌≡◌, ◌≢◌, ◌<◌, ◌++◌, IsSome, Some, Err, IfOk, IfSome, IfNone, OnOk, OnErr, slice_get, true};
 ghost use Rattle.mu_values.specs.declared.scalars.Scalar.TheVariants as scalars;
 ghost use Rattle.bundle_check.specs.Checking.{bundle_tables};
+ghost use Rattle.frames.specs.Chains.{stands};
 ghost use Rattle.frames.specs.FrameOf.{frame_of};
 ghost use Rattle.mu_model.specs.declared.endings.Case.TheVariants.{StackNotReady};
 ghost use Rattle.mu_model.specs.EnteringStacks.{ready};
@@ -11,11 +12,11 @@ ghost use Rattle.mu_model.specs.Acts as acts;
 ghost use Rattle.seats.specs.Seats.{IsReady};
 ghost use Rattle.thread_acts.specs.Held.{held_stacks};
 ghost use Rattle.thread_acts.specs.Outcome.{Stays};
-ghost use Rattle.thread_acts.specs.Acting.{answers, acting};
+ghost use Rattle.thread_acts.specs.Acting.{answers, acting, goes_on};
 ghost use Rattle.thread_acts.specs.StackLaws.{waiting_frame, with_stack};
 
 use crate::accessing::{commit_other, line_of};
-use crate::flow::{passing, stand};
+use crate::flow::{go_on, next_place, passing, stand};
 use crate::objects::end_frames;
 use crate::results::line;
 use crate::state::State;
@@ -62,27 +63,82 @@ fn waiting_frame(alloc: Global, block: u32, waits: Types) -> Frame
     }
 }
 
-/// There is one stack more, ready for the parameters of a function with that first block. It is refused only when out of memory; then
-/// nothing changes.
+/// A function that a stack is made for, and its first block.
+#[derive(Clone, Copy)]
+struct Begun {
+    function: u32,
+    block: u32,
+}
+
+/// There is one stack more, ready for the parameters of a function. It is refused only when out of memory; then nothing changes.
 fn add_stack(
     alloc: Global,
     code: &Checked,
-    function: u32,
-    block: u32,
+    begun: Begun,
     seats: &mut Seats,
 ) -> Result<(), AllocError>
-    ensures ok { OnOk result (seats.new ≡ with_stack block (classes_taken (bundle_tables code.now) function) seats.old) }
+    ensures ok { OnOk result (seats.new ≡ with_stack begun.block (classes_taken (bundle_tables code.now) begun.function) seats.old) }
     ensures err { OnErr result (seats.new ≡ seats.old) }
 {
-    let waits = classes_taken(alloc, code, function)?;
-    let also = classes_taken(alloc, code, function)?;
-    match Frames::new(alloc, waiting_frame(alloc, block, waits)) {
+    let waits = classes_taken(alloc, code, begun.function)?;
+    let also = classes_taken(alloc, code, begun.function)?;
+    match Frames::new(alloc, waiting_frame(alloc, begun.block, waits)) {
         Ok(frames) => {
             seats.make(frames, also)?;
             Ok(())
         }
         Err((_frame, refusal)) => Err(refusal),
     }
+}
+
+/// There is one stack more, and the top frame stands at a place of its block, with these results behind its own variables. Where no
+/// memory is found nothing changes.
+fn give_stack_next(
+    alloc: Global,
+    code: &Checked,
+    begun: Begun,
+    seats: &mut Seats,
+    frames: &mut Frames,
+    at: u32,
+    results: &Slots,
+) -> Result<(), AllocError>
+    ensures seats { OnOk result (seats.new ≡ with_stack begun.block (classes_taken (bundle_tables code.now) begun.function) seats.old) }
+    ensures frames { OnOk result (frames.new ≡ record frames.old { top = stands frames.old.top frames.old.top.block at (frames.old.top.vars ++ results.now.values) }) }
+    ensures same_seats { OnErr result (seats.new ≡ seats.old) }
+    ensures same_frames { OnErr result (frames.new ≡ frames.old) }
+{
+    let frame = frames.top_mut();
+    frame.slots.reserve_for(results)?;
+    add_stack(alloc, code, begun, seats)?;
+    frame.stand_behind(at, results);
+    Ok(())
+}
+
+/// There is one stack more, and the top frame goes on with these results of its instruction. Where no memory is found the stacks and the
+/// frames are as before; the list may have changed.
+fn give_stack(
+    alloc: Global,
+    code: &Checked,
+    begun: Begun,
+    seats: &mut Seats,
+    frames: &mut Frames,
+    results: &Slots,
+    out: &mut Slots,
+) -> Result<(), AllocError>
+    requires { IsSome (goes_on code.now frames.old.top results.now.values) }
+    ensures seats { OnOk result (seats.new ≡ with_stack begun.block (classes_taken (bundle_tables code.now) begun.function) seats.old) }
+    ensures top { OnOk result (goes_on code.now frames.old.top results.now.values ≡ Some frames.new.top) }
+    ensures below { frames.new.below ≡ frames.old.below }
+    ensures same_seats { OnErr result (seats.new ≡ seats.old) }
+    ensures same_frames { OnErr result (frames.new ≡ frames.old) }
+{
+    if let Some(at) = next_place(code, frames.top()) {
+        return give_stack_next(alloc, code, begun, seats, frames, at, results);
+    }
+    let place = passing(code, frames.top(), results, out)?;
+    add_stack(alloc, code, begun, seats)?;
+    stand(frames, place, out);
+    Ok(())
 }
 
 impl<M: Memory, C: Determined> State<M, C> {
@@ -141,9 +197,8 @@ impl<M: Memory, C: Determined> State<M, C> {
         ensures stays { IfOk result (λ end. Stays end self.old self.new) }
     {
         values.clear();
-        let place = passing(code, self.frames.top(), values, out)?;
+        go_on(code, &mut self.frames, values, out)?;
         self.seats.set_own(self.thread, own);
-        stand(&mut self.frames, place, out);
         Ok(self.went())
     }
 
@@ -186,16 +241,22 @@ impl<M: Memory, C: Determined> State<M, C> {
         let stack = self.seats.count();
         values.clear();
         values.push_scalar(Scalar::Stack(stack))?;
-        let place = passing(code, self.frames.top(), values, out)?;
         let event = Event {
             thread: self.thread,
             kind: Kind::NewStack { stack },
         };
         let lines = line_of(self.alloc, self.events, event)?;
         self.memory.reserve(self.thread, None, 1)?;
-        add_stack(self.alloc, code, function, block, &mut self.seats)?;
+        give_stack(
+            self.alloc,
+            code,
+            Begun { function, block },
+            &mut self.seats,
+            &mut self.frames,
+            values,
+            out,
+        )?;
         commit_other::<M, Brand>(&mut self.memory, event, Blank::new(1));
-        stand(&mut self.frames, place, out);
         self.events += 1;
         self.steps += 1;
         Ok(StepEnd::Went(lines))
@@ -242,10 +303,9 @@ impl<M: Memory, C: Determined> State<M, C> {
             return Ok(self.undefined(Case::StackNotReady));
         };
         values.clear();
-        let place = passing(code, self.frames.top(), values, out)?;
+        go_on(code, &mut self.frames, values, out)?;
         let frames = self.seats.kill(stack);
         end_frames(&frames, &mut self.heap);
-        stand(&mut self.frames, place, out);
         Ok(self.went())
     }
 }

@@ -56,7 +56,7 @@ impl<M: Memory, C: Determined> Model for State<M, C> {
 
     ghost Value = { Held };
 
-    ghost view = { λ s. record { thread = s.thread; stack = s.stack; frames = chain_of s.frames; left = s.left; seats = s.seats; objects = s.heap.objects; log = M.log s.memory; watched = s.watched; client = C.stands_for s.client; picks = s.picks; skip = s.skip; rule = M.rule s.memory; cells = s.heap.left; steps = s.steps; budget = s.budget } };
+    ghost view = { λ s. record { thread = s.thread; stack = s.stack; frames = chain_of s.frames; left = s.left; seats = s.seats; objects = s.heap.objects; log = M.log s.memory; watched = s.watched.enabled; client = C.stands_for s.client; picks = s.picks; skip = s.skip; rule = M.rule s.memory; cells = s.heap.left; steps = s.steps; budget = s.budget } };
 
     ghost invariant = { λ s. (M.objects s.memory ≡ initials s.heap.objects) × (s.events ≡ length (M.log s.memory)) × (s.events ≤ 100 * s.steps) × (s.steps ≤ s.budget) × (s.budget ≤ 1000000) × IsSound s.left s.thread s.stack s.seats (M.log s.memory) };
 }

@@ -1,1 +1,4 @@
 pub mod Asked
+pub mod Edited
+pub mod Flags
+pub mod Changes

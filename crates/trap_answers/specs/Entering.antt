@@ -1,6 +1,6 @@
 -- An answer that can be entered with an exception has one scalar.
-use Rattle.std.specs.Prelude.{◌≡◌, ℕ, ◌==◌, Bool, true, false, List, [], ◌∷◌, Option, Some, None, IsSome, refl, if◌then◌else◌}
-use Rattle.std.proofs.Common.{arith, subst}
+use Rattle.std.specs.Prelude.{◌≡◌, ℕ, ◌==◌, true, false, [], ◌∷◌, Option, Some, None, IsSome, refl}
+use Rattle.std.proofs.Common.{arith}
 use Rattle.std.proofs.lemmas.Bool.Decides.{nat_tests}
 use Rattle.mu_values.specs.declared.scalars.Scalar.{Scalar}
 use Rattle.check_tables.specs.declared.tables.Tables.{Tables}

@@ -1,2 +1,3 @@
 pub mod Watching
 pub mod Entering
+pub mod Editing

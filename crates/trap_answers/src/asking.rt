@@ -1,9 +1,8 @@
 //! Asks a client about a stack.
-ghost use Rattle.std.specs.Prelude.{◌≡◌, List, IfOk, IfSome, Some, option_map, slice_get};
+ghost use Rattle.std.specs.Prelude.{◌≡◌, List, IfOk, Some, option_map, slice_get};
 ghost use Rattle.frames.specs.Activations.{Activation};
 ghost use Rattle.mu_model.specs.Configuration.{Active};
 ghost use Rattle.mu_model.specs.Answers.{answer_of};
-ghost use Rattle.mu_model.specs.Clients.{no_edit};
 ghost use Rattle.client_hooks.specs.Plans.{planned};
 ghost use Rattle.seats.specs.Seats.{IsOn};
 
@@ -23,12 +22,13 @@ struct Asking<'a, C: Determined> {
 }
 
 impl<'a, C: Determined> Asks for Asking<'a, C> {
-    ghost use Rattle.std.specs.Prelude.{◌≡◌, IfOk, IfSome, option_map};
+    ghost use Rattle.std.specs.Prelude.{◌≡◌, IfOk, option_map};
     ghost use Rattle.mu_model.specs.Answers.{answer_of};
-    ghost use Rattle.mu_model.specs.Clients.{no_edit};
     ghost use Rattle.client_hooks.specs.Plans.{planned};
 
-    ghost asked = { λ old number frames waits new after. (after ≡ frames) × IfOk new.answer (λ plan. option_map planned plan ≡ answer_of old.view.now.tables (record { thread = old.view.now.thread; watchpoint = old.view.now.watchpoint; asked = old.view.now.asked; frames = frames }) (C.stands_for old.client.now)) × IfOk new.answer (λ plan. IfSome plan (λ x. (planned x).edit ≡ no_edit)) };
+    ghost takes = { λ _ _ _. Unit {0} };
+
+    ghost asked = { λ old number frames waits new after. (after ≡ frames) × IfOk new.answer (λ plan. option_map planned plan ≡ answer_of old.view.now.tables (record { thread = old.view.now.thread; watchpoint = old.view.now.watchpoint; asked = old.view.now.asked; frames = frames }) (C.stands_for old.client.now)) };
 
     fn ask(&mut self, stack: ReadyStack) -> ReadyStack {
         match self.client.answer(self.alloc, self.view, stack) {
@@ -62,8 +62,6 @@ pub fn ask<C: Determined>(
     ensures same { (frames : List Activation) → slice_get seats.old.stacks stack ≡ Some (Active view.now.thread frames) → seats.new ≡ seats.old }
     ensures answer { (frames : List Activation) → slice_get seats.old.stacks stack ≡ Some (Active view.now.thread frames)
         → IfOk result (λ plan. option_map planned plan ≡ answer_of view.now.tables (record { thread = view.now.thread; watchpoint = view.now.watchpoint; asked = view.now.asked; frames = frames }) (C.stands_for client.now)) }
-    ensures keeps { (frames : List Activation) → slice_get seats.old.stacks stack ≡ Some (Active view.now.thread frames)
-        → IfOk result (λ plan. IfSome plan (λ x. (planned x).edit ≡ no_edit)) }
 {
     let waits = Types::from_vec(Vec::from_slice(alloc, view.asked().as_slice())?);
     let mut asking = Asking {

@@ -3,10 +3,12 @@
 
 mod asking;
 mod bringing;
+mod editing;
 mod lines;
 mod watched;
 
 pub use asking::ask;
 pub use bringing::{bring, target};
+pub use editing::{edit, edit_refusal};
 pub use lines::trap_lines;
 pub use watched::Watched;

@@ -1,67 +1,104 @@
 //! Watchpoints that are enabled.
-ghost use Rattle.std.specs.Prelude.{◌≡◌, [], IfOk, OnOk, fold};
-ghost use Rattle.mu_model.specs.Traps.{is_among, watch};
+ghost use Rattle.std.specs.Prelude.{◌≡◌, ℕ, [], true, fold, OnOk};
+ghost use Rattle.mu_model.specs.Traps.{is_watched, watch};
+ghost use Rattle.trap_answers.specs.Watching.{AreKnown};
 
 use client_hooks::{Watch, Watches};
 use std::alloc::{AllocError, Global};
+use std::collections::BTreeMap;
 use std::marker::Model;
 
-/// The watchpoints that are enabled. Contracts see their numbers, the one that was enabled last first.
+/// The watchpoints that are enabled. Contracts see their numbers in rising order, and the numbers that are known: a watchpoint that is
+/// known is enabled or disabled without a refusal.
 #[derive(Drop)]
 pub struct Watched {
-    // The one that was enabled last stands last.
-    numbers: Vec<u32>,
+    // Of each watchpoint that is known, whether it is enabled.
+    flags: BTreeMap<u32, bool>,
 }
 
 impl Model for Watched {
-    ghost use Rattle.std.specs.Prelude.{ℕ, List, reverse};
+    ghost use Rattle.std.specs.Ordering.{nat_cmp};
+    ghost use Rattle.std.specs.BTreeMap.{IsOrdered, keys};
+    ghost use Rattle.trap_answers.specs.Watching.{Watching, enabled_in};
 
-    ghost Value = { List ℕ };
+    ghost Value = { Watching };
 
-    ghost view = { λ w. reverse w.numbers.items };
+    ghost view = { λ w. record { enabled = enabled_in w.flags.entries; known = keys w.flags } };
+
+    ghost invariant = { λ w. IsOrdered nat_cmp w.flags };
 }
 
 impl Watched {
-    /// None is enabled. It takes no memory yet.
+    /// None is enabled, and none is known. It takes no memory yet.
     pub fn new(alloc: Global) -> Watched
-        ensures { result ≡ [] }
+        ensures { result ≡ record { enabled = []; known = [] } }
     {
         Watched {
-            numbers: Vec::new(alloc),
+            flags: BTreeMap::new(alloc),
         }
     }
 
-    /// Whether a watchpoint is enabled.
-    #[tactic(auto, using(crate::specs::Watching::watching))]
+    /// Whether a watchpoint is enabled. It takes a logarithm of how many are known.
+    #[tactic(auto, using(crate::proofs::Flags::flag_found))]
     pub fn contains(&self, number: u32) -> bool
-        ensures { result ≡ is_among number self.now }
+        ensures { result ≡ is_watched number self.now.enabled }
     {
-        self.numbers.as_slice().contains(&number)
+        match self.flags.get(&number) {
+            Some(enabled) => *enabled,
+            None => false,
+        }
     }
 
-    /// A watchpoint is enabled from now on, or not. It is refused only when out of memory.
-    fn set(&mut self, change: Watch) -> Result<(), AllocError>
-        ensures { OnOk result (self.new ≡ watch self.old (change.number, change.enabled)) }
+    /// A watchpoint is known from now on. It is refused only when out of memory; those that are enabled, and those that are known, stay.
+    #[tactic(auto, using(crate::proofs::Flags::enabled_new))]
+    fn know(&mut self, number: u32) -> Result<(), AllocError>
+        ensures enabled { self.new.enabled ≡ self.old.enabled }
+        ensures known { OnOk result (is_watched number self.new.known ≡ true) }
+        ensures more { (n : ℕ) → is_watched n self.old.known ≡ true → is_watched n self.new.known ≡ true }
     {
-        if !change.enabled {
-            self.numbers.retain(|n| *n != change.number);
-        } else if !self.contains(change.number) {
-            self.numbers.push(change.number)?;
+        if self.flags.contains_key(&number) {
+            return Ok(());
+        }
+        self.flags.insert(number, false)?;
+        Ok(())
+    }
+
+    /// A watchpoint that is known is enabled from now on, or not.
+    #[tactic(auto, using(crate::proofs::Flags::enabled_watch))]
+    fn set(&mut self, change: Watch)
+        requires { is_watched change.number self.old.known ≡ true }
+        ensures enabled { self.new.enabled ≡ watch self.old.enabled (change.number, change.enabled) }
+        ensures known { self.new.known ≡ self.old.known }
+    {
+        match self.flags.insert(change.number, change.enabled) {
+            Ok(_) => {}
+            Err(_) => unreachable!(),
+        }
+    }
+
+    /// The watchpoints of these changes are known from now on. It is refused only when out of memory. Those that are enabled stay so in
+    /// each case, and no other.
+    #[tactic(auto, using(crate::proofs::Changes::known_also))]
+    pub fn reserve(&mut self, changes: &Watches) -> Result<(), AllocError>
+        ensures enabled { self.new.enabled ≡ self.old.enabled }
+        ensures known { OnOk result (AreKnown changes.now self.new.known) }
+    {
+        for change in changes.as_slice() {
+            self.know(change.number)?;
         }
         Ok(())
     }
 
-    /// What is enabled after these changes, one after the other. It is refused only when out of memory.
-    #[tactic(auto, using(crate::specs::Watching::watch_more))]
-    pub fn after(&self, alloc: Global, changes: &Watches) -> Result<Watched, AllocError>
-        ensures { IfOk result (λ w. w ≡ fold watch self.now changes.now) }
+    /// Makes these changes, one after the other, of watchpoints that are known. It takes no memory, and for each change a logarithm of how
+    /// many are known.
+    #[tactic(auto, using(crate::proofs::Changes::watch_more, crate::proofs::Changes::known_at))]
+    pub fn apply(&mut self, changes: &Watches)
+        requires { AreKnown changes.now self.old.known }
+        ensures enabled { self.new.enabled ≡ fold watch self.old.enabled changes.now }
+        ensures known { self.new.known ≡ self.old.known }
     {
-        let mut watched = Watched {
-            numbers: Vec::from_slice(alloc, self.numbers.as_slice())?,
-        };
         for change in changes.as_slice() {
-            watched.set(*change)?;
+            self.set(*change);
         }
-        Ok(watched)
     }
 }

@@ -28,7 +28,7 @@ pub returns-clause-frames : goal.returns-clause-frames
 returns-clause-frames c =
     let first : first_of c.args.code.now c.args.function ≡ Some c.in-Some.block = ap (λ o. with_some o (λ (g : Function). g.first)) c.function.ensures ∙ c.in-Some.is in (
       subst (λ o. IsSomeAnd o (λ b. frames_in c.close-stack.result.frames ≡ before_parameters b (classes_taken (bundle_tables c.args.code.now) c.args.function) ∷ frames_in c.args.stack.frames)) (sym first) (on_top c),
-      sym c.results_of.ensures ∙ c.are_same.ensures.same c.if-not-are_same.false ∙ c.waits.ensures,
+      c.has_results.ensures.same c.if-not-has_results.false ∙ c.waits.ensures,
     )
 
 pub invariant_of-room : goal.invariant_of-room

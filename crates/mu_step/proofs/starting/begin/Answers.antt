@@ -4,11 +4,14 @@ use Rattle.thread_acts.specs.Held.{Held}
 use Rattle.thread_acts.specs.Hand.{hand_made, hand_on}
 use Rattle.mu_step.specs.StartLaws.{new_enters}
 use Rattle.mu_step.proofs.EnteringViews.{lands_low, counts_two, low_two, steps_low}
-use Rattle.mu_step.proofs.StartViews.{begins_so, made_at, sound_at}
+use Rattle.mu_step.proofs.StartViews.{begins_there, begins_so, made_at, sound_at}
 use Rattle.mu_step.proofs.starting.begin.Goals as goal
 
 pub switch_starting-passed-requires-clause-on : goal.switch_starting-passed-requires-clause-on
 switch_starting-passed-requires-clause-on g c = hand_on _ _ _ _ _ c.state.invariant.5 (ap (λ (s : Held). s.left) c.state.view_is ∙ c.requires.left)
+
+pub go_on-requires : goal.go_on-requires
+go_on-requires g c = begins_there c.args.code.now _ _ c.args.results.now.values c.state.view_is c.requires.there
 
 pub arrive-requires : goal.arrive-requires
 arrive-requires g c = lands_low _ _ _ (chain_of c.switch_starting-passed.new.frames) c.args.landing.arrival _ c.state.view_is c.switch_starting-passed.ensures.frames c.requires.lands
@@ -22,7 +25,7 @@ log_two-requires-clause-second_fits g c = new_enters _ _ _ _ _ _
 
 pub returns-clause-ok : goal.returns-clause-ok
 returns-clause-ok g c =
-    begins_so c.args.state.now _ _ _ _ c.args.landing.arrival _ _ _ _ _ _ _ _ _ _ _ _ _ _ _ _ c.state.view_is c.requires.left c.requires.other (c.made-number.ensures ∙ ap (λ (s : Held). length s.seats.threads) c.state.view_is) (ap chain_of c.stand.ensures) c.switch_starting-passed.ensures.frames c.switch_starting-passed.ensures.started
+    begins_so c.args.code.now c.args.state.now _ _ _ _ c.args.landing.arrival _ c.args.results.now.values (chain_of c.go_on.new.frames) _ _ _ _ _ _ _ _ _ _ _ c.state.view_is c.requires.left c.requires.other (c.made-number.ensures ∙ ap (λ (s : Held). length s.seats.threads) c.state.view_is) c.in_ok-go_on.ensures.top c.go_on.ensures.below c.switch_starting-passed.ensures.frames c.switch_starting-passed.ensures.started
     c.arrive.ensures.frames c.arrive.ensures.objects c.arrive.ensures.left c.reserve.ensures.same_log c.reserve.ensures.same_rule c.log_two.ensures.log c.log_two.ensures.same_rule c.state.invariant.1 c.in_ok-lines.ensures
 
 pub invariant_of-state-2 : goal.invariant_of-state-2

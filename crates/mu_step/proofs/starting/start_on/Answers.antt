@@ -5,9 +5,9 @@ use Rattle.mu_step.proofs.EnteringViews.{no_misfit, lands_there, ready_takes}
 use Rattle.mu_step.proofs.StartViews.{few_threads, started_results, started_answered}
 use Rattle.mu_step.proofs.starting.start_on.Goals as goal
 
-pub passing-requires : goal.passing-requires
-passing-requires g c =
-    started_results c.args.code.now c.args.state.now _ _ _ c.args.own _ c.args.landing.arrival _ _ _ c.state.view_is c.requires.there (c.made-number.ensures ∙ ap (λ (s : Held). length s.seats.threads) c.state.view_is) c.requires.few c.requires.other c.requires.ready c.requires.lands c.top.ensures c.in_ok-results.ensures
+pub begin-requires-clause-there : goal.begin-requires-clause-there
+begin-requires-clause-there g c =
+    started_results c.args.code.now c.args.state.now _ _ _ c.args.own _ c.args.landing.arrival _ _ c.state.view_is c.requires.there (c.made-number.ensures ∙ ap (λ (s : Held). length s.seats.threads) c.state.view_is) c.requires.few c.requires.other c.requires.ready c.requires.lands c.in_ok-results.ensures
 
 pub hand_over-requires : goal.hand_over-requires
 hand_over-requires g c =
@@ -23,5 +23,5 @@ begin-requires-clause-lands g c =
 
 pub returns-clause-ok : goal.returns-clause-ok
 returns-clause-ok g c =
-    started_answered c.args.code.now c.args.state.now _ _ _ _ c.args.own _ c.args.landing.arrival _ _ _ _ _ _ c.begin.result c.state.view_is c.requires.there (c.made-number.ensures ∙ ap (λ (s : Held). length s.seats.threads) c.state.view_is) c.requires.few c.requires.other c.requires.ready c.requires.lands c.top.ensures
-    c.in_ok-results.ensures c.in_ok-place.ensures c.begin.ensures.ok
+    started_answered c.args.code.now c.args.state.now _ _ _ _ c.args.own _ c.args.landing.arrival _ _ c.begin.result c.state.view_is c.requires.there (c.made-number.ensures ∙ ap (λ (s : Held). length s.seats.threads) c.state.view_is) c.requires.few c.requires.other c.requires.ready c.requires.lands
+    c.in_ok-results.ensures c.begin.ensures.ok

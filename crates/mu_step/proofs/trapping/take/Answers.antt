@@ -1,9 +1,12 @@
-use Rattle.std.proofs.Common.{ap, ◌∙◌}
 use Rattle.client_hooks.specs.Plans.{end_planned}
-use Rattle.thread_acts.specs.Held.{Held}
-use Rattle.mu_step.proofs.TrapViews.{taken_lines, stop_answered}
+use Rattle.client_hooks.specs.Replies.{edit_of}
+use Rattle.mu_step.proofs.TrapViews.{taken_lines, take_there, take_answered}
 use Rattle.mu_step.proofs.trapping.take.Goals as goal
 
-pub returns-in-Stop-clause-ok : goal.returns-in-Stop-clause-ok
-returns-in-Stop-clause-ok g c =
-    stop_answered c.args.code.now c.args.state.now _ c.args.wait _ (end_planned c.args.plan.end) _ c.requires.there (ap end_planned c.in-Stop.is) (taken_lines c.args.state.now _ _ _ c.args.note _ c.state.view_is c.state.invariant.1 c.in_ok-trap_lines.ensures)
+pub edit_and_reply-requires-clause-there : goal.edit_and_reply-requires-clause-there
+edit_and_reply-requires-clause-there g c =
+    take_there c.args.code.now c.args.state.now c.args.wait (edit_of c.args.plan.edit) _ _ _ (end_planned c.args.plan.end) (taken_lines c.args.state.now _ _ _ c.args.note _ c.state.view_is c.state.invariant.1 c.in_ok-trap_lines.ensures) c.requires.there
+
+pub returns-clause-ok : goal.returns-clause-ok
+returns-clause-ok g c =
+    take_answered c.args.code.now c.args.state.now _ c.args.wait (edit_of c.args.plan.edit) _ _ _ (end_planned c.args.plan.end) c.edit_and_reply.result (taken_lines c.args.state.now _ _ _ c.args.note _ c.state.view_is c.state.invariant.1 c.in_ok-trap_lines.ensures) c.edit_and_reply.ensures.ok

@@ -1,7 +1,7 @@
 use Rattle.std.proofs.Common.{ap, sym, ◌∙◌}
 use Rattle.client_hooks.specs.Traps.{Trap}
 use Rattle.thread_acts.specs.ActLaws.{awaited_waits}
-use Rattle.mu_step.proofs.TrapViews.{awaits_in, answer_in, keeps_in, trap_there, trap_taken}
+use Rattle.mu_step.proofs.TrapViews.{awaits_in, answer_in, trap_there, trap_taken}
 use Rattle.mu_step.proofs.trapping.trap.Goals as goal
 
 pub consult-requires-clause-asked : goal.consult-requires-clause-asked
@@ -10,9 +10,9 @@ consult-requires-clause-asked g c = ap (λ (v : Trap). v.asked) c.in_ok-view.ens
 pub take-requires-clause-there : goal.take-requires-clause-there
 take-requires-clause-there g c =
     trap_there c.args.code.now c.args.state.now _ c.args.watchpoint _ c.in_ok-wait.wait _ _ c.in-Some.plan c.requires.there c.consult.ensures.same c.consult.ensures.wait (awaits_in c.args.code.now c.args.state.now _ _ _ _ _ c.state.view_is c.top.ensures c.in_ok-awaited.ensures c.in_ok-wait.ensures)
-    (answer_in c.args.code.now _ _ c.args.state.now c.in_ok-wait.wait _ c.args.watchpoint _ _ c.in-Some.plan c.in_ok-consult.ensures.answer c.in_ok-view.ensures c.tables.ensures c.in-Some.is) (keeps_in _ c.in-Some.plan c.in-Some.is c.in_ok-consult.ensures.keeps) c.trap_note-note.ensures
+    (answer_in c.args.code.now _ _ c.args.state.now c.in_ok-wait.wait _ c.args.watchpoint _ _ c.in-Some.plan c.in_ok-consult.ensures.answer c.in_ok-view.ensures c.tables.ensures c.in-Some.is) c.trap_note-note.ensures
 
 pub returns-in-Some-clause-ok : goal.returns-in-Some-clause-ok
 returns-in-Some-clause-ok g c =
     trap_taken c.args.code.now c.args.state.now _ _ c.args.watchpoint _ c.in_ok-wait.wait _ _ c.in-Some.plan _ c.requires.there c.consult.ensures.same c.consult.ensures.wait (awaits_in c.args.code.now c.args.state.now _ _ _ _ _ c.state.view_is c.top.ensures c.in_ok-awaited.ensures c.in_ok-wait.ensures)
-    (answer_in c.args.code.now _ _ c.args.state.now c.in_ok-wait.wait _ c.args.watchpoint _ _ c.in-Some.plan c.in_ok-consult.ensures.answer c.in_ok-view.ensures c.tables.ensures c.in-Some.is) (keeps_in _ c.in-Some.plan c.in-Some.is c.in_ok-consult.ensures.keeps) c.trap_note-note.ensures c.take.ensures.ok
+    (answer_in c.args.code.now _ _ c.args.state.now c.in_ok-wait.wait _ c.args.watchpoint _ _ c.in-Some.plan c.in_ok-consult.ensures.answer c.in_ok-view.ensures c.tables.ensures c.in-Some.is) c.trap_note-note.ensures c.take.ensures.ok

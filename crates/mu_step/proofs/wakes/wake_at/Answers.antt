@@ -9,8 +9,8 @@ use Rattle.mu_step.specs.WakeLaws.{oldest_distinct}
 use Rattle.mu_step.proofs.WakeViews.{wake_goes_on, wake_all_go, wake_threads, wake_sound, wake_many, waked}
 use Rattle.mu_step.proofs.wakes.wake_at.Goals as goal
 
-pub passing-requires : goal.passing-requires
-passing-requires g c = wake_goes_on c.args.code.now c.args.state.now _ c.args.many c.args.cell _ (record { view = c.state.view_is; left = c.requires.left; sound = c.state.invariant.5; alone = c.requires.goes_on; those = c.as_slice-woken.ensures ∙ c.waking-waking.ensures }) c.requires.there _ _ _ (c.count-count.ensures.is ∙ ap length (sym c.as_slice-woken.ensures)) c.top.ensures c.in_ok-tell.ensures
+pub go_on_all-requires-clause-goes : goal.go_on_all-requires-clause-goes
+go_on_all-requires-clause-goes g c = wake_goes_on c.args.code.now c.args.state.now _ c.args.many c.args.cell _ (record { view = c.state.view_is; left = c.requires.left; sound = c.state.invariant.5; alone = c.requires.goes_on; those = c.as_slice-woken.ensures ∙ c.waking-waking.ensures }) c.requires.there _ _ (c.count-count.ensures.is ∙ ap length (sym c.as_slice-woken.ensures)) c.in_ok-tell.ensures
 
 pub go_on_all-requires-clause-distinct : goal.go_on_all-requires-clause-distinct
 go_on_all-requires-clause-distinct g c = subst AreDistinct (sym (c.as_slice-woken.ensures ∙ c.waking-waking.ensures)) (oldest_distinct c.args.cell c.args.many c.state.inside.seats.waiters c.waiters_are_apart.ensures)
@@ -39,5 +39,5 @@ invariant_of-state-2 g c =
 
 pub returns-clause-ok : goal.returns-clause-ok
 returns-clause-ok g c =
-    waked c.args.code.now c.args.state.now _ c.args.many c.args.cell _ (record { view = c.state.view_is; left = c.requires.left; sound = c.state.invariant.5; alone = c.requires.goes_on; those = c.as_slice-woken.ensures ∙ c.waking-waking.ensures }) c.requires.there _ _ _ _ _ _ _ _ _ _ _ _ _ _ _ _ (c.count-count.ensures.is ∙ ap length (sym c.as_slice-woken.ensures)) c.state.invariant.1 c.top.ensures c.in_ok-tell.ensures c.in_ok-place.ensures c.in_ok-go_on_all.ensures.ok c.wake-gone.ensures.others
-    c.in_ok-go_on_all.ensures.frames (ap chain_of c.stand.ensures) c.reserve.ensures.same_log c.log_wake.ensures.added c.reserve.ensures.same_rule c.log_wake.ensures.same_rule c.in_ok-lines.ensures
+    waked c.args.code.now c.args.state.now _ c.args.many c.args.cell _ (record { view = c.state.view_is; left = c.requires.left; sound = c.state.invariant.5; alone = c.requires.goes_on; those = c.as_slice-woken.ensures ∙ c.waking-waking.ensures }) c.requires.there _ _ _ _ _ (chain_of c.go_on_all.new.frames) _ _ _ _ _ (c.count-count.ensures.is ∙ ap length (sym c.as_slice-woken.ensures)) c.state.invariant.1 c.in_ok-tell.ensures c.in_ok-go_on_all.ensures.top c.go_on_all.ensures.below c.in_ok-go_on_all.ensures.ok c.wake-gone.ensures.others
+    c.reserve.ensures.same_log c.log_wake.ensures.added c.reserve.ensures.same_rule c.log_wake.ensures.same_rule c.in_ok-lines.ensures

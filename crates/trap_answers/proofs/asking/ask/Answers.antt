@@ -1,7 +1,7 @@
 use Rattle.std.specs.Prelude.{ℕ, Some}
 use Rattle.std.proofs.Common.{sym, ◌∙◌, ap}
 use Rattle.mu_model.specs.Configuration.{Active}
-use Rattle.trap_answers.proofs.Asked.{seats_same, first_told, second_told}
+use Rattle.trap_answers.proofs.Asked.{seats_same, told}
 use Rattle.trap_answers.proofs.asking.ask.Goals as goal
 
 pub returns-clause-same : goal.returns-clause-same
@@ -12,9 +12,4 @@ returns-clause-same g c = λ frames there.
 pub returns-clause-answer : goal.returns-clause-answer
 returns-clause-answer g c = λ frames there.
     let at = there ∙ ap (λ (i : ℕ). Some (Active i frames)) (sym c.thread.ensures) in
-    first_told c.args.seats.now c.ask.new.self c.args.stack c.thread.result frames at (c.ask.ensures frames at)
-
-pub returns-clause-keeps : goal.returns-clause-keeps
-returns-clause-keeps g c = λ frames there.
-    let at = there ∙ ap (λ (i : ℕ). Some (Active i frames)) (sym c.thread.ensures) in
-    second_told c.args.seats.now c.ask.new.self c.args.stack c.thread.result frames at (c.ask.ensures frames at)
+    told c.args.seats.now c.ask.new.self c.args.stack c.thread.result frames at (c.ask.ensures frames at)

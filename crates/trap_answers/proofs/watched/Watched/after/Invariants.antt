@@ -1,7 +1,0 @@
-use Rattle.std.proofs.Common.{◌≡◌, fold, map, take}
-use Rattle.mu_model.specs.Traps.{watch}
-use Rattle.client_hooks.specs.declared.notes.Watch.{Watch}
-use Rattle.trap_answers.proofs.watched.Watched.after.Given as goal
-
-abbrev pub invariant-loop-change : goal.invariant-loop-change
-invariant-loop-change l = l.watched ≡ fold watch l.self (map (λ (w : Watch). (w.number, w.enabled)) (take l.change-index l.change-items))
