@@ -86,9 +86,11 @@ def explain_misuse(program, call, bundle, printed):
         if reason:
             return argument.token.start, lines + [("reason", reason)]
     asked = trapped.type_of(entry.stack) if entry.stack else None
-    if asked:
+    if asked and value_types.shape(bundle, asked) != value_types.shape(bundle, "stackref"):
         return entry.stack.token.start, lines + [("reason",
                                                   f"rebind needs a stackref, and this is of type {value_types.written(bundle, asked)}")]
+    if entry.pop and entry.pop.number >= len(trapped.frames):
+        return entry.pop.token.start, lines + [("reason", no_frame(trapped, entry.pop.number))]
     return entry.start.start, lines
 
 
@@ -118,7 +120,8 @@ def could_keep(trapped, frame, kept):
 
 
 def explain_types(program, call, bundle, printed):
-    """StackTypes at a trap: what the entry passes, and what the stack waits for."""
+    """StackTypes at a trap: what the entry passes, and what the stack waits for; where it edits the stack, what the function takes and gives
+    that it pushes."""
     trapped = Trapped(program, call, bundle, printed)
     entry = trapped.entry
     if entry is None:
@@ -128,11 +131,15 @@ def explain_types(program, call, bundle, printed):
     passed = [trapped.type_of(argument) for argument in entry.arguments]
     reply = entry.reply.text if entry.stack is None else "rebind"
     lines.append(("passed", written(passed)))
+    if entry.push:
+        lines += pushed(trapped, written)
     if entry.throws:
         lines.append(("expected", "an exception, which has the type ref<void>"))
     elif reply == "rebind":
         lines.append(("expected", "what the stack that is entered waits for: the parameters of its function where it is new, else the types "
                       "of its RET_WITH or of its TRAP; which of these it is cannot be shown"))
+    elif entry.pop or entry.push:
+        lines.append(("expected", edited(trapped)))
     else:
         instruction = trapped.instruction(0)
         types = [token.text for token in instruction.types] if instruction else []
@@ -142,3 +149,28 @@ def explain_types(program, call, bundle, printed):
             return entry.arguments[wrong].token.start, lines
     return entry.reply.start, lines
 
+
+
+def signature_of(trapped):
+    """The signature of the function that an entry pushes, or None."""
+    name = trapped.entry.push.text
+    function = trapped.bundle.functions.get(name) or trapped.bundle.declarations.get(name)
+    return function and trapped.bundle.signatures.get(function.signature.text)
+
+
+def pushed(trapped, written):
+    """What the function takes and gives that an entry pushes."""
+    signature = signature_of(trapped)
+    if signature is None:
+        return []
+    takes, gives = ([token.text for token in tokens] for tokens in (signature.parameters, signature.results))
+    return [("pushed", f"{trapped.entry.push.text}, which takes {written(takes)} and gives {written(gives)}")]
+
+
+def edited(trapped):
+    """What has to fit in an entry that edits the stack."""
+    frame = trapped.entry.pop.number if trapped.entry.pop else 0
+    if not trapped.entry.push:
+        return f"what frame {frame} waits for: the results of its CALL, or the types of its TRAP"
+    function = trapped.entry.push.text
+    return f"{function} gives what frame {frame} waits for, and the entry passes what {function} takes"

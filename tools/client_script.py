@@ -1,9 +1,10 @@
-"""A reader of client scripts: entries with their actions and their reply, each with byte offsets."""
+"""A reader of client scripts: entries with their actions, their edit and their reply, each with byte offsets."""
 import dataclasses
 
 from text_reader import SyntaxFault, TextReader, Token, number_value
 
 AN_ARGUMENT = "an argument: the name of a constant, a global or a function, or `kept F I`"
+A_FUNCTION = "the name of a function"
 A_SMALL_NUMBER = "a number from 0 to 4294967295"
 
 
@@ -26,12 +27,15 @@ class Action:
 
 @dataclasses.dataclass(slots=True)
 class Entry:
-    """An entry: its actions, and its reply. Of `rebind`, `stack` is the argument that names the stack; `arguments` are those of `pass`, or
-    the one of `throw`, which `throws` says."""
+    """An entry: its actions, its edit, and its reply. `pop` has the token and the number of a `pop`, `push` the name of the function that is
+    pushed. Of `rebind`, `stack` is the argument that names the stack; `arguments` are those of `pass`, or the one of `throw`, which `throws`
+    says."""
 
     start: Token
     end: Token = None
     actions: list = dataclasses.field(default_factory=list)
+    pop: Action = None
+    push: Token = None
     reply: Token = None
     stack: Argument = None
     throws: bool = False
@@ -56,6 +60,7 @@ class ClientReader(TextReader):
             entry = Entry(self.expect("{"))
             while token := self.accept("frames", "kept", "watch", "unwatch"):
                 entry.actions.append(Action(token, None if token.text == "frames" else self.small_number()))
+            self.edit(entry)
             self.reply(entry)
             entry.end = self.expect("}")
             self.entries.append(entry)
@@ -76,6 +81,14 @@ class ClientReader(TextReader):
             return Argument(name)
         kept = self.accept("kept")
         return kept and Argument(kept, self.small_number(), self.small_number())
+
+    def edit(self, entry):
+        """The edit of an entry, or none."""
+        token = self.accept("pop")
+        if token:
+            entry.pop = Action(token, self.small_number())
+        if self.accept("push"):
+            entry.push = self.accept_kind("global", A_FUNCTION) or self.fail()
 
     def reply(self, entry):
         """The reply of an entry."""

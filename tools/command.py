@@ -181,8 +181,6 @@ def run_fault(words):
         if word in seen:
             return at, [f"{word} stands twice; each option stands at most once"]
         seen.add(word)
-        if {"--client", "--auto"} <= seen:
-            return at, ["--client and --auto exclude each other: either a script answers the traps, or zero and NULL do"]
         if RUN_OPTIONS[word] is not None:
             at += 1
             if at == len(words):

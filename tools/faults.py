@@ -61,6 +61,6 @@ CASES = {
     "StackTypes": "a stack is entered with values of other types than it waits for",
     "Uncaught": "no frame of the stack has a destination for the exception",
     "NullCall": "a NULL function is called, or given a stack",
-    "NoBody": "a function that is only declared is called, or given a stack",
+    "NoBody": "a function that is only declared is called, given a stack, or pushed by the client",
     "ClientMisuse": "the client's entry names a frame or a kept value that does not exist, or enters what is no stack",
 }

@@ -36,7 +36,8 @@ class Frame:
 
 
 class Stack:
-    """A stack: its frames, the lowest first; it is `ready` to be entered, `active` or `dead`. `block` is where a new one begins."""
+    """A stack: its frames, the lowest first; it is `ready` to be entered, `active` or `dead`. `block` is where its next frame begins, of a new
+    stack, and of one on which the client pushed a function."""
 
     __slots__ = ("frames", "state", "block")
 
@@ -374,6 +375,7 @@ class Machine:
         stack = self.stacks[number]
         thread.stack, thread.frames, stack.state = number, stack.frames, "active"
         if exception is not None:
+            stack.block = None
             self.unwind(thread, exception)
         elif stack.block is not None:
             stack.frames.append(self.new_frame(stack.block, values))
@@ -403,11 +405,11 @@ class Machine:
             self.row += 1
         if type(self.lines[self.row]) is Ending:
             raise Ended
-        if self.setting.is_auto:
-            self.enter(thread, [self.code.zero(token.text) for token in node.read.types], None)
-        elif self.traps < len(self.setting.entries):
+        if self.traps < len(self.setting.entries):
             self.traps += 1
             self.reply(thread, self.setting.entries[self.traps - 1])
+        elif self.setting.is_auto:
+            self.enter(thread, [self.code.zero(token.text) for token in node.read.types], None)
         else:
             self.lose("the client stops the run")
 
@@ -419,6 +421,7 @@ class Machine:
             elif action.token.text == "unwatch":
                 self.watched.discard(action.number)
         given = [self.argument(thread, argument) for argument in entry.arguments]
+        self.edit(thread, entry)
         if entry.reply.text == "exit":
             self.record(thread, "exited")
             self.set_state(thread, "ended")
@@ -426,6 +429,14 @@ class Machine:
             self.enter(thread, None, given[0])
         else:
             self.enter(thread, given, None)
+
+    def edit(self, thread, entry):
+        """What an entry does to the frames of the trapped stack: a frame that is pushed is there once the stack is entered."""
+        stack = self.stacks[thread.stack]
+        if entry.pop and entry.pop.number:
+            del stack.frames[-entry.pop.number:]
+        if entry.push:
+            stack.block = self.code.entry_of(entry.push.text)
 
     def argument(self, thread, argument):
         """The value of an argument of a client's entry: a constant's, or one that a frame of the trapped stack keeps."""

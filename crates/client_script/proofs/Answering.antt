@@ -1,5 +1,6 @@
 -- What is computed of a text is an answer that it has.
 use Rattle.std.proofs.Common.{◌≡◌, ℕ, List, [], ◌∷◌, ◌++◌, Option, Some, None, Result, Ok, Err, refl, sym, ap, subst, ◌∙◌, append_assoc}
+use Rattle.text_forms.specs.declared.symbol.Symbol.TheVariants as symbols
 use Rattle.text_forms.specs.declared.fault.Fault.{Fault}
 use Rattle.text_forms.specs.Tokens.{Tok, IsText}
 use Rattle.text_forms.specs.Derives.{Derives}
@@ -42,20 +43,20 @@ seen_as bytes = let l = one_list bytes in record { tokens = l.0; end = l.1; lexe
 
 -- a script whose names and numbers are judged
 of_script : (bundle : List Item) (bytes : List ℕ) (s : Seen bytes) (es : List Entry) → Derives (script bundle) (seen bytes s.tokens s.end) es
-    → (d : Option (unmet.Fault ScriptKind)) → first_unmet (token_demands (globals_of bundle).names (seen bytes s.tokens s.end)) ≡ d → IsAnswer bundle bytes (answer_by d (entries_meant es))
-of_script bundle bytes s es derives None met = script_read s.tokens s.end es s.lexes derives (all_met (token_demands (globals_of bundle).names (seen bytes s.tokens s.end)) met)
+    → (d : Option (unmet.Fault ScriptKind)) → first_unmet (token_demands (globals_of bundle).names symbols.End (seen bytes s.tokens s.end)) ≡ d → IsAnswer bundle bytes (answer_by d (entries_meant es))
+of_script bundle bytes s es derives None met = script_read s.tokens s.end es s.lexes derives (all_met (token_demands (globals_of bundle).names symbols.End (seen bytes s.tokens s.end)) met)
 of_script bundle bytes s es derives (Some e) bad =
-    let u = unmet_is (globals_of bundle).names (seen bytes s.tokens s.end) e bad in
+    let u = unmet_is (globals_of bundle).names symbols.End (seen bytes s.tokens s.end) e bad in
     token_first s.tokens s.end u.before u.after u.here e s.lexes u.parts
     (front_live (script bundle) (u.before ++ u.here ∷ []) u.after (seen bytes s.tokens s.end) (u.parts ∙ sym (append_assoc u.before (u.here ∷ []) u.after)) (derived_live (script bundle) (seen bytes s.tokens s.end) es derives)) u.good u.bad
 
 -- a text of no script, of which the names and numbers before the grammar's fault are judged
 of_fault : (bundle : List Item) (bytes : List ℕ) (s : Seen bytes) (f : Fault) → IsFirstFault (script bundle) (seen bytes s.tokens s.end) f
-    → (d : Option (unmet.Fault ScriptKind)) → first_unmet (token_demands (globals_of bundle).names (tokens_before f.place (seen bytes s.tokens s.end))) ≡ d
+    → (d : Option (unmet.Fault ScriptKind)) → first_unmet (token_demands (globals_of bundle).names symbols.End (tokens_before f.place (seen bytes s.tokens s.end))) ≡ d
     → IsAnswer bundle bytes (answer_by (or_else d (Some (At (Text f.kind) f.place))) [])
-of_fault bundle bytes s f is None met = grammar_first s.tokens s.end f s.lexes is (all_met (token_demands (globals_of bundle).names (tokens_before f.place (seen bytes s.tokens s.end))) met)
+of_fault bundle bytes s f is None met = grammar_first s.tokens s.end f s.lexes is (all_met (token_demands (globals_of bundle).names symbols.End (tokens_before f.place (seen bytes s.tokens s.end))) met)
 of_fault bundle bytes s f is (Some e) bad =
-    let u = unmet_is (globals_of bundle).names (tokens_before f.place (seen bytes s.tokens s.end)) e bad in
+    let u = unmet_is (globals_of bundle).names symbols.End (tokens_before f.place (seen bytes s.tokens s.end)) e bad in
     let w = front_is f.place is.before is.after is.here (fault_place (script bundle) is.before is.after is.here f is.fault) in
     let before : is.before ≡ (u.before ++ u.here ∷ u.after) ++ w.rest = w.is ∙ ap (λ (ts : List Tok). tokens_before f.place ts ++ w.rest) (sym is.parts) ∙ ap (λ (ts : List Tok). ts ++ w.rest) u.parts in
     let split : is.before ≡ u.before ++ u.here ∷ (u.after ++ w.rest) = before ∙ append_assoc u.before (u.here ∷ u.after) w.rest in
@@ -66,10 +67,10 @@ of_fault bundle bytes s f is (Some e) bad =
 -- by what is read
 answered : (bundle : List Item) (bytes : List ℕ) (s : Seen bytes) → IsText (seen bytes s.tokens s.end) → (r : Result (List Entry) Fault) → whole (script bundle) (seen bytes s.tokens s.end) ≡ r
     → IsAnswer bundle bytes (answer_by (first_unmet (demands_by (globals_of bundle).names (seen bytes s.tokens s.end) r)) (entries_meant (entries_in r)))
-answered bundle bytes s text (Ok es) e = of_script bundle bytes s es (whole_ok (script bundle) (is_grammar bundle) (seen bytes s.tokens s.end) es text e) (first_unmet (token_demands (globals_of bundle).names (seen bytes s.tokens s.end))) refl
+answered bundle bytes s text (Ok es) e = of_script bundle bytes s es (whole_ok (script bundle) (is_grammar bundle) (seen bytes s.tokens s.end) es text e) (first_unmet (token_demands (globals_of bundle).names symbols.End (seen bytes s.tokens s.end))) refl
 answered bundle bytes s text (Err f) e =
     of_fault bundle bytes s f (whole_fault (script bundle) (is_grammar bundle) (seen bytes s.tokens s.end) f text e)
-    (first_unmet (token_demands (globals_of bundle).names (tokens_before f.place (seen bytes s.tokens s.end)))) refl
+    (first_unmet (token_demands (globals_of bundle).names symbols.End (tokens_before f.place (seen bytes s.tokens s.end)))) refl
 
 pub texts_are_answered : TextsAreAnswered
 texts_are_answered bundle bytes =

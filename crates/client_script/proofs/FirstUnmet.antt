@@ -2,6 +2,7 @@
 use Rattle.std.proofs.Common.{◌≡◌, ℕ, Bool, true, false, List, [], ◌∷◌, ◌++◌, Option, Some, None, refl, sym, ap, subst, ◌∙◌, append_assoc, inl, inr, arith}
 use Rattle.std.specs.Prelude.{◌⊎◌, nat_lt}
 use Rattle.std.proofs.lemmas.List.{append-nil}
+use Rattle.text_forms.specs.declared.symbol.Symbol.{Symbol}
 use Rattle.text_forms.specs.declared.fault.Fault.{Fault}
 use Rattle.text_forms.specs.Tokens.{Tok}
 use Rattle.text_forms.specs.Forms.{Form}
@@ -15,29 +16,30 @@ use Rattle.demands.specs.Names.{Names}
 use Rattle.demands.proofs.Meeting.{all_met}
 use Rattle.bundle_names.specs.declared.globals.Sort.{Sort}
 use Rattle.client_script.specs.declared.fault.ScriptKind.{ScriptKind}
-use Rattle.client_script.specs.Demands.{token_demand, token_demands}
+use Rattle.client_script.specs.Demands.{token_demand, token_demands, last_symbol}
 use Rattle.client_script.specs.Texts.{tokens_before}
 
-pub record Unmet (names : Names Sort) (ts : List Tok) (e : unmet.Fault ScriptKind) : Type 0 where
+-- `s` is the symbol of the token before them
+pub record Unmet (names : Names Sort) (s : Symbol) (ts : List Tok) (e : unmet.Fault ScriptKind) : Type 0 where
   pub before : List Tok
   pub here : Tok
   pub after : List Tok
   pub parts : ts ≡ before ++ here ∷ after
-  pub good : AllMet (token_demands names before)
-  pub bad : first_unmet (token_demand names here) ≡ Some e
+  pub good : AllMet (token_demands names s before)
+  pub bad : first_unmet (token_demand names (last_symbol s before) here) ≡ Some e
 
-unmet_later : (names : Names Sort) (t : Tok) (ts : List Tok) (e : unmet.Fault ScriptKind) → first_unmet (token_demand names t) ≡ None → Unmet names ts e → Unmet names (t ∷ ts) e
-unmet_later names t ts e met u =
-    record { before = t ∷ u.before; here = u.here; after = u.after; parts = ap (λ (x : List Tok). t ∷ x) u.parts; good = (all_met (token_demand names t) met, u.good); bad = u.bad }
+unmet_later : (names : Names Sort) (s : Symbol) (t : Tok) (ts : List Tok) (e : unmet.Fault ScriptKind) → first_unmet (token_demand names s t) ≡ None → Unmet names t.symbol ts e → Unmet names s (t ∷ ts) e
+unmet_later names s t ts e met u =
+    record { before = t ∷ u.before; here = u.here; after = u.after; parts = ap (λ (x : List Tok). t ∷ x) u.parts; good = (all_met (token_demand names s t) met, u.good); bad = u.bad }
 
-unmet_by : (names : Names Sort) (t : Tok) (ts : List Tok) (e : unmet.Fault ScriptKind) → (first_unmet (token_demands names ts) ≡ Some e → Unmet names ts e) → (d : Option (unmet.Fault ScriptKind)) → first_unmet (token_demand names t) ≡ d
-    → or_else d (first_unmet (token_demands names ts)) ≡ Some e → Unmet names (t ∷ ts) e
-unmet_by names t ts e later None met h = unmet_later names t ts e met (later h)
-unmet_by names t ts e later (Some d) bad h = record { before = []; here = t; after = ts; parts = refl; good = tt; bad = bad ∙ h }
+unmet_by : (names : Names Sort) (s : Symbol) (t : Tok) (ts : List Tok) (e : unmet.Fault ScriptKind) → (first_unmet (token_demands names t.symbol ts) ≡ Some e → Unmet names t.symbol ts e) → (d : Option (unmet.Fault ScriptKind)) → first_unmet (token_demand names s t) ≡ d
+    → or_else d (first_unmet (token_demands names t.symbol ts)) ≡ Some e → Unmet names s (t ∷ ts) e
+unmet_by names s t ts e later None met h = unmet_later names s t ts e met (later h)
+unmet_by names s t ts e later (Some d) bad h = record { before = []; here = t; after = ts; parts = refl; good = tt; bad = bad ∙ h }
 
-pub unmet_is : (names : Names Sort) (ts : List Tok) (e : unmet.Fault ScriptKind) → first_unmet (token_demands names ts) ≡ Some e → Unmet names ts e
-unmet_is names [] e h = absurd cc
-unmet_is names (t ∷ ts) e h = unmet_by names t ts e (unmet_is names ts e) (first_unmet (token_demand names t)) refl h
+pub unmet_is : (names : Names Sort) (s : Symbol) (ts : List Tok) (e : unmet.Fault ScriptKind) → first_unmet (token_demands names s ts) ≡ Some e → Unmet names s ts e
+unmet_is names s [] e h = absurd cc
+unmet_is names s (t ∷ ts) e h = unmet_by names s t ts e (unmet_is names t.symbol ts e) (first_unmet (token_demand names s t)) refl h
 
 -- ---- fronts of live tokens are live
 

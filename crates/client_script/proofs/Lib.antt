@@ -11,3 +11,4 @@ pub mod ToldValues
 pub mod Partial
 pub mod Naming
 pub mod Planning
+pub mod Passing

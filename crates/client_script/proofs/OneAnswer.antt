@@ -3,6 +3,8 @@ use Rattle.std.proofs.Common.{◌≡◌, ℕ, ◌<◌, ◌≤◌, true, List, []
 use Rattle.std.specs.Prelude.{◌⊎◌, nat_lt}
 use Rattle.std.proofs.lemmas.List.{length-append}
 use Rattle.std.proofs.lemmas.Bool.{cases_lt}
+use Rattle.text_forms.specs.declared.symbol.Symbol.{Symbol}
+use Rattle.text_forms.specs.declared.symbol.Symbol.TheVariants as symbols
 use Rattle.text_forms.specs.declared.fault.Fault.{Fault}
 use Rattle.text_forms.specs.Tokens.{Tok, IsText}
 use Rattle.text_forms.specs.Reading.{whole}
@@ -25,8 +27,8 @@ use Rattle.bundle_names.specs.Globals.{globals_of}
 use Rattle.client_script.specs.declared.fault.ScriptKind.{ScriptKind}
 use Rattle.client_script.specs.declared.fault.ScriptKind.TheVariants.{Text}
 use Rattle.client_script.specs.declared.tree.Entry.{Entry}
-use Rattle.client_script.specs.Grammar.{count, action, kept_value, argument, pass, way, rebind, reply, inside, entry, script}
-use Rattle.client_script.specs.Demands.{token_demand, token_demands}
+use Rattle.client_script.specs.Grammar.{count, action, popping, pushing, edit, kept_value, argument, pass, way, rebind, reply, ending, inside, entry, script}
+use Rattle.client_script.specs.Demands.{token_demand, token_demands, last_symbol}
 use Rattle.client_script.specs.Meaning.{entries_meant}
 use Rattle.client_script.specs.Texts.{tokens_before, demands_by, entries_in}
 use Rattle.client_script.specs.ScriptAnswers.{Answer, IsAnswer, script_read, grammar_first, token_first, answer_by, script_answer, AnswerIsOne}
@@ -36,7 +38,7 @@ use Rattle.client_script.proofs.FirstUnmet.{front_live, fault_place, not_below}
 use Rattle.client_script.proofs.Answering.{texts_are_answered}
 
 has_no_limits : (bundle : List Item) → limitless (script bundle) ≡ true
-unfolding mark name numeral global count action kept_value argument pass way rebind reply inside entry script
+unfolding mark name numeral global count action popping pushing edit kept_value argument pass way rebind reply ending inside entry script
 has_no_limits bundle = refl
 
 -- ---- demands that are met, and the first that is not
@@ -46,9 +48,10 @@ none_met none m = refl
 none_met (demand place kind met) m = rw m refl
 none_met (a ⨾ b) m = rw (none_met a m.0) (none_met b m.1)
 
-unmet_first : (names : Names Sort) (before after : List Tok) (here : Tok) (e : unmet.Fault ScriptKind) → AllMet (token_demands names before) → first_unmet (token_demand names here) ≡ Some e → first_unmet (token_demands names (before ++ here ∷ after)) ≡ Some e
-unmet_first names [] after here e good bad = rw bad refl
-unmet_first names (t ∷ before) after here e good bad = rw (none_met (token_demand names t) good.0) (unmet_first names before after here e good.1 bad)
+unmet_first : (names : Names Sort) (s : Symbol) (before after : List Tok) (here : Tok) (e : unmet.Fault ScriptKind) → AllMet (token_demands names s before) → first_unmet (token_demand names (last_symbol s before) here) ≡ Some e
+    → first_unmet (token_demands names s (before ++ here ∷ after)) ≡ Some e
+unmet_first names s [] after here e good bad = rw bad refl
+unmet_first names s (t ∷ before) after here e good bad = rw (none_met (token_demand names s t) good.0) (unmet_first names t.symbol before after here e good.1 bad)
 
 -- ---- two splits of the same tokens
 
@@ -103,10 +106,10 @@ stands_before bundle ts before after here f is parts live = elim (cases_lt (leng
         dead (front_live (script bundle) (is.before ++ is.here ∷ []) w.0 (before ++ here ∷ []) w.1 live)
     by (inr (lead, rest, parts, live, passes, same)) most = no_passes (script bundle) (has_no_limits bundle) is.before (is.here ∷ lead) passes
 
-of_token : (bundle : List Item) (ts before after : List Tok) (here : Tok) (e : unmet.Fault ScriptKind) → IsText ts → ts ≡ before ++ here ∷ after → Live (script bundle) (before ++ here ∷ []) → AllMet (token_demands (globals_of bundle).names before)
-    → first_unmet (token_demand (globals_of bundle).names here) ≡ Some e → (r : Result (List Entry) Fault) → whole (script bundle) ts ≡ r → computed bundle ts r ≡ Err e
+of_token : (bundle : List Item) (ts before after : List Tok) (here : Tok) (e : unmet.Fault ScriptKind) → IsText ts → ts ≡ before ++ here ∷ after → Live (script bundle) (before ++ here ∷ []) → AllMet (token_demands (globals_of bundle).names symbols.End before)
+    → first_unmet (token_demand (globals_of bundle).names (last_symbol symbols.End before) here) ≡ Some e → (r : Result (List Entry) Fault) → whole (script bundle) ts ≡ r → computed bundle ts r ≡ Err e
 of_token bundle ts before after here e text parts live good bad (Ok es) read =
-    let first : first_unmet (token_demands (globals_of bundle).names ts) ≡ Some e = ap (λ (us : List Tok). first_unmet (token_demands (globals_of bundle).names us)) parts ∙ unmet_first (globals_of bundle).names before after here e good bad in
+    let first : first_unmet (token_demands (globals_of bundle).names symbols.End ts) ≡ Some e = ap (λ (us : List Tok). first_unmet (token_demands (globals_of bundle).names symbols.End us)) parts ∙ unmet_first (globals_of bundle).names symbols.End before after here e good bad in
     rw first refl
 of_token bundle ts before after here e text parts live good bad (Err f) read =
     let is : IsFirstFault (script bundle) ts f = whole_fault (script bundle) (is_grammar bundle) ts f text read in
@@ -115,7 +118,7 @@ of_token bundle ts before after here e text parts live good bad (Err f) read =
     let w = front_of (before ++ here ∷ []) after is.before (is.here ∷ is.after) both (omega (arith, less, length-append before (here ∷ []))) in
     let front : tokens_before f.place ts ≡ before ++ here ∷ w.0 =
     ap (tokens_before f.place) is.parts ∙ exact f.place is.before is.after is.here (fault_place (script bundle) is.before is.after is.here f is.fault) (subst IsText is.parts text) ∙ w.1 ∙ append_assoc before (here ∷ []) w.0 in
-    let first : first_unmet (token_demands (globals_of bundle).names (tokens_before f.place ts)) ≡ Some e = ap (λ (us : List Tok). first_unmet (token_demands (globals_of bundle).names us)) front ∙ unmet_first (globals_of bundle).names before w.0 here e good bad in
+    let first : first_unmet (token_demands (globals_of bundle).names symbols.End (tokens_before f.place ts)) ≡ Some e = ap (λ (us : List Tok). first_unmet (token_demands (globals_of bundle).names symbols.End us)) front ∙ unmet_first (globals_of bundle).names symbols.End before w.0 here e good bad in
     rw first refl
 
 only : (bundle : List Item) (bytes : List ℕ) (r : Answer) → IsAnswer bundle bytes r → script_answer bundle bytes ≡ r
@@ -123,12 +126,12 @@ only bundle bytes _ (script_read tokens end es lexes derives good) =
     let same : tokens_from bytes 0 ≡ seen bytes tokens end = tokens_are_seen bytes 0 tokens end lexes in
     let read : whole (script bundle) (seen bytes tokens end) ≡ Ok es = whole_only (script bundle) (is_grammar bundle) (seen bytes tokens end) es derives in
     ap (λ (ts : List Tok). computed bundle ts (whole (script bundle) ts)) same ∙ ap (computed bundle (seen bytes tokens end)) read
-    ∙ ap (λ (d : Option (unmet.Fault ScriptKind)). answer_by d (entries_meant es)) (none_met (token_demands (globals_of bundle).names (seen bytes tokens end)) good)
+    ∙ ap (λ (d : Option (unmet.Fault ScriptKind)). answer_by d (entries_meant es)) (none_met (token_demands (globals_of bundle).names symbols.End (seen bytes tokens end)) good)
 only bundle bytes _ (grammar_first tokens end f lexes is good) =
     let same : tokens_from bytes 0 ≡ seen bytes tokens end = tokens_are_seen bytes 0 tokens end lexes in
     let read : whole (script bundle) (seen bytes tokens end) ≡ Err f = fault_only (script bundle) (is_grammar bundle) (seen bytes tokens end) f (subst IsText same (texts_end bytes)) is in
     ap (λ (ts : List Tok). computed bundle ts (whole (script bundle) ts)) same ∙ ap (computed bundle (seen bytes tokens end)) read
-    ∙ ap (λ (d : Option (unmet.Fault ScriptKind)). answer_by (or_else d (Some (At (Text f.kind) f.place))) []) (none_met (token_demands (globals_of bundle).names (tokens_before f.place (seen bytes tokens end))) good)
+    ∙ ap (λ (d : Option (unmet.Fault ScriptKind)). answer_by (or_else d (Some (At (Text f.kind) f.place))) []) (none_met (token_demands (globals_of bundle).names symbols.End (tokens_before f.place (seen bytes tokens end))) good)
 only bundle bytes _ (token_first tokens end before after here e lexes parts live good bad) =
     let same : tokens_from bytes 0 ≡ seen bytes tokens end = tokens_are_seen bytes 0 tokens end lexes in
     ap (λ (ts : List Tok). computed bundle ts (whole (script bundle) ts)) same

@@ -5,6 +5,7 @@ pub mod Demands
 pub mod Mentions
 pub mod Meaning
 pub mod ScriptClients
+pub mod RunClients
 pub mod Plans
 pub mod Texts
 pub mod Judged

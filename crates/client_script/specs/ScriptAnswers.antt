@@ -1,5 +1,6 @@
 -- Which answer a text has, in the words of the grammar.
 use Rattle.std.specs.Prelude.{◌≡◌, ℕ, List, [], ◌∷◌, ◌++◌, Option, Some, None, Result, Ok, Err, ◌↔◌}
+use Rattle.text_forms.specs.declared.symbol.Symbol.TheVariants as symbols
 use Rattle.text_forms.specs.declared.fault.Fault.{Fault}
 use Rattle.text_forms.specs.Tokens.{Tok}
 use Rattle.text_forms.specs.Derives.{Derives}
@@ -19,7 +20,7 @@ use Rattle.client_script.specs.declared.fault.ScriptKind.{ScriptKind}
 use Rattle.client_script.specs.declared.fault.ScriptKind.TheVariants.{Text}
 use Rattle.client_script.specs.declared.tree.Entry.{Entry}
 use Rattle.client_script.specs.Grammar.{script}
-use Rattle.client_script.specs.Demands.{token_demand, token_demands}
+use Rattle.client_script.specs.Demands.{token_demand, token_demands, last_symbol}
 use Rattle.client_script.specs.Meaning.{entries_meant}
 use Rattle.client_script.specs.Texts.{tokens_before, script_demands, script_entries}
 
@@ -28,7 +29,7 @@ Answer = Result (List ScriptEntry) (unmet.Fault ScriptKind)
 
 -- each name and number of some tokens is good
 abbrev pub AllGood : List Item → List Tok → Type 0
-AllGood bundle ts = AllMet (token_demands (globals_of bundle).names ts)
+AllGood bundle ts = AllMet (token_demands (globals_of bundle).names symbols.End ts)
 
 -- which answer the bytes of a text have. Its tokens are those that the rules of tokens give, up to its end or its first lexical fault
 pub data IsAnswer (bundle : List Item) (bytes : List ℕ) : Answer → Type 0 where
@@ -40,7 +41,7 @@ pub data IsAnswer (bundle : List Item) (bytes : List ℕ) : Answer → Type 0 wh
       → IsAnswer bundle bytes (Err (At (Text f.kind) f.place))
   -- the first name or number that is not good, where some script goes on with it
   token_first : (tokens : List Token) (end : Option LexFault) (before after : List Tok) (here : Tok) (e : unmet.Fault ScriptKind) → Lexes bytes 0 tokens end → seen bytes tokens end ≡ before ++ here ∷ after → Live (script bundle) (before ++ here ∷ []) → AllGood bundle before
-      → first_unmet (token_demand (globals_of bundle).names here) ≡ Some e → IsAnswer bundle bytes (Err e)
+      → first_unmet (token_demand (globals_of bundle).names (last_symbol symbols.End before) here) ≡ Some e → IsAnswer bundle bytes (Err e)
 
 -- the same computed: where all demands are met the entries, else the first fault
 abbrev pub answer_by : Option (unmet.Fault ScriptKind) → List ScriptEntry → Answer

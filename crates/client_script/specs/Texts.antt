@@ -1,5 +1,6 @@
 -- What the text of a script is refused for, and the entries that it means.
 use Rattle.std.specs.Prelude.{ℕ, false, nat_lt, List, [], ◌∷◌, Result, Ok, Err, if◌then◌else◌}
+use Rattle.text_forms.specs.declared.symbol.Symbol.TheVariants as symbols
 use Rattle.text_forms.specs.declared.fault.Fault.{Fault}
 use Rattle.text_forms.specs.Tokens.{Tok}
 use Rattle.text_forms.specs.Reading.{whole}
@@ -25,8 +26,8 @@ tokens_before place (t ∷ ts) = if nat_lt t.place place then t ∷ tokens_befor
 -- The tokens before the grammar's first fault could all go on to a script, so each of their names and numbers is judged. The fault of
 -- the grammar stands behind them.
 abbrev pub demands_by : Names Sort → List Tok → Result (List Entry) Fault → Demands ScriptKind
-demands_by names ts (Ok entries) = token_demands names ts
-demands_by names ts (Err f) = token_demands names (tokens_before f.place ts) ⨾ demand f.place (Text f.kind) false
+demands_by names ts (Ok entries) = token_demands names symbols.End ts
+demands_by names ts (Err f) = token_demands names symbols.End (tokens_before f.place ts) ⨾ demand f.place (Text f.kind) false
 
 abbrev pub entries_in : Result (List Entry) Fault → List Entry
 entries_in (Ok entries) = entries

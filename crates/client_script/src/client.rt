@@ -1,9 +1,10 @@
 //! A script as a client.
-ghost use Rattle.std.specs.Prelude.{◌≡◌, Some, IfOk, length, nat_eq};
+ghost use Rattle.std.specs.Prelude.{◌≡◌, Some, length, nat_eq};
 ghost use Rattle.frames.specs.Chains.{frames_in};
 ghost use Rattle.mu_model.specs.Answers.{entry_answer, answer_of, advanced, plain_answer};
 ghost use Rattle.mu_model.specs.Clients as clients;
-ghost use Rattle.client_hooks.specs.Replies.{answer_in, stack_of};
+ghost use Rattle.mu_model.specs.Answers as answers;
+ghost use Rattle.client_hooks.specs.Replies.{answer_in, stack_of, edit_of};
 ghost use Rattle.client_hooks.specs.Plans.{planned};
 ghost use Rattle.client_script.specs.Meaning.{entry_meant};
 ghost use Rattle.client_script.specs.ScriptClients.{client_of, values_named};
@@ -15,16 +16,31 @@ use crate::script::Script;
 use crate::tree::Entry;
 use crate::values::end;
 use client_hooks::{
-    Client, ClientFault, Determined, NO_EDIT, Notes, Plan, Reply, ReplyEnd, TrapView, Watches,
+    Client, ClientFault, Determined, Edit, NO_EDIT, Notes, Plan, Reply, ReplyEnd, TrapView, Watches,
 };
 use frames::Frames;
 use stacks::ReadyStack;
 use std::alloc::Global;
 
+/// What an entry does to the frames.
+fn edit(entry: &Entry) -> Edit
+    ensures { edit_of result ≡ answers.edit_of (entry_meant entry.now) }
+{
+    match entry.edit.push {
+        Some(pushed) => Edit {
+            pop: entry.edit.pop,
+            push: Some(pushed.function),
+        },
+        None => Edit {
+            pop: entry.edit.pop,
+            push: None,
+        },
+    }
+}
+
 /// The answer of an entry.
 fn plan(alloc: Global, view: &TrapView, frames: &Frames, entry: &Entry) -> Result<Plan, Refusal>
-    ensures is { Makes planned (entry_answer view.now.tables (frames_in frames.now) (entry_meant entry.now)) result }
-    ensures keeps { IfOk result (λ x. (planned x).edit ≡ clients.no_edit) }
+    ensures { Makes planned (entry_answer view.now.tables (frames_in frames.now) (entry_meant entry.now)) result }
 {
     let notes = notes(alloc, frames, entry.actions.as_slice())?;
     let end = end(alloc, view, frames, &entry.reply)?;
@@ -32,7 +48,7 @@ fn plan(alloc: Global, view: &TrapView, frames: &Frames, entry: &Entry) -> Resul
     Ok(Plan {
         notes,
         watches,
-        edit: NO_EDIT,
+        edit: edit(entry),
         end,
     })
 }
@@ -50,7 +66,7 @@ fn stop(alloc: Global, stack: ReadyStack) -> Reply
     }
 }
 
-/// The answer is that of the next entry, in the order of its actions; after the last entry it is to stop. The next entry is the same
+/// The answer is that of the next entry, in the order of its actions, with its edit; after the last entry it is to stop. The next entry is the same
 /// until `advance`. It takes memory for the answer.
 impl Client for Script {
     ghost holds = { values_named };

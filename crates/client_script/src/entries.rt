@@ -4,14 +4,16 @@ ghost use Rattle.text_forms.specs.Answers.{Gives, GivesAll};
 ghost use Rattle.client_script.specs.Grammar.{inside, entry, script};
 
 use crate::mentions::Shared;
-use crate::parts::{action, reply};
+use crate::parts::{action, ending};
 use crate::tree::Entry;
 use ir_lex::Cursor;
 use std::alloc::Global;
 use text_forms::{Listing, ReadError, Symbol};
 
-/// The words that replies begin with.
-const REPLIES: [Symbol; 5] = [
+/// The words that edits and replies begin with.
+const ENDINGS: [Symbol; 7] = [
+    Symbol::Pop,
+    Symbol::Push,
     Symbol::Pass,
     Symbol::ThrowReply,
     Symbol::Rebind,
@@ -19,19 +21,23 @@ const REPLIES: [Symbol; 5] = [
     Symbol::Stop,
 ];
 
-/// `action* reply`
+/// `action* edit? reply`
 fn inside(cursor: &mut Cursor, alloc: Global, code: &Shared) -> Result<Entry, ReadError>
     ensures { Gives result cursor.new (read (inside code.now) cursor.old) }
 {
     let mut actions = Listing::new(alloc);
-    'each: while !cursor.at_any(&REPLIES) {
+    'each: while !cursor.at_any(&ENDINGS) {
         actions.push(action(cursor)?)?;
     }
-    let reply = reply(cursor, alloc, code)?;
-    Ok(Entry { actions, reply })
+    let (edit, reply) = ending(cursor, alloc, code)?;
+    Ok(Entry {
+        actions,
+        edit,
+        reply,
+    })
 }
 
-/// `{ action* reply }`
+/// `{ action* edit? reply }`
 #[tactic(auto, unfolding(crate::specs::Grammar::entry))]
 fn entry(cursor: &mut Cursor, alloc: Global, code: &Shared) -> Result<Entry, ReadError>
     ensures { Gives result cursor.new (read (entry code.now) cursor.old) }

@@ -12,8 +12,8 @@ pub enum ScriptKind {
     /// `NotInProfile` and `TooMany` never come.
     #[error("{0}")]
     Text(FaultKind),
-    /// No constant, global or function has this name.
-    #[error("no constant, global or function has this name")]
+    /// No constant, global or function has this name; after `push`, no function has it.
+    #[error("nothing that may stand here has this name")]
     Unknown,
 }
 

@@ -6,11 +6,10 @@ ghost use Rattle.demands.specs.Names.{found};
 ghost use Rattle.demands.specs.Demands.{demand, Meets};
 ghost use Rattle.ir_lex.specs.Walk.{tokens_from};
 ghost use Rattle.ir_lex.specs.Scanner.{number_of};
-ghost use Rattle.bundle_names.specs.Uses.{is_operand};
 ghost use Rattle.client_script.specs.Numbers.{is_count};
 ghost use Rattle.client_script.specs.declared.fault.ScriptKind.TheVariants.{Text, Unknown};
 ghost use Rattle.text_forms.specs.declared.fault.FaultKind.TheVariants as kinds;
-ghost use Rattle.client_script.specs.Demands.{token_demand, token_demands};
+ghost use Rattle.client_script.specs.Demands.{global_fits, token_demand, token_demands};
 ghost use Rattle.client_script.specs.Judged.{is_before, judged_tokens};
 
 use crate::fault::{ScriptFault, ScriptKind};
@@ -29,14 +28,17 @@ pub(crate) const LAST: [Symbol; 5] = [
     Symbol::TooLong,
 ];
 
-/// Whether a name is that of a constant, a global or a function.
-fn is_operand(sort: Option<Sort>) -> bool
-    ensures { result ≡ is_operand sort }
+/// Whether what a global name stands for may stand after that token.
+fn global_fits(before: Symbol, sort: Option<Sort>) -> bool
+    ensures { result ≡ global_fits before sort }
 {
-    matches!(
-        sort,
-        Some(Sort::Constant(_) | Sort::GlobalCell(_) | Sort::Function(_))
-    )
+    match before {
+        Symbol::Push => matches!(sort, Some(Sort::Function(_))),
+        _ => matches!(
+            sort,
+            Some(Sort::Constant(_) | Sort::GlobalCell(_) | Sort::Function(_))
+        ),
+    }
 }
 
 /// One demand.
@@ -67,22 +69,26 @@ fn judge_number(cursor: &Cursor) -> Result<(), ScriptFault>
 }
 
 /// A global name.
-fn judge_global(names: &Scope<Sort>, cursor: &Cursor) -> Result<(), ScriptFault>
-    ensures { Meets (demand (first cursor.now).place Unknown (is_operand (found names.now (first cursor.now).spelling))) result }
+fn judge_global(names: &Scope<Sort>, before: Symbol, cursor: &Cursor) -> Result<(), ScriptFault>
+    ensures { Meets (demand (first cursor.now).place Unknown (global_fits before (found names.now (first cursor.now).spelling))) result }
 {
     let sort = names.find(cursor.spelling()).copied();
-    meet(ScriptKind::Unknown, cursor.place(), is_operand(sort))
+    meet(
+        ScriptKind::Unknown,
+        cursor.place(),
+        global_fits(before, sort),
+    )
 }
 
-/// A token.
-fn judge_token(names: &Scope<Sort>, cursor: &Cursor) -> Result<(), ScriptFault>
+/// A token, by the one before it.
+fn judge_token(names: &Scope<Sort>, before: Symbol, cursor: &Cursor) -> Result<(), ScriptFault>
     requires { goes_on_behind cursor.now ≡ true }
-    ensures { Meets (token_demand names.now (first cursor.now)) result }
+    ensures { Meets (token_demand names.now before (first cursor.now)) result }
 {
     if cursor.at(Symbol::Number) {
         judge_number(cursor)
     } else if cursor.at_any(&GLOBALS) {
-        judge_global(names, cursor)
+        judge_global(names, before, cursor)
     } else {
         Ok(())
     }
@@ -104,11 +110,13 @@ pub fn judge_tokens(
     text: &[u8],
     stop: Option<usize>,
 ) -> Result<(), ScriptFault>
-    ensures { Meets (token_demands names.now (judged_tokens stop (tokens_from text.now 0))) result }
+    ensures { Meets (token_demands names.now symbols.End (judged_tokens stop (tokens_from text.now 0))) result }
 {
     let mut cursor = Cursor::new(text);
+    let mut before = Symbol::End;
     'each: while is_before(cursor.place(), stop) && !cursor.at_any(&LAST) {
-        judge_token(names, &cursor)?;
+        judge_token(names, before, &cursor)?;
+        before = cursor.symbol();
         cursor.bump();
     }
     Ok(())

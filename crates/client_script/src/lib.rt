@@ -23,4 +23,4 @@ pub use mentions::Mention;
 pub use reading::read_script;
 pub use run_client::RunClient;
 pub use script::Script;
-pub use tree::{Action, Argument, Entry, Reply, With};
+pub use tree::{Action, Argument, Edit, Entry, Pushed, Reply, With};

@@ -1,4 +1,4 @@
-//! What entries are made of: numbers, actions, arguments and replies.
+//! What entries are made of: numbers, actions, edits, arguments and replies.
 ghost use Rattle.std.specs.Prelude.{◌≡◌, [], ◌∷◌};
 ghost use Rattle.text_forms.specs.declared.symbol.Symbol.TheVariants as symbols;
 ghost use Rattle.text_forms.specs.Forms.{until};
@@ -6,11 +6,11 @@ ghost use Rattle.text_forms.specs.Reading.{read};
 ghost use Rattle.text_forms.specs.Answers.{Gives};
 ghost use Rattle.ir_tree.specs.Lists.{global};
 ghost use Rattle.client_script.specs.Numbers.{is_count, count_in};
-ghost use Rattle.client_script.specs.Grammar.{count, action, kept_value, argument, pass, way, rebind, reply};
+ghost use Rattle.client_script.specs.Grammar.{count, action, popping, pushing, edit, kept_value, argument, pass, way, rebind, reply, ending};
 
 use crate::mentions::Shared;
-use crate::told::told;
-use crate::tree::{Action, Argument, Reply, With};
+use crate::told::{pushed, told};
+use crate::tree::{Action, Argument, Edit, Pushed, Reply, With};
 use ir_lex::{Cursor, Name, Number, Numeral};
 use std::alloc::Global;
 use text_forms::{Listing, ReadError, Symbol};
@@ -93,6 +93,43 @@ fn global(cursor: &mut Cursor, alloc: Global) -> Result<Name, ReadError>
     cursor.name(alloc, &GLOBALS)
 }
 
+/// `pop N`, which may be left out
+#[tactic(auto, unfolding(crate::specs::Grammar::popping))]
+fn popping(cursor: &mut Cursor) -> Result<u32, ReadError>
+    ensures { Gives result cursor.new (read popping cursor.old) }
+{
+    if cursor.at(Symbol::Pop) {
+        cursor.mark(Symbol::Pop)?;
+        count(cursor)
+    } else {
+        Ok(0)
+    }
+}
+
+/// `push G`, which may be left out
+#[tactic(auto, unfolding(crate::specs::Grammar::pushing))]
+fn pushing(cursor: &mut Cursor, alloc: Global, code: &Shared) -> Result<Option<Pushed>, ReadError>
+    ensures { Gives result cursor.new (read (pushing code.now) cursor.old) }
+{
+    if cursor.at(Symbol::Push) {
+        cursor.mark(Symbol::Push)?;
+        let name = global(cursor, alloc)?;
+        Ok(pushed(code, &name))
+    } else {
+        Ok(None)
+    }
+}
+
+/// `edit?`
+#[tactic(auto, unfolding(crate::specs::Grammar::edit))]
+fn edit(cursor: &mut Cursor, alloc: Global, code: &Shared) -> Result<Edit, ReadError>
+    ensures { Gives result cursor.new (read (edit code.now) cursor.old) }
+{
+    let pop = popping(cursor)?;
+    let push = pushing(cursor, alloc, code)?;
+    Ok(Edit { pop, push })
+}
+
 /// `kept N N`
 #[tactic(auto, unfolding(crate::specs::Grammar::kept_value))]
 fn kept_value(cursor: &mut Cursor) -> Result<Argument, ReadError>
@@ -173,7 +210,7 @@ fn rebind(cursor: &mut Cursor, alloc: Global, code: &Shared) -> Result<Reply, Re
 
 /// `with | rebind arg with | exit | stop`
 #[tactic(auto, unfolding(crate::specs::Grammar::reply))]
-pub fn reply(cursor: &mut Cursor, alloc: Global, code: &Shared) -> Result<Reply, ReadError>
+fn reply(cursor: &mut Cursor, alloc: Global, code: &Shared) -> Result<Reply, ReadError>
     ensures { Gives result cursor.new (read (reply code.now) cursor.old) }
 {
     if cursor.at(Symbol::Rebind) {
@@ -188,4 +225,14 @@ pub fn reply(cursor: &mut Cursor, alloc: Global, code: &Shared) -> Result<Reply,
         let with = way(cursor, alloc, code)?;
         Ok(Reply::Resume(with))
     }
+}
+
+/// `edit? reply`
+#[tactic(auto, unfolding(crate::specs::Grammar::ending))]
+pub fn ending(cursor: &mut Cursor, alloc: Global, code: &Shared) -> Result<(Edit, Reply), ReadError>
+    ensures { Gives result cursor.new (read (ending code.now) cursor.old) }
+{
+    let edit = edit(cursor, alloc, code)?;
+    let reply = reply(cursor, alloc, code)?;
+    Ok((edit, reply))
 }

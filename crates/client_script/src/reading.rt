@@ -26,13 +26,13 @@ fn entries_in(alloc: Global, text: &[u8], code: &Checked) -> Result<Listing<Entr
     entries(&mut Cursor::new(text), alloc, &shared)
 }
 
-/// Reads the script of a client: entries, each with actions and a reply. Its names are those of a bundle. The text may hold any bytes;
+/// Reads the script of a client: entries, each with actions, an edit or none, and a reply. Its names are those of a bundle. The text may hold any bytes;
 /// an empty one is a script that is spent.
 ///
 /// `At` is the first fault. `BadByte`, `BadName`, `NumberTooLarge` or `TooLong` stands where no token begins as it should, once a token
 /// is looked for there; `Unexpected` at the first token, or at the text's end, with which no script's text goes on, and at a number that
-/// is below 0, or 2^32 or more; `Unknown` at a name of no constant, global or function. It takes time and memory for the text, and
-/// for each constant that it mentions once, however often.
+/// is below 0, or 2^32 or more; `Unknown` at a name of no constant, global or function, and after `push` of no function. It takes time and
+/// memory for the text, and for each constant that it mentions once, however often.
 #[tactic(auto, unfolding(bundle_tables::specs::Entries::tables_of))]
 pub fn read_script(alloc: Global, bytes: &[u8], code: &Checked) -> Result<Script, ScriptFault>
     ensures { Judges (script_demands code.now bytes.now) (script_entries code.now bytes.now) result }

@@ -4,26 +4,34 @@ ghost use Rattle.mu_model.specs.Answers.{answer_of, advanced};
 ghost use Rattle.client_script.specs.ScriptClients.{values_named};
 
 use crate::script::Script;
-use client_hooks::{Client, ClientFault, Determined, Hook, PassBlank, Reply, TrapView};
+use client_hooks::{Chain, Client, ClientFault, Determined, Hook, PassBlank, Reply, TrapView};
 use stacks::ReadyStack;
 use std::alloc::Global;
 use std::marker::Model;
+
+/// What answers, after the last entry of a script too.
+#[derive(Drop)]
+enum Answering {
+    /// The script, and then the run is stopped
+    Stopping(Script),
+    /// The script, and then a hook that passes zero and NULL
+    Passing(Chain<Script, Hook<PassBlank>>),
+}
 
 /// The client of a run: a script, and after its last entry a hook that passes zero and NULL, where there is one; else the run is stopped
 /// then. Contracts see it as the abstract machine does.
 #[derive(Drop)]
 pub struct RunClient {
-    script: Script,
-    auto: Option<Hook<PassBlank>>,
+    answering: Answering,
 }
 
 impl Model for RunClient {
-    ghost use Rattle.std.specs.Prelude.{is_some};
     ghost use Rattle.mu_model.specs.Clients as clients;
+    ghost use Rattle.client_script.specs.RunClients.{client_in};
 
     ghost Value = { clients.Client };
 
-    ghost view = { λ k. record { entries = k.script; auto = is_some k.auto } };
+    ghost view = { λ k. client_in k.answering };
 }
 
 impl RunClient {
@@ -31,12 +39,12 @@ impl RunClient {
     pub fn new(script: Script, auto: bool) -> RunClient
         ensures { result ≡ record { entries = script; auto = auto } }
     {
-        let auto = if auto {
-            Some(Hook::new(PassBlank))
+        let answering = if auto {
+            Answering::Passing(Chain::new(script, Hook::new(PassBlank)))
         } else {
-            None
+            Answering::Stopping(script)
         };
-        RunClient { script, auto }
+        RunClient { answering }
     }
 }
 
@@ -57,18 +65,24 @@ impl Client for RunClient {
         view: &TrapView,
         stack: ReadyStack,
     ) -> Result<Reply, ClientFault> {
-        match &self.auto {
-            Some(hook) if self.script.is_empty() => hook.answer(alloc, view, stack),
-            _ => self.script.answer(alloc, view, stack),
+        match &self.answering {
+            Answering::Stopping(script) => script.answer(alloc, view, stack),
+            Answering::Passing(chain) => chain.answer(alloc, view, stack),
         }
     }
 
     fn spent(&self) -> bool {
-        self.auto.is_none() && self.script.is_empty()
+        match &self.answering {
+            Answering::Stopping(script) => script.spent(),
+            Answering::Passing(chain) => chain.spent(),
+        }
     }
 
     fn advance(&mut self) {
-        self.script.advance();
+        match &mut self.answering {
+            Answering::Stopping(script) => script.advance(),
+            Answering::Passing(chain) => chain.advance(),
+        }
     }
 }
 

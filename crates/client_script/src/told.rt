@@ -3,10 +3,10 @@ ghost use Rattle.std.specs.Prelude.{◌≡◌, IfOk, IsSome, Some};
 ghost use Rattle.check_tables.specs.Lookups.{global_class};
 ghost use Rattle.bundle_check.specs.Checking.{bundle_tables};
 ghost use Rattle.mu_model.specs.Operands.{global_value};
-ghost use Rattle.client_script.specs.Told.{told};
+ghost use Rattle.client_script.specs.Told.{told, pushed_told};
 
 use crate::mentions::{Mention, Shared};
-use crate::tree::Argument;
+use crate::tree::{Argument, Pushed};
 use bundle_names::Sort;
 use ir_lex::Name;
 use std::alloc::{AllocError, Global};
@@ -40,5 +40,18 @@ pub fn told(alloc: Global, code: &Shared, name: &Name) -> Result<Argument, Alloc
             let value = mention(alloc, code, sort)?;
             Ok(Argument::Told { class, value })
         }
+    }
+}
+
+/// The function that a global name stands for, with the class of its type; None where it stands for none.
+#[tactic(auto, unfolding(bundle_tables::specs::Entries::tables_of))]
+pub fn pushed(code: &Shared, name: &Name) -> Option<Pushed>
+    ensures { result ≡ pushed_told code.now name.now }
+{
+    let tables = code.tables();
+    let class = tables.class_of_global(name)?;
+    match tables.globals.names.find(name.text.as_slice()).copied() {
+        Some(Sort::Function(function)) => Some(Pushed { class, function }),
+        _ => None,
     }
 }

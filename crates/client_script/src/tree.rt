@@ -22,6 +22,21 @@ pub enum Action {
     Watch { watchpoint: u32, enabled: bool },
 }
 
+/// A function whose frame is put on top, with the class of its type.
+#[derive(Clone, Copy, Debug, PartialEq, Eq)]
+pub struct Pushed {
+    pub class: u32,
+    pub function: u32,
+}
+
+/// What an entry does to the frames of the trapped stack. `pop` is the number of a frame, from the top down: the frames above it end, and
+/// 0 ends none. Then a frame of the function is put on top, where there is one.
+#[derive(Clone, Copy, Debug, PartialEq, Eq)]
+pub struct Edit {
+    pub pop: u32,
+    pub push: Option<Pushed>,
+}
+
 /// What a stack is entered with.
 #[derive(Drop)]
 pub enum With {
@@ -44,9 +59,10 @@ pub enum Reply {
     Stop,
 }
 
-/// What answers one trap.
+/// What answers one trap: the actions come first, then the edit, and then the reply.
 #[derive(Drop)]
 pub struct Entry {
     pub actions: Listing<Action>,
+    pub edit: Edit,
     pub reply: Reply,
 }

@@ -6,7 +6,9 @@ ghost use Rattle.bundle_check.specs.Checking.{bundle_tables};
 use bundle_check::{Checked, check};
 use bundle_facts::{constants_have_classes, widths_are_narrow};
 use bundle_names::resolve;
-use client_hooks::{Client, ClientFault, Hook, PassBlank, Reply, ReplyEnd, TrapView, Watch, With};
+use client_hooks::{
+    Client, ClientFault, Edit, Hook, PassBlank, Reply, ReplyEnd, TrapView, Watch, With,
+};
 use client_script::{RunClient, ScriptFault, read_script};
 use frames::{Frame, Frames};
 use ir_text::read_bundle;
@@ -24,7 +26,7 @@ const BUNDLE: &[u8] =
 const SEVEN: Scalar = Scalar::Int { width: 64, bits: 7 };
 
 const LONG: &[u8] =
-    b"{ frames kept 0 watch 2 unwatch 0x10 pass (@k kept 0 1 @g) } // comment\n{rebind kept 0 0 throw @f}{ throw @k } { exit } { stop }";
+    b"{ frames kept 0 watch 2 unwatch 0x10 pass (@k kept 0 1 @g) } // comment\n{rebind kept 0 0 throw @f}{ throw @k } { pop 1 push @f exit } { stop }";
 
 // A checked bundle is dropped at one place alone, since each place is proved: the tests lend it.
 fn checked(alloc: Global) -> Result<Checked, Fail> {
@@ -200,6 +202,25 @@ fn are_watched(watches: &[Watch]) -> bool {
 fn watches(rt: &impl Abort, alloc: Global, code: &Checked) -> Result<(), Fail> {
     let reply = answer(alloc, code, b"{ watch 7 unwatch 8 stop }")?;
     assert!(rt; matches!(&reply, Some(reply) if are_watched(reply.watches.as_slice())));
+    Ok(())
+}
+
+// Whether a reply edits the frames so.
+fn is_edited(reply: &Option<Reply>, pop: u32, push: Option<u32>) -> bool {
+    matches!(reply, Some(reply) if reply.edit == Edit { pop, push })
+}
+
+fn edits(rt: &impl Abort, alloc: Global, code: &Checked) -> Result<(), Fail> {
+    let rows = [
+        (b"{ pop 2 push @f stop }".as_slice(), 2, Some(0)),
+        (b"{ push @f exit }".as_slice(), 0, Some(0)),
+        (b"{ pop 1 pass (@k) }".as_slice(), 1, None),
+        (b"{ pass (@k) }".as_slice(), 0, None),
+    ];
+    for (text, pop, push) in rows {
+        let reply = answer(alloc, code, text)?;
+        assert!(rt; is_edited(&reply, pop, push));
+    }
     Ok(())
 }
 
@@ -447,6 +468,7 @@ fn reads_prefixes(rt: &impl Abort, alloc: Global, code: &Checked) -> Result<(), 
 fn answers_all(rt: &impl Abort, alloc: Global, code: &Checked) -> Result<(), Fail> {
     records(rt, alloc, code)?;
     watches(rt, alloc, code)?;
+    edits(rt, alloc, code)?;
     replies(rt, alloc, code)?;
     misuses(rt, alloc, code)?;
     takes_entries_in_order(rt, alloc, code)?;

@@ -5,6 +5,7 @@ pub mod Judging
 pub mod Globals
 pub mod Loading
 pub mod Told
+pub mod Pushes
 pub mod Scripts
 pub mod Fitted
 pub mod Counting

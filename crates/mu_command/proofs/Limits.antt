@@ -1,6 +1,6 @@
 -- The words of a run ask for no more steps and cells than they may.
 use Rattle.std.proofs.Common.{◌≡◌, ℕ, ◌+◌, ◌-◌, ◌*◌, ◌≤◌, Bool, true, false, ◌&&◌, nat_eq, nat_le, List, [], ◌∷◌, length, drop, Option, Some, None, if◌then◌else◌, refl, subst, arith}
-use Rattle.std.specs.Prelude.{IfSome, codes, bytes_eq, is_some, ◌||◌}
+use Rattle.std.specs.Prelude.{IfSome, codes, bytes_eq}
 use Rattle.std.specs.Option.{unwrap_or, option_map, option_and_then}
 use Rattle.std.proofs.lemmas.Bool.{and_parts}
 use Rattle.std.proofs.lemmas.Bool.Decides.{nat_tests}
@@ -43,15 +43,8 @@ once None v a h = h
 once (Some x) v a h = cc
 
 module _ (o : Options) (few : Few o) where
-  client_few : (value : Option ℕ) (more : Options) → with_client o value ≡ Some more → Few more
-  client_few value more h = by o.auto h
-    where
-      by : (t : Bool) → (if t then None else option_map (λ n. record o { client = Some n }) (given_once o.client value)) ≡ Some more → Few more
-      by true k = cc
-      by false k = mapped (λ n. record o { client = Some n }) (given_once o.client value) more (λ a e. few) k
-
   auto_few : (more : Options) → with_auto o ≡ Some more → Few more
-  auto_few more h = by (o.auto || is_some o.client) h
+  auto_few more h = by o.auto h
     where
       by : (t : Bool) → (if t then None else Some (record o { auto = true })) ≡ Some more → Few more
       by true k = cc
@@ -75,7 +68,7 @@ module _ (o : Options) (few : Few o) where
       by false false true d e f g k =
           mapped (λ n. record o { cells = Some n }) (given_once o.cells (number_up_to most_cells value)) more (λ a q. (few.0, number_few most_cells a value (once o.cells (number_up_to most_cells value) a q))) k
       by false false false true e f g k = mapped (λ n. record o { hail = Some n }) (given_once o.hail (Some n)) more (λ a q. few) k
-      by false false false false true f g k = client_few (Some n) more k
+      by false false false false true f g k = mapped (λ n. record o { client = Some n }) (given_once o.client (Some n)) more (λ a q. few) k
       by false false false false false true g k = mapped (λ n. record o { schedule = Some n }) (given_once o.schedule (Some n)) more (λ a q. few) k
       by false false false false false false true k = mapped (λ rule. record o { rule = Some rule }) (given_once o.rule (rule_named value)) more (λ a q. few) k
       by false false false false false false false k = cc

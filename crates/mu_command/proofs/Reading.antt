@@ -1,6 +1,6 @@
 -- The options of a run, read one by one.
 use Rattle.std.proofs.Common.{◌≡◌, ◌∙◌, ℕ, ◌+◌, ◌<◌, ◌≤◌, List, [], ◌∷◌, length, drop, true, false, refl, ap, arith, Option, Some, None}
-use Rattle.std.specs.Prelude.{Bool, IfSome, bytes_eq, codes, is_some, ◌||◌, if◌then◌else◌}
+use Rattle.std.specs.Prelude.{Bool, IfSome, bytes_eq, codes, if◌then◌else◌}
 use Rattle.std.specs.Option.{option_and_then, option_map}
 use Rattle.std.proofs.lemmas.List.{drop_more, drop_all}
 use Rattle.mem_axioms.specs.declared.types.Rule.TheVariants.{C11}
@@ -101,9 +101,9 @@ judge_none (x ∷ file ∷ name ∷ value ∷ next ∷ more) l a b = refl
 
 -- the words of the options are there as before
 pub auto_there : (count : ℕ) (options : Options) (o : Option Options) → OptionsAreThere count options → o ≡ with_auto options → IfSome o (OptionsAreThere count)
-auto_there count options o there e = rw e (so (options.auto || is_some options.client))
+auto_there count options o there e = rw e (so options.auto)
   where
-    so : (both : Bool) → IfSome (if both then None else Some (record options { auto = true })) (OptionsAreThere count)
+    so : (there : Bool) → IfSome (if there then None else Some (record options { auto = true })) (OptionsAreThere count)
     so true = tt
     so false = record { entry = there.entry; hail = there.hail; client = there.client; schedule = there.schedule; steps = there.steps }
 

@@ -172,12 +172,14 @@ auto_twice : job_of (codes "run" ∷ codes "b" ∷ codes "--auto" ∷ codes "--e
 unfolding job_of
 auto_twice = refl
 
--- it stands with no script of a client, whichever comes first
-auto_then_client : job_of (codes "run" ∷ codes "b" ∷ codes "--entry" ∷ codes "@main" ∷ codes "--auto" ∷ codes "--client" ∷ codes "k" ∷ []) ≡ None
+-- it may stand with a script of a client, whichever comes first
+auto_then_client : job_of (codes "run" ∷ codes "b" ∷ codes "--entry" ∷ codes "@main" ∷ codes "--auto" ∷ codes "--client" ∷ codes "k" ∷ [])
+    ≡ Some (Run (record (plain 3 200000 100000) { auto = true; client = Some 6 }))
 unfolding job_of
 auto_then_client = refl
 
-client_then_auto : job_of (codes "run" ∷ codes "b" ∷ codes "--entry" ∷ codes "@main" ∷ codes "--client" ∷ codes "k" ∷ codes "--auto" ∷ []) ≡ None
+client_then_auto : job_of (codes "run" ∷ codes "b" ∷ codes "--entry" ∷ codes "@main" ∷ codes "--client" ∷ codes "k" ∷ codes "--auto" ∷ [])
+    ≡ Some (Run (record (plain 3 200000 100000) { auto = true; client = Some 5 }))
 unfolding job_of
 client_then_auto = refl
 

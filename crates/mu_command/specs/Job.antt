@@ -1,5 +1,5 @@
 -- What the words of a command line ask for, and the files of that.
-use Rattle.std.specs.Prelude.{◌≡◌, ℕ, ◌+◌, ◌-◌, ◌*◌, ◌<◌, ◌≤◌, IfSome, Bool, true, false, nat_eq, nat_le, nat_lt, List, [], ◌∷◌, length, Option, None, Some, codes, bytes_eq, if◌then◌else◌, ◌&&◌, ◌||◌, is_some, drop, slice_index_or}
+use Rattle.std.specs.Prelude.{◌≡◌, ℕ, ◌+◌, ◌-◌, ◌*◌, ◌<◌, ◌≤◌, IfSome, Bool, true, false, nat_eq, nat_le, nat_lt, List, [], ◌∷◌, length, Option, None, Some, codes, bytes_eq, if◌then◌else◌, ◌&&◌, drop, slice_index_or}
 use Rattle.std.specs.Option.{unwrap_or, option_map, option_and_then}
 use Rattle.mem_axioms.specs.declared.types.Rule.{Rule}
 use Rattle.mem_axioms.specs.declared.types.Rule.TheVariants.{C11, Rmw}
@@ -63,12 +63,11 @@ with_entry options value = option_map (λ n. record options { entry = Some n }) 
 abbrev pub with_hail : Options → Option ℕ → Option Options
 with_hail options value = option_map (λ n. record options { hail = Some n }) (given_once options.hail value)
 
--- a client answers by its script or passes zero and NULL: not both are asked for
 abbrev pub with_client : Options → Option ℕ → Option Options
-with_client options value = if options.auto then None else option_map (λ n. record options { client = Some n }) (given_once options.client value)
+with_client options value = option_map (λ n. record options { client = Some n }) (given_once options.client value)
 
 abbrev pub with_auto : Options → Option Options
-with_auto options = if options.auto || is_some options.client then None else Some (record options { auto = true })
+with_auto options = if options.auto then None else Some (record options { auto = true })
 
 abbrev pub with_schedule : Options → Option ℕ → Option Options
 with_schedule options value = option_map (λ n. record options { schedule = Some n }) (given_once options.schedule value)
@@ -149,7 +148,7 @@ abbrev pub join_of : ℕ → Option Job
 join_of count = if nat_le count (1 + most_bundles) then Some (Join 1 (count - 1)) else None
 
 -- `check FILE`, `print FILE`, `trial N`, `run FILE` with options in any order, each at most once: `--entry NAME`, which is required,
--- `--hail F`, `--client F` or `--auto`, `--schedule F`, `--release-sequences c11` or `rmw`, `--steps N` and `--cells N`; `judge FILE`, with
+-- `--hail F`, `--client F`, `--auto`, `--schedule F`, `--release-sequences c11` or `rmw`, `--steps N` and `--cells N`; `judge FILE`, with
 -- `--release-sequences c11` or `rmw` after it or not; and `join` with 1 to 16 files. All other words ask for nothing.
 unfoldable pub job_of : List (List ℕ) → Option Job
 job_of words =

@@ -61,13 +61,10 @@ impl Options {
         }
     }
 
-    /// These, with a script of the client; None where there is one already, or `--auto`.
+    /// These, with a script of the client; None where there is one already.
     pub fn with_client(self, value: Option<usize>) -> Option<Options>
         ensures { result ≡ with_client self value }
     {
-        if self.auto {
-            return None;
-        }
         match (self.client, value) {
             (None, Some(value)) => Some(Options {
                 client: Some(value),
@@ -77,11 +74,11 @@ impl Options {
         }
     }
 
-    /// These, with `--auto`; None where it is there already, or a script of the client.
+    /// These, with `--auto`; None where it is there already.
     pub fn with_auto(self) -> Option<Options>
         ensures { result ≡ with_auto self }
     {
-        if self.auto || self.client.is_some() {
+        if self.auto {
             None
         } else {
             Some(Options { auto: true, ..self })

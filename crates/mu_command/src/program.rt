@@ -53,8 +53,8 @@ fn answer<I: Inputs, S: Sink>(alloc: Global, words: &Words, inputs: &mut I, out:
 /// The options of a run come in any order, each at most once:
 ///
 /// - `--hail F`: the script in this file makes objects and fills them before the run;
-/// - `--client F`: the entries in this file answer the traps of the run; after the last one the run stops;
-/// - `--auto`: each trap passes zero and NULL for what it asks; it stands with no `--client`. Where neither is given, the run stops at its
+/// - `--client F`: the entries in this file answer the traps of the run; after the last one the run stops, unless `--auto` is given;
+/// - `--auto`: each trap passes zero and NULL for what it asks, once no entry is left. Where neither option is given, the run stops at its
 ///   first trap;
 /// - `--schedule F`: the numbers in this file decide the picks of the run, one after the other; where none are left each pick is 0;
 /// - `--release-sequences c11` or `--release-sequences rmw`: the rule of release sequences; `c11` where it is not given;

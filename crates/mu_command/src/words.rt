@@ -201,7 +201,7 @@ fn join_of(words: &Words) -> Option<Job>
 }
 
 /// What the words ask for: `check FILE`, `print FILE`, `trial N`, or `run FILE` with options in any order, each at most once:
-/// `--entry NAME`, which is required, `--hail F`, `--client F` or `--auto`, `--schedule F`, `--release-sequences c11` or `rmw`, `--steps N`
+/// `--entry NAME`, which is required, `--hail F`, `--client F`, `--auto`, `--schedule F`, `--release-sequences c11` or `rmw`, `--steps N`
 /// and `--cells N`. `--auto` has no value; the value of another option is the next word, whatever it is. The N of a trial is a number from
 /// 1 to 1,000. Or `judge FILE`, with `--release-sequences c11` or `rmw` after the file or not; or `join` with 1 to 16 files. None exactly
 /// where they are no such words. It takes no memory.

@@ -8,6 +8,8 @@ mod calls;
 #[cfg(test)]
 mod clients;
 #[cfg(test)]
+mod edits;
+#[cfg(test)]
 mod faults;
 #[cfg(test)]
 mod joins;

@@ -1,17 +1,15 @@
 -- A log that is judged.
-use Rattle.std.proofs.Common.{◌≡◌, ◌<◌, ℕ, true, List, Some, refl}
+use Rattle.std.proofs.Common.{◌≡◌, ℕ, List, refl}
 use Rattle.std.specs.Prelude.{Result, Ok, Err}
 use Rattle.demands.specs.declared.fault.Fault.{Fault}
 use Rattle.demands.specs.declared.fault.Fault.TheVariants.{At, Memory as NoMemory}
-use Rattle.mem_axioms.specs.Logs.{event_at}
 use Rattle.mem_axioms.specs.declared.types.Event.{Event}
 use Rattle.mem_axioms.specs.declared.types.Rule.{Rule}
 use Rattle.log_lines.specs.declared.types.LogKind.{LogKind}
 use Rattle.log_lines.specs.Texts.{ReadLog, text_read}
-use Rattle.log_reading.specs.Answers.{IsRead, HasFewThreads}
+use Rattle.log_reading.specs.Answers.{IsRead}
 use Rattle.verdicts.specs.declared.types.Verdict.{Verdict}
 use Rattle.verdicts.specs.Verdicts.{verdict}
-use Rattle.verdicts.specs.Threads.{HaveFewThreads}
 use Rattle.mu_texts.specs.declared.stop.Stop.{Stop}
 use Rattle.mu_texts.specs.declared.stop.Stop.TheVariants.{Line, Memory}
 use Rattle.mu_texts.specs.declared.ready.Ready.{Ready}
@@ -20,10 +18,6 @@ use Rattle.mu_texts.specs.declared.what.What.TheVariants.{Log}
 use Rattle.mu_texts.specs.Refusals.{log_fault_name}
 use Rattle.mu_texts.specs.Answer.{Part, ◌>>=◌, line, log_part, for_judge}
 use Rattle.mu_texts.specs.Comes.{Comes, IsRefusal}
-
--- the reader and the judge say alike that threads are few
-pub few_threads : (log : List Event) → HasFewThreads log → HaveFewThreads log
-few_threads log few = λ n e there. record { own = (few n e there).0; made = (few n e there).1 }
 
 module _ (rule : Rule) (bytes : List ℕ) where
   -- what the answer to the text comes to
@@ -47,4 +41,4 @@ module _ (rule : Rule) (bytes : List ℕ) where
       by (Ok r) wrong = absurd wrong
       by (Err fault) same = rw (same, is) refl
 
-pub ruleset logs = (few_threads, was_judged, was_refused)
+pub ruleset logs = (was_judged, was_refused)

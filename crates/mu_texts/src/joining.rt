@@ -13,7 +13,7 @@ use ir_tree::Bundle;
 use std::alloc::Global;
 use text_forms::Listing;
 
-/// The job of `mu join`: to print the joined bundle of these bundles, of which there are at most 16.
+/// Makes the job of `mu join`: it prints the bundle that these are joined to, at most 16 of them.
 ///
 /// Where there is none the line is `refused bundle K PLACE FAULT`, with the number of the bundle and the first item that cannot go into it.
 pub fn judge_for_join(alloc: Global, bundles: Listing<Bundle>) -> Result<Ready, Stop>

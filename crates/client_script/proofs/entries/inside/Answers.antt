@@ -4,7 +4,7 @@ use Rattle.text_forms.specs.Reading.{read}
 use Rattle.text_forms.proofs.Lists.{shorter}
 use Rattle.client_script.specs.Grammar.{action, inside}
 use Rattle.client_script.proofs.Elements.{action_plain}
-use Rattle.client_script.proofs.InsideLoops.{begins_so_far, goes_on, fails_with, reply_fails, is_done}
+use Rattle.client_script.proofs.InsideLoops.{begins_so_far, goes_on, fails_with, ending_fails, is_done}
 use Rattle.client_script.proofs.entries.inside.Goals as goal
 
 pub each-init : goal.each-init
@@ -21,10 +21,10 @@ each-smaller c = shorter action action_plain.element 0 c.each.cursor c.in_ok-act
 pub each-preserved : goal.each-preserved
 each-preserved c = rw c.in_ok-push.ensures.ok (goes_on c.args.code.now c.each.actions c.each.cursor c.in_ok-action.field-0 c.action.new.cursor (read (inside c.args.code.now) c.args.cursor.now) (sym c.each-test.ensures) c.in_ok-action.ensures c.each.invariant)
 
-pub returns-in_err-reply : goal.returns-in_err-reply
-returns-in_err-reply c =
-    let p = err_from_is_err_and c.from_residual-in_err-reply.result c.from_residual-in_err-reply.ensures.1 in
-    rw (p.1, p.2) (reply_fails c.args.code.now c.each.actions c.each.cursor c.reply.new.cursor (read (inside c.args.code.now) c.args.cursor.now) c.in_err-reply.field-0.0 (sym c.each-test.ensures) c.in_err-reply.ensures c.each.invariant)
+pub returns-in_err-edit : goal.returns-in_err-edit
+returns-in_err-edit c =
+    let p = err_from_is_err_and c.from_residual-in_err-edit.result c.from_residual-in_err-edit.ensures.1 in
+    rw (p.1, p.2) (ending_fails c.args.code.now c.each.actions c.each.cursor c.ending.new.cursor (read (inside c.args.code.now) c.args.cursor.now) c.in_err-edit.field-0.0 (sym c.each-test.ensures) c.in_err-edit.ensures c.each.invariant)
 
 pub returns : goal.returns
-returns c = is_done c.args.code.now c.each.actions c.each.cursor c.in_ok-reply.reply c.reply.new.cursor (read (inside c.args.code.now) c.args.cursor.now) (sym c.each-test.ensures) c.in_ok-reply.ensures c.each.invariant
+returns c = is_done c.args.code.now c.each.actions c.each.cursor (c.in_ok-edit.edit, c.in_ok-edit.reply) c.ending.new.cursor (read (inside c.args.code.now) c.args.cursor.now) (sym c.each-test.ensures) c.in_ok-edit.ensures c.each.invariant

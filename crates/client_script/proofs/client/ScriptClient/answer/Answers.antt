@@ -11,7 +11,7 @@ pub returns-in-Ok-clause-reply : goal.returns-in-Ok-clause-reply
 returns-in-Ok-clause-reply c =
     let e = entry_meant c.in-Some.entry.now in
     answers_first c.args.view.now.tables (view_of c.args.view.now c.args.stack) c.args.self.now e (answer_in c.onto.result) c.in-Some.ensures
-    (ap (λ fs. entry_answer c.args.view.now.tables (frames_in fs) e) (sym c.frames.ensures) ∙ c.in-Ok.ensures.is ∙ ap Some (sym c.onto.ensures.answer))
+    (ap (λ fs. entry_answer c.args.view.now.tables (frames_in fs) e) (sym c.frames.ensures) ∙ c.in-Ok.ensures ∙ ap Some (sym c.onto.ensures.answer))
 
 pub returns-in-Ok-clause-told : goal.returns-in-Ok-clause-told
 returns-in-Ok-clause-told c = script_told c.args.view.now.tables (view_of c.args.view.now c.args.stack) c.args.self.now (answer_in c.onto.result) (returns-in-Ok-clause-reply c)

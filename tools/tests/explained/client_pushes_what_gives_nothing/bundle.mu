@@ -1,9 +1,13 @@
-// Either a script answers, or zero and NULL.
+// The CALL of @main waits for an int, and the function that is pushed gives nothing.
 .typedef @i64 = int<64>
+.funcsig @m = () -> ()
 .funcsig @mi = () -> (@i64)
 .funcsig @up = (@i64) -> (@i64)
 .const @one <@i64> = 1
-.global @cell <@i64>
+.funcdef @nothing VERSION %v <@m> {
+%e():
+  RET ()
+}
 .funcdef @asks VERSION %v <@up> {
 %e(<@i64> %n):
   %answer = TRAP <@i64> KEEPALIVE(%n)
