@@ -6,9 +6,9 @@ use Rattle.demands.specs.Demands.{Demands, ◌⨾◌, first_unmet, Judges}
 use Rattle.demands.proofs.Meeting as meeting
 use Rattle.ir_tree.specs.declared.items.Item.{Item}
 use Rattle.bundle_names.specs.Globals.{globals_of}
-use Rattle.bundle_tables.specs.Rules.{item_demands}
-use Rattle.bundle_check.specs.Functions.{functions_demands}
-use Rattle.bundle_check.specs.Checking.{check_demands, bundle_tables}
+use Rattle.checked_code.specs.Rules.{item_demands}
+use Rattle.checked_code.specs.Functions.{functions_demands}
+use Rattle.checked_code.specs.Checking.{check_demands, bundle_tables}
 
 pub met_and_unmet : {K A B : Type 0} (a b : Demands K) (made : A) (other : B) (fault : Fault K) → first_unmet a ≡ None → Judges b made (Err fault) → Judges (a ⨾ b) other (Err fault)
 met_and_unmet a b made other Memory h k = tt

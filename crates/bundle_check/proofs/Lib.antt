@@ -1,3 +1,1 @@
-pub mod Globals
 pub mod Judged
-pub mod Prefixes

@@ -1,15 +1,15 @@
 // Blocks in their function.
 ghost use Rattle.std.specs.Prelude.{◌≡◌, ◌++◌, IfOk, OnOk};
 ghost use Rattle.demands.specs.Demands.{Judges, Meets, IsMemory};
-ghost use Rattle.bundle_check.specs.Blocks.{bound_parameters, bound_handler, head_locals, parameter_demands, handler_number, block_demands, block_code, blocks_demands, blocks_code};
+ghost use Rattle.checked_code.specs.Blocks.{bound_parameters, bound_handler, head_locals, parameter_demands, handler_number, block_demands, block_code, blocks_demands, blocks_code};
 
-use crate::code::BlockCode;
 use crate::numbering::next;
 use check_tables::{CheckFault, CheckKind, Tables, fault_at};
-use code_check::{Body, Locals, bind, insts, value_type};
-use demands::Scope;
+use checked_code::{BlockCode, Body, Locals};
+use code_check::{bind, insts, value_type};
 use ir_lex::Name;
 use ir_tree::{Block, BlockHead, Parameter};
+use name_scopes::Scope;
 use std::alloc::Global;
 use text_forms::Listing;
 

@@ -2,14 +2,14 @@
 ghost use Rattle.std.specs.Prelude.{◌≡◌, ◌+◌, ◌++◌, [], length, IfOk, OnOk, is_some};
 ghost use Rattle.demands.specs.Demands.{IsMemory};
 ghost use Rattle.check_tables.specs.Lookups.{gives_of, noted_classes, signature_named};
-ghost use Rattle.bundle_check.specs.Blocks.{parameter_classes};
-ghost use Rattle.bundle_check.specs.Functions.{entry_of, entries_from, body_of};
+ghost use Rattle.checked_code.specs.Blocks.{parameter_classes};
+ghost use Rattle.checked_code.specs.Functions.{entry_of, entries_from, body_of};
 
 use crate::numbering::next;
 use check_tables::{CheckFault, Tables};
-use code_check::{BlockEntry, Body};
-use demands::Scope;
+use checked_code::{BlockEntry, Body};
 use ir_tree::{Block, Funcdef, Parameter};
+use name_scopes::Scope;
 use std::alloc::{AllocError, Global};
 use text_forms::Listing;
 
@@ -82,7 +82,7 @@ fn entries(
 }
 
 /// What the instructions of a function may use, whose first block has this number.
-#[tactic(auto, unfolding(crate::specs::Functions::body_of))]
+#[tactic(auto, unfolding(checked_code::specs::Functions::body_of))]
 pub fn body(
     alloc: Global,
     tables: &Tables,

@@ -2,20 +2,19 @@
 ghost use Rattle.std.specs.Prelude.{◌≡◌, None, map, IfOk};
 ghost use Rattle.demands.specs.Demands.{Judges, Meets, ◌⨾◌, first_unmet};
 ghost use Rattle.bundle_names.specs.Globals.{globals_of};
-ghost use Rattle.bundle_tables.specs.Entries.{tables_of};
-ghost use Rattle.bundle_tables.specs.Rules.{item_demands};
-ghost use Rattle.bundle_constants.specs.Bundle.{constant_values};
-ghost use Rattle.bundle_check.specs.Functions.{functions_demands, all_blocks};
-ghost use Rattle.bundle_check.specs.Checking.{check_demands, bundle_tables, bundle_blocks};
+ghost use Rattle.checked_code.specs.Entries.{tables_of};
+ghost use Rattle.checked_code.specs.Rules.{item_demands};
+ghost use Rattle.checked_code.specs.Constants.{constant_values};
+ghost use Rattle.checked_code.specs.Functions.{functions_demands, all_blocks};
+ghost use Rattle.checked_code.specs.Checking.{check_demands, bundle_tables, bundle_blocks};
 
-use crate::checked::Checked;
-use crate::code::BlockCode;
 use crate::functions::all_functions;
 use crate::numbering::{first_of_each, functions, global_types};
 use bundle_constants::values;
 use bundle_names::{Globals, Resolved};
 use bundle_tables::tables;
 use check_tables::{CheckFault, Tables};
+use checked_code::{BlockCode, Checked};
 use ir_tree::Item;
 use mu_values::Value;
 use std::alloc::{AllocError, Global};
@@ -37,7 +36,7 @@ fn judged(
 }
 
 /// The same for what the global names of the items stand for.
-#[tactic(auto, unfolding(crate::specs::Checking::check_demands))]
+#[tactic(auto, unfolding(checked_code::specs::Checking::check_demands))]
 fn judged_whole(
     alloc: Global,
     items: &[Item],
@@ -50,7 +49,7 @@ fn judged_whole(
 }
 
 /// The values of the constants of a bundle that meets all demands.
-#[tactic(auto, using(crate::proofs::Judged::items_met), unfolding(crate::specs::Checking::check_demands, bundle_tables::specs::Entries::tables_of))]
+#[tactic(auto, using(crate::proofs::Judged::items_met), unfolding(checked_code::specs::Checking::check_demands, checked_code::specs::Entries::tables_of))]
 fn constants(alloc: Global, tables: &Tables, items: &[Item]) -> Result<Listing<Value>, AllocError>
     requires tables { tables.now ≡ bundle_tables items.now }
     requires met { first_unmet (check_demands items.now) ≡ None }

@@ -1,17 +1,17 @@
 // Functions in text order.
 ghost use Rattle.std.specs.Prelude.{◌≡◌, ◌++◌, OnOk, option_copied, slice_get};
 ghost use Rattle.demands.specs.Demands.{Judges, Meets};
-ghost use Rattle.demands.specs.Names.{found};
+ghost use Rattle.name_scopes.specs.Names.{found};
 ghost use Rattle.check_tables.specs.Lookups.{signature_named, signature_in, takes_of};
-ghost use Rattle.code_check.specs.Control.{gives_these};
-ghost use Rattle.bundle_check.specs.Blocks.{blocks_code};
-ghost use Rattle.bundle_check.specs.Functions.{body_of, class_of_signature, is_as_declared, first_block_demands, function_demands, functions_demands, all_blocks};
+ghost use Rattle.checked_code.specs.Control.{gives_these};
+ghost use Rattle.checked_code.specs.Blocks.{blocks_code};
+ghost use Rattle.checked_code.specs.Functions.{body_of, class_of_signature, is_as_declared, first_block_demands, function_demands, functions_demands, all_blocks};
 
 use crate::blocks::blocks;
 use crate::bodies::{body, classes_of};
-use crate::code::BlockCode;
 use crate::numbering::{behind, next};
 use check_tables::{CheckFault, CheckKind, Signature, Tables};
+use checked_code::BlockCode;
 use code_check::{are_classes, demand, is_class};
 use ir_lex::Name;
 use ir_tree::{Block, Funcdef, Item};

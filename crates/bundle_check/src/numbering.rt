@@ -1,15 +1,15 @@
 // The functions of a bundle by number.
 ghost use Rattle.std.specs.Prelude.{◌≡◌, ◌+◌, ◌^◌, ◌<◌, length, slice_get, option_copied, IfOk};
 ghost use Rattle.demands.specs.Demands.{IsMemory};
-ghost use Rattle.demands.specs.Names.{found};
+ghost use Rattle.name_scopes.specs.Names.{found};
 ghost use Rattle.check_tables.specs.Lookups.{signature_in, noted_signature};
-ghost use Rattle.bundle_tables.specs.Entries.{is_function};
-ghost use Rattle.bundle_check.specs.Answers.{global_classes};
-ghost use Rattle.bundle_check.specs.Functions.{first_blocks, first_of, function_named, functions_from, name_of_function, function_in};
+ghost use Rattle.checked_code.specs.Entries.{is_function};
+ghost use Rattle.checked_code.specs.Answers.{global_classes};
+ghost use Rattle.checked_code.specs.Functions.{first_blocks, first_of, function_named, functions_from, name_of_function, function_in};
 
-use crate::code::Function;
 use bundle_names::Sort;
 use check_tables::{CheckFault, Tables};
+use checked_code::Function;
 use ir_lex::Name;
 use ir_tree::{Block, Item};
 use std::alloc::{AllocError, Global};

@@ -1,5 +1,1 @@
-pub mod Members
-pub mod Accepted
 pub mod Passes
-pub mod Fitting
-pub mod Answered

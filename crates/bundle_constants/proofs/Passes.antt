@@ -6,13 +6,14 @@ use Rattle.std.proofs.lemmas.Bool.{false≢true, cases_lt}
 use Rattle.std.proofs.lemmas.List.{length-append, length-set}
 use Rattle.std.proofs.lemmas.List.Elements.{All-nil, All-cons, All-append, All-contains, All-weaker, Contains-append_cases, Contains-append_left, Contains-append_right}
 use Rattle.std.proofs.lemmas.List.Sums.{AllPass-from_list_all}
-use Rattle.type_laws.specs.declared.definition.TypeDef.{TypeDef}
+use Rattle.type_definitions.specs.declared.definition.TypeDef.{TypeDef}
 use Rattle.mu_values.specs.declared.scalars.Scalar.{Scalar}
 use Rattle.mu_values.specs.Constants.{width_of, constant_value, value_at, HasMembers}
-use Rattle.bundle_constants.specs.declared.constants.Constant.{Constant}
+use Rattle.checked_code.specs.declared.constants.Constant.{Constant}
 use Rattle.bundle_constants.specs.declared.making.Making.{Making}
-use Rattle.bundle_constants.specs.Members.{members_of, is_made, is_ready, is_ready_at, value_by, value_of, Lawful, IsMaking, AreLeft}
-use Rattle.bundle_constants.proofs.Members.{none_stuck, constant_at, not_ready, kind_low, holds_at, value_same, settled_at}
+use Rattle.checked_code.specs.ConstantMembers.{members_of, is_made, is_ready, is_ready_at, value_by, value_of, Lawful}
+use Rattle.bundle_constants.specs.Making.{IsMaking, AreLeft}
+use Rattle.checked_code.proofs.ConstantMembers.{none_stuck, constant_at, not_ready, kind_low, holds_at, value_same, settled_at}
 
 -- ---- one pass, where so many were left: those that are still to be looked at, and those that are kept
 pub record IsPass (many total : ℕ) (cs : List Constant) (done : List Bool) (left kept : List ℕ) : Type 0 where

@@ -1,23 +1,16 @@
 // The constants of a bundle.
 ghost use Rattle.std.specs.Prelude.{◌≡◌, map, IfOk};
 ghost use Rattle.ir_tree.specs.declared.items.Item.{Item};
-ghost use Rattle.bundle_tables.specs.Graph.{type_id};
-ghost use Rattle.bundle_tables.specs.Rules.{literal_of};
-ghost use Rattle.bundle_constants.specs.Bundle.{constants_of};
+ghost use Rattle.checked_code.specs.Graph.{type_id};
+ghost use Rattle.checked_code.specs.Rules.{literal_of};
+ghost use Rattle.checked_code.specs.Constants.{constants_of};
 
 use bundle_names::Globals;
 use bundle_tables::{literal, type_id};
+use checked_code::Constant;
 use ir_tree::{Const, Item};
-use mu_values::Literal;
 use std::alloc::{AllocError, Global};
 use text_forms::Listing;
-
-/// A constant: the number of its type in the graph, and what it is written as.
-#[derive(Drop)]
-pub struct Constant {
-    pub of_type: u32,
-    pub literal: Literal,
-}
 
 fn numbered(alloc: Global, globals: &Globals, item: &Const) -> Result<Constant, AllocError>
     ensures { IfOk result (λ made. made ≡ record { of_type = type_id globals.now item.now.of_type; literal = literal_of globals.now item.now.literal }) }

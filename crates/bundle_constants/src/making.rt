@@ -2,9 +2,10 @@
 ghost use Rattle.std.specs.Prelude.{◌≡◌, ℕ, ◌<◌, ◌≤◌, true, false, length, map, set, slice_get, vec_len, IfOk, OnOk};
 ghost use Rattle.std.specs.List.{All, Contains, list_all};
 ghost use Rattle.mu_values.specs.Constants.{value_at};
-ghost use Rattle.bundle_constants.specs.Members.{is_made, is_ready, is_ready_at, value_by, value_of, Lawful, IsMaking, AreLeft};
+ghost use Rattle.checked_code.specs.ConstantMembers.{is_made, is_ready, is_ready_at, value_by, value_of, Lawful};
+ghost use Rattle.bundle_constants.specs.Making.{IsMaking, AreLeft};
 
-use crate::constants::Constant;
+use checked_code::Constant;
 use mu_types::Classes;
 use mu_values::{LiteralKind, Made, Value, make_const};
 use std::alloc::{AllocError, Global};

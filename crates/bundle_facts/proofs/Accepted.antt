@@ -2,15 +2,15 @@
 use Rattle.std.proofs.Common.{◌≡◌, ℕ, List, Some, None, slice_get}
 use Rattle.demands.specs.Demands.{first_unmet}
 use Rattle.ir_tree.specs.declared.items.Item.{Item}
-use Rattle.type_laws.specs.Same.{IsGraph}
-use Rattle.bundle_check.specs.Checking.{bundle_tables, check_demands}
+use Rattle.type_definitions.specs.Same.{IsGraph}
+use Rattle.checked_code.specs.Checking.{bundle_tables, check_demands}
 use Rattle.bundle_laws.proofs.Tables.{tables_fit}
 use Rattle.typed_heap.specs.Fits.{ValueFits}
 use Rattle.typed_heap.proofs.Fitted.{some_and, object_fits}
 use Rattle.mu_values.specs.declared.scalars.Scalar.{Scalar}
 use Rattle.bundle_names.specs.Naming.{name_demands}
 use Rattle.check_tables.specs.declared.tables.Signature.{Signature}
-use Rattle.bundle_constants.specs.Bundle.{constant_values}
+use Rattle.checked_code.specs.Constants.{constant_values}
 use Rattle.mu_model.specs.Types.{type_graph}
 use Rattle.bundle_facts.specs.Facts.{WidthsAreAllowed, ClassesAreDefined, HaveOneShape, PartsHaveClasses, ClassesDecideFits, LeavesOfClasses, RefsAreDefined, IrefsAreDefined, FuncrefsAreDefined, TypesAreThere, ZerosFit, IsSignature, SignaturesAreDefined, ClassesDecideSignatures, FuncrefsDecideSignatures, FunctionsHaveSignatures, FunctionsAreThere, FunctionValuesFit, FunctionsOfClassFit, CalledFunctionsFit, ConstantValuesFit, ConstantsHaveClasses, IntConstantsAreScalars, FirstBlocksFit}
 use Rattle.bundle_facts.proofs.Shapes.{class_leaves, class_fits, class_place_fits, leaves_of_parts}

@@ -3,7 +3,7 @@ use Rattle.std.proofs.Common.{◌≡◌, ℕ, suc, ◌<◌, List, [], ◌∷◌,
 use Rattle.std.specs.List.{All}
 use Rattle.std.proofs.lemmas.Option.{slice_get_within}
 use Rattle.std.proofs.lemmas.List.Elements.{All-nil, All-cons}
-use Rattle.bundle_check.specs.Checking.{bundle_tables}
+use Rattle.checked_code.specs.Checking.{bundle_tables}
 use Rattle.bundle_laws.proofs.Tables.{tables_fit}
 use Rattle.mu_model.specs.Types.{type_graph}
 use Rattle.bundle_facts.specs.Facts.{WidthsAreNarrow, GlobalsAreTypes}

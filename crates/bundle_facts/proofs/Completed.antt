@@ -4,26 +4,26 @@ use Rattle.std.proofs.lemmas.List.{length-append}
 use Rattle.demands.specs.Demands.{first_unmet}
 use Rattle.demands.proofs.Meeting.{both_met}
 use Rattle.ir_tree.specs.declared.items.Item.{Item}
-use Rattle.type_laws.specs.declared.definition.TypeDef.{TypeDef}
-use Rattle.type_laws.specs.declared.definition.TypeDef.TheVariants.{Int, Struct, Array, Hybrid, Void, Ref, Iref, FuncRef, StackRef, ThreadRef, Sig}
-use Rattle.type_laws.specs.Same.{IsGraph}
-use Rattle.type_laws.specs.Laws.{IsFinite}
+use Rattle.type_definitions.specs.declared.definition.TypeDef.{TypeDef}
+use Rattle.type_definitions.specs.declared.definition.TypeDef.TheVariants.{Int, Struct, Array, Hybrid, Void, Ref, Iref, FuncRef, StackRef, ThreadRef, Sig}
+use Rattle.type_definitions.specs.Same.{IsGraph}
+use Rattle.type_definitions.specs.Laws.{IsFinite}
 use Rattle.mu_types.specs.Graph.{Table}
 use Rattle.mu_types.specs.Implied.{references, references_from, complete}
-use Rattle.mu_types.proofs.References.{headed}
+use Rattle.mu_types.specs.CompleteLaws.{headed}
 use Rattle.check_tables.specs.Laws.{AreDefined}
 use Rattle.check_tables.proofs.Defined.{are_defined}
 use Rattle.mu_values.specs.Constants.{width_of}
 use Rattle.check_tables.specs.Types.{definition_at, is_type_there, is_sig}
 use Rattle.bundle_names.specs.Globals.{globals_of}
-use Rattle.bundle_tables.specs.Graph.{graph_of}
-use Rattle.bundle_tables.specs.Entries.{tables_of}
-use Rattle.bundle_tables.specs.Rules.{item_demands}
-use Rattle.bundle_constants.specs.Bundle.{constants_of}
-use Rattle.bundle_constants.specs.Members.{Lawful}
-use Rattle.bundle_constants.proofs.Accepted.{accepted}
-use Rattle.bundle_check.specs.Checking.{bundle_tables, check_demands}
-use Rattle.bundle_check.specs.Functions.{functions_demands}
+use Rattle.checked_code.specs.Graph.{graph_of}
+use Rattle.checked_code.specs.Entries.{tables_of}
+use Rattle.checked_code.specs.Rules.{item_demands}
+use Rattle.checked_code.specs.Constants.{constants_of}
+use Rattle.checked_code.specs.ConstantMembers.{Lawful}
+use Rattle.checked_code.proofs.ConstantsAccepted.{accepted}
+use Rattle.checked_code.specs.Checking.{bundle_tables, check_demands}
+use Rattle.checked_code.specs.Functions.{functions_demands}
 
 -- ---- lists
 

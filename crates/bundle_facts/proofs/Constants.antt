@@ -3,18 +3,18 @@ use Rattle.std.proofs.Common.{◌≡◌, true, ℕ, zero, suc, ◌<◌, List, []
 use Rattle.std.proofs.lemmas.List.{length-map}
 use Rattle.std.proofs.lemmas.Option.{slice_get_within, slice_get-get_or}
 use Rattle.demands.specs.Demands.{AllMet, first_unmet}
-use Rattle.demands.specs.Names.{found}
+use Rattle.name_scopes.specs.Names.{found}
 use Rattle.ir_lex.specs.declared.name.Name.{Name}
 use Rattle.bundle_names.specs.Uses.{is_type}
 use Rattle.demands.proofs.Meeting.{all_met}
 use Rattle.ir_tree.specs.declared.items.Item.{Item}
 use Rattle.ir_tree.specs.declared.items.Item.TheVariants as items
-use Rattle.type_laws.specs.declared.definition.TypeDef.{TypeDef}
-use Rattle.type_laws.specs.declared.definition.TypeDef.TheVariants as types
-use Rattle.type_laws.specs.Same.{IsGraph}
-use Rattle.type_laws.specs.Class.{class_of}
-use Rattle.type_laws.specs.Leaves.{leaves}
-use Rattle.type_laws.specs.Scalars.{is_scalar}
+use Rattle.type_definitions.specs.declared.definition.TypeDef.{TypeDef}
+use Rattle.type_definitions.specs.declared.definition.TypeDef.TheVariants as types
+use Rattle.type_definitions.specs.Same.{IsGraph}
+use Rattle.type_definitions.specs.Class.{class_of}
+use Rattle.type_definitions.specs.Leaves.{leaves}
+use Rattle.type_definitions.specs.Scalars.{is_scalar}
 use Rattle.mu_types.specs.Graph.{Table}
 use Rattle.mu_values.specs.declared.scalars.Scalar.{Scalar}
 use Rattle.mu_values.specs.declared.scalars.Scalar.TheVariants.{Int, Null}
@@ -23,17 +23,17 @@ use Rattle.bundle_names.specs.declared.globals.Globals.{Globals}
 use Rattle.bundle_names.specs.Globals.{globals_of}
 use Rattle.bundle_names.specs.Naming.{name_demands}
 use Rattle.bundle_names.specs.ItemUses.{item_uses}
-use Rattle.bundle_tables.specs.Graph.{type_id, table_of}
-use Rattle.bundle_tables.specs.Rules.{literal_of}
-use Rattle.bundle_tables.specs.Entries.{noted_type, constant_entries, tables_of}
-use Rattle.bundle_constants.specs.declared.constants.Constant.{Constant}
-use Rattle.bundle_constants.specs.Values.{told, values_to}
-use Rattle.bundle_constants.specs.Bundle.{constants_of, constant_values}
-use Rattle.bundle_constants.specs.Fits.{IsOfWidth, IsNull, FitsLeaf, FitsLeaves}
-use Rattle.bundle_constants.specs.Members.{Lawful, value_of}
-use Rattle.bundle_constants.proofs.Members.{holds_at}
-use Rattle.bundle_constants.proofs.Fitting.{all_fit}
-use Rattle.bundle_check.specs.Checking.{bundle_tables, check_demands}
+use Rattle.checked_code.specs.Graph.{type_id, table_of}
+use Rattle.checked_code.specs.Rules.{literal_of}
+use Rattle.checked_code.specs.Entries.{noted_type, constant_entries, tables_of}
+use Rattle.checked_code.specs.declared.constants.Constant.{Constant}
+use Rattle.checked_code.specs.ConstantValues.{told, values_to}
+use Rattle.checked_code.specs.Constants.{constants_of, constant_values}
+use Rattle.checked_code.specs.ConstantFits.{IsOfWidth, IsNull, FitsLeaf, FitsLeaves}
+use Rattle.checked_code.specs.ConstantMembers.{Lawful, value_of}
+use Rattle.checked_code.proofs.ConstantMembers.{holds_at}
+use Rattle.checked_code.proofs.ConstantsFitting.{all_fit}
+use Rattle.checked_code.specs.Checking.{bundle_tables, check_demands}
 use Rattle.typed_heap.specs.Objects.{leaf_classes}
 use Rattle.typed_heap.specs.Fits.{World, DefinitionFits, ScalarFits, ScalarsFit, ValueFits}
 use Rattle.typed_heap.proofs.Fitted.{some_and}

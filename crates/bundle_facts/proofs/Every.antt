@@ -1,15 +1,15 @@
 -- The types that every bundle has, and what holds of parts, widths and zeros.
 use Rattle.std.proofs.Common.{◌≡◌, ℕ, ◌<◌, true, Option, Some, nat_lt, slice_get, refl, sym, ◌∙◌, ap, subst, arith}
-use Rattle.type_laws.specs.declared.definition.TypeDef.{TypeDef}
-use Rattle.type_laws.specs.declared.definition.TypeDef.TheVariants.{Int, Ref, StackRef, ThreadRef}
-use Rattle.type_laws.specs.Class.{class_of}
-use Rattle.type_laws.specs.Parts.{parts, parts_at}
-use Rattle.type_laws.specs.Scalars.{is_scalar}
-use Rattle.type_laws.proofs.Proved.{congruence}
+use Rattle.type_definitions.specs.declared.definition.TypeDef.{TypeDef}
+use Rattle.type_definitions.specs.declared.definition.TypeDef.TheVariants.{Int, Ref, StackRef, ThreadRef}
+use Rattle.type_definitions.specs.Class.{class_of}
+use Rattle.type_definitions.specs.Parts.{parts, parts_at}
+use Rattle.type_definitions.specs.Scalars.{is_scalar}
+use Rattle.type_definitions.proofs.Proved.{congruence}
 use Rattle.check_tables.specs.declared.tables.Tables.{Tables}
 use Rattle.check_tables.specs.Types.{class_like, definition_at, class_at, is_type_there, ref_void}
 use Rattle.check_tables.proofs.Like.{class_is_like}
-use Rattle.code_check.specs.Typed.{TablesFit}
+use Rattle.bundle_laws.specs.Typed.{TablesFit}
 use Rattle.model_laws.specs.Places.{IsScalarClass, HasTypes}
 use Rattle.bundle_facts.specs.Facts.{RefersTo}
 use Rattle.bundle_facts.proofs.Shapes.{class_leaves, leaves_of_parts}

@@ -1,8 +1,9 @@
 -- The first block of a function: it takes what the signature of the function takes, and its definition gives what that gives.
 use Rattle.std.proofs.Common.{◌≡◌, ℕ, zero, suc, ◌+◌, ◌<◌, Bool, true, false, not, List, [], ◌∷◌, ◌++◌, ◌⊎◌, inl, inr, Option, Some, None, is_some, slice_get, length, nat_eq, if◌then◌else◌, refl, sym, ◌∙◌, ap, subst, append-nil, arith}
 use Rattle.std.specs.Prelude.{unwrap_or, option_and_then}
+use Rattle.std.proofs.lemmas.Slice.Eq.{bytes_eq-Decides}
 use Rattle.demands.specs.Demands.{AllMet, first_unmet}
-use Rattle.demands.specs.Names.{Names, found}
+use Rattle.name_scopes.specs.Names.{Names, found}
 use Rattle.demands.proofs.Meeting.{all_met}
 use Rattle.ir_lex.specs.declared.name.Name.{Name}
 use Rattle.ir_tree.specs.declared.code.BlockHead.{BlockHead}
@@ -22,15 +23,15 @@ use Rattle.bundle_names.specs.Definitions.{items_demands}
 use Rattle.check_tables.specs.declared.tables.Signature.{Signature}
 use Rattle.check_tables.specs.declared.tables.Tables.{Tables}
 use Rattle.check_tables.specs.Lookups.{or_zero, signature_in, signature_named, takes_of, gives_of, noted_classes}
-use Rattle.code_check.specs.declared.scopes.Body.{Body}
-use Rattle.code_check.specs.Control.{are_classes, gives_these}
-use Rattle.code_check.proofs.TypedOperands.{nat_eq_is, both_are}
-use Rattle.bundle_tables.specs.Entries.{noted_signature, defined_signatures, is_function, declared_entry, function_entries, tables_of}
-use Rattle.bundle_check.specs.declared.code.BlockCode.{BlockCode}
-use Rattle.bundle_check.specs.declared.code.Function.{Function}
-use Rattle.bundle_check.specs.Blocks.{parameter_classes, handler_number, block_code, blocks_code}
-use Rattle.bundle_check.specs.Functions.{body_of, first_block_demands, function_demands, functions_demands, all_blocks}
-use Rattle.bundle_check.specs.Checking.{bundle_tables, bundle_functions, bundle_blocks, check_demands}
+use Rattle.checked_code.specs.declared.scopes.Body.{Body}
+use Rattle.checked_code.specs.Control.{gives_these}
+use Rattle.bundle_laws.proofs.TypedOperands.{nat_eq_is, both_are}
+use Rattle.checked_code.specs.Entries.{noted_signature, defined_signatures, is_function, declared_entry, function_entries, tables_of}
+use Rattle.checked_code.specs.declared.blocks.BlockCode.{BlockCode}
+use Rattle.checked_code.specs.declared.blocks.Function.{Function}
+use Rattle.checked_code.specs.Blocks.{parameter_classes, handler_number, block_code, blocks_code}
+use Rattle.checked_code.specs.Functions.{body_of, first_block_demands, function_demands, functions_demands, all_blocks}
+use Rattle.checked_code.specs.Checking.{bundle_tables, bundle_functions, bundle_blocks, check_demands}
 use Rattle.bundle_laws.specs.Accepted.{handler_classes, head_classes}
 use Rattle.bundle_laws.proofs.Graph.{get_right}
 use Rattle.typed_heap.specs.Places.{with_some}
@@ -271,19 +272,9 @@ first_met p s (x ∷ bs) b h met =
     subst (λ (y : Block). (y.head.handler ≡ None) × (gives_these (takes_of (signature_named p s)) (parameter_classes p y.head.parameters) ≡ true)) (some_is x b h)
     (let both = both_are (not (is_some x.head.handler)) (gives_these (takes_of (signature_named p s)) (parameter_classes p x.head.parameters)) met in (not_some x.head.handler both.0, both.1))
 
-are_same : (ts us : List ℕ) → are_classes ts us ≡ true → ts ≡ us
-are_same [] [] h = refl
-are_same [] (u ∷ us) h = cc
-are_same (t ∷ ts) [] h = cc
-are_same (t ∷ ts) (u ∷ us) h =
-    let both = both_are (nat_eq t u) (are_classes ts us) h in
-    let first : t ≡ u = nat_eq_is t u both.0 in
-    let rest : ts ≡ us = are_same ts us both.1 in
-    cc
-
 taken : (o : Option Signature) (us : List ℕ) → gives_these (takes_of o) us ≡ true → noted_classes (takes_of o) ≡ us
 taken None us h = cc
-taken (Some s) us h = are_same s.takes us h
+taken (Some s) us h = (bytes_eq-Decides s.takes us).0 h
 
 -- ---- both
 

@@ -3,15 +3,15 @@ use Rattle.std.proofs.Common.{◌≡◌, ℕ, zero, suc, ◌<◌, Bool, true, fa
 use Rattle.std.specs.Prelude.{unwrap_or, option_and_then}
 use Rattle.std.proofs.lemmas.Option.{slice_get-map}
 use Rattle.demands.specs.Demands.{AllMet, first_unmet}
-use Rattle.demands.specs.Names.{found}
+use Rattle.name_scopes.specs.Names.{found}
 use Rattle.demands.proofs.Meeting.{all_met}
 use Rattle.ir_lex.specs.declared.name.Name.{Name}
 use Rattle.ir_tree.specs.declared.definitions.Funcdecl.{Funcdecl}
 use Rattle.ir_tree.specs.declared.items.Item.{Item}
 use Rattle.ir_tree.specs.declared.items.Item.TheVariants as items
-use Rattle.type_laws.specs.declared.definition.TypeDef.{TypeDef}
-use Rattle.type_laws.specs.declared.definition.TypeDef.TheVariants.{FuncRef}
-use Rattle.type_laws.specs.Class.{class_of}
+use Rattle.type_definitions.specs.declared.definition.TypeDef.{TypeDef}
+use Rattle.type_definitions.specs.declared.definition.TypeDef.TheVariants.{FuncRef}
+use Rattle.type_definitions.specs.Class.{class_of}
 use Rattle.mu_types.specs.Graph.{Table}
 use Rattle.mu_values.specs.declared.scalars.Scalar.TheVariants.{Func}
 use Rattle.bundle_names.specs.declared.globals.Counts.{Counts}
@@ -26,10 +26,10 @@ use Rattle.check_tables.specs.declared.tables.Signature.{Signature}
 use Rattle.check_tables.specs.declared.tables.Tables.{Tables}
 use Rattle.check_tables.specs.Lookups.{or_zero, signature_number, signature_in, funcref_of, takes_of, gives_of, noted_classes}
 use Rattle.check_tables.specs.Lookups as lookups
-use Rattle.bundle_tables.specs.Graph.{signatures_of, table_of}
-use Rattle.bundle_tables.specs.Entries.{signature_entries, noted_signature, defined_signatures, is_function, declared_entry, function_entries, tables_of}
-use Rattle.bundle_check.specs.declared.code.Function.{Function}
-use Rattle.bundle_check.specs.Checking.{bundle_tables, bundle_functions, check_demands}
+use Rattle.checked_code.specs.Graph.{signatures_of, table_of}
+use Rattle.checked_code.specs.Entries.{signature_entries, noted_signature, defined_signatures, is_function, declared_entry, function_entries, tables_of}
+use Rattle.checked_code.specs.declared.blocks.Function.{Function}
+use Rattle.checked_code.specs.Checking.{bundle_tables, bundle_functions, check_demands}
 use Rattle.bundle_laws.proofs.Graph.{counted}
 use Rattle.typed_heap.specs.Places.{with_some}
 use Rattle.typed_heap.specs.Fits.{World, DefinitionFits, ScalarFits, ScalarsFit, ValueFits, signature_classes}

@@ -3,15 +3,15 @@ use Rattle.std.proofs.Common.{◌≡◌, ℕ, ◌<◌, Bool, true, false, List, 
 use Rattle.std.specs.List.{All}
 use Rattle.std.proofs.lemmas.List.Elements.{All-head}
 use Rattle.std.proofs.lemmas.Option.{slice_get_within}
-use Rattle.type_laws.specs.declared.definition.TypeDef.{TypeDef}
-use Rattle.type_laws.specs.declared.definition.TypeDef.TheVariants.{Ref, Iref, FuncRef}
-use Rattle.type_laws.specs.Definition.{arguments}
-use Rattle.type_laws.specs.Same.{agree_at, same, IsGraph}
-use Rattle.type_laws.specs.Class.{class_of}
-use Rattle.type_laws.specs.Laws.{IsFinite}
-use Rattle.type_laws.specs.Scalars.{is_scalar}
-use Rattle.type_laws.proofs.Depth.{args_within}
-use Rattle.type_laws.proofs.Proved.{congruence}
+use Rattle.type_definitions.specs.declared.definition.TypeDef.{TypeDef}
+use Rattle.type_definitions.specs.declared.definition.TypeDef.TheVariants.{Ref, Iref, FuncRef}
+use Rattle.type_definitions.specs.Definition.{arguments}
+use Rattle.type_definitions.specs.Same.{agree_at, same, IsGraph}
+use Rattle.type_definitions.specs.Class.{class_of}
+use Rattle.type_definitions.specs.Laws.{IsFinite}
+use Rattle.type_definitions.specs.Scalars.{is_scalar}
+use Rattle.type_definitions.proofs.Depth.{args_within}
+use Rattle.type_definitions.proofs.Proved.{congruence}
 use Rattle.mu_types.specs.Graph.{Table}
 use Rattle.check_tables.specs.Types.{class_like, definition_at, class_at, is_type_there, is_sig, ref_at, iref_at, funcref_at}
 use Rattle.check_tables.proofs.Like.{class_is_like}

@@ -5,18 +5,18 @@ use Rattle.std.proofs.lemmas.Bool.{and_parts}
 use Rattle.std.proofs.lemmas.List.{length-append, map-append}
 use Rattle.std.proofs.lemmas.List.Elements.{All-head, All-tail}
 use Rattle.std.proofs.lemmas.Option.{slice_get_within}
-use Rattle.type_laws.specs.declared.definition.TypeDef.{TypeDef}
-use Rattle.type_laws.specs.declared.definition.TypeDef.TheVariants.{Int, Struct, Array, Hybrid, Void, Ref, Iref, FuncRef, StackRef, ThreadRef, Sig}
-use Rattle.type_laws.specs.Definition.{constructor, number, arguments}
-use Rattle.type_laws.specs.Same.{pairs, same, IsGraph}
-use Rattle.type_laws.specs.Class.{class_of}
-use Rattle.type_laws.specs.Laws.{IsFinite}
-use Rattle.type_laws.specs.Leaves.{leaves, leaves_at}
-use Rattle.type_laws.specs.Scalars.{is_scalar}
-use Rattle.type_laws.proofs.Depth.{Meets, same_meets, args_within}
-use Rattle.type_laws.proofs.Proved.{congruence, decided}
-use Rattle.type_laws.proofs.Respect.{class_decides, map_times}
-use Rattle.type_laws.proofs.Unfolds.{leaves_are}
+use Rattle.type_definitions.specs.declared.definition.TypeDef.{TypeDef}
+use Rattle.type_definitions.specs.declared.definition.TypeDef.TheVariants.{Int, Struct, Array, Hybrid, Void, Ref, Iref, FuncRef, StackRef, ThreadRef, Sig}
+use Rattle.type_definitions.specs.Definition.{constructor, number, arguments}
+use Rattle.type_definitions.specs.Same.{pairs, same, IsGraph}
+use Rattle.type_definitions.specs.Class.{class_of}
+use Rattle.type_definitions.specs.Laws.{IsFinite}
+use Rattle.type_definitions.specs.Leaves.{leaves, leaves_at}
+use Rattle.type_definitions.specs.Scalars.{is_scalar}
+use Rattle.type_definitions.proofs.Depth.{Meets, same_meets, args_within}
+use Rattle.type_definitions.proofs.Proved.{congruence, decided}
+use Rattle.type_definitions.proofs.Respect.{class_decides, map_times}
+use Rattle.type_definitions.proofs.Unfolds.{leaves_are}
 use Rattle.check_tables.specs.TypeTests.{repeated_of}
 use Rattle.typed_heap.specs.Objects.{HeapObject, leaf_classes}
 use Rattle.typed_heap.specs.Fits.{begins, rest_fits, are_runs, fits, place_fits}

@@ -4,17 +4,17 @@ use Rattle.std.proofs.lemmas.Bool.{and_from}
 use Rattle.std.proofs.lemmas.List.{length-append}
 use Rattle.std.proofs.lemmas.Option.{slice_get_within}
 use Rattle.demands.specs.Demands.{AllMet}
-use Rattle.demands.specs.Names.{Names, found}
+use Rattle.name_scopes.specs.Names.{Names, found}
 use Rattle.ir_lex.specs.declared.name.Name.{Name}
 use Rattle.ir_tree.specs.declared.definitions.Funcsig.{Funcsig}
 use Rattle.ir_tree.specs.declared.items.Item.{Item}
 use Rattle.ir_tree.specs.declared.items.Item.TheVariants as items
-use Rattle.type_laws.specs.declared.definition.TypeDef.{TypeDef}
-use Rattle.type_laws.specs.declared.definition.TypeDef.TheVariants.{FuncRef, Sig}
-use Rattle.type_laws.specs.Same.{same, IsGraph}
-use Rattle.type_laws.specs.Class.{class_of}
-use Rattle.type_laws.proofs.Depth.{from_meets}
-use Rattle.type_laws.proofs.Proved.{congruence, decided}
+use Rattle.type_definitions.specs.declared.definition.TypeDef.{TypeDef}
+use Rattle.type_definitions.specs.declared.definition.TypeDef.TheVariants.{FuncRef, Sig}
+use Rattle.type_definitions.specs.Same.{same, IsGraph}
+use Rattle.type_definitions.specs.Class.{class_of}
+use Rattle.type_definitions.proofs.Depth.{from_meets}
+use Rattle.type_definitions.proofs.Proved.{congruence, decided}
 use Rattle.mu_types.specs.Graph.{Table}
 use Rattle.bundle_names.specs.declared.globals.Counts.{Counts}
 use Rattle.bundle_names.specs.declared.globals.Sort.{Sort}
@@ -28,8 +28,8 @@ use Rattle.check_tables.specs.declared.tables.Signature.{Signature}
 use Rattle.check_tables.specs.declared.tables.Tables.{Tables}
 use Rattle.check_tables.specs.Types.{class_like, definition_at, class_in, is_sig, funcref_at}
 use Rattle.check_tables.specs.Lookups.{or_zero, written_number}
-use Rattle.bundle_tables.specs.Graph.{within, type_id, type_ids, signature_id, types_of, signatures_of, graph_of, table_of}
-use Rattle.bundle_tables.specs.Entries.{noted_type, noted_types, signature_entry, signature_entries}
+use Rattle.checked_code.specs.Graph.{within, type_id, type_ids, signature_id, types_of, signatures_of, graph_of, table_of}
+use Rattle.checked_code.specs.Entries.{noted_type, noted_types, signature_entry, signature_entries}
 use Rattle.bundle_laws.proofs.Graph.{counted, get_right, written_at}
 use Rattle.bundle_laws.proofs.Bodies.{some_is}
 use Rattle.bundle_facts.specs.Facts.{AreShaped, RefersTo, IsSignature, AreSameSignature}

@@ -1,8 +1,8 @@
 -- What a shape tells of a definition, one lemma a shape.
 use Rattle.std.proofs.Common.{◌≡◌, ℕ, List, Option, Some, IsSomeAnd, refl, ap}
-use Rattle.type_laws.specs.declared.definition.TypeDef.{TypeDef}
-use Rattle.type_laws.specs.declared.definition.TypeDef.TheVariants.{Int, Ref, Iref, FuncRef, StackRef, ThreadRef}
-use Rattle.type_laws.specs.Class.{class_of}
+use Rattle.type_definitions.specs.declared.definition.TypeDef.{TypeDef}
+use Rattle.type_definitions.specs.declared.definition.TypeDef.TheVariants.{Int, Ref, Iref, FuncRef, StackRef, ThreadRef}
+use Rattle.type_definitions.specs.Class.{class_of}
 use Rattle.bundle_facts.specs.Facts.{AreShaped}
 
 pub int_told : (g : List TypeDef) (w : ℕ) (o : Option TypeDef) → IsSomeAnd o (AreShaped g (Int w)) → o ≡ Some (Int w)

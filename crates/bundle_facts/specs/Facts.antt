@@ -3,12 +3,12 @@ use Rattle.std.specs.Prelude.{◌≡◌, ℕ, ◌<◌, ◌≤◌, true, List, []
 use Rattle.std.specs.List.{flat_map, All}
 use Rattle.ir_tree.specs.declared.items.Item.{Item}
 use Rattle.ir_tree.specs.declared.items.Item.TheVariants as items
-use Rattle.type_laws.specs.declared.definition.TypeDef.{TypeDef}
-use Rattle.type_laws.specs.declared.definition.TypeDef.TheVariants as types
-use Rattle.type_laws.specs.Same.{same, agree_at}
-use Rattle.type_laws.specs.Class.{class_of}
-use Rattle.type_laws.specs.Leaves.{times}
-use Rattle.type_laws.specs.Parts.{parts}
+use Rattle.type_definitions.specs.declared.definition.TypeDef.{TypeDef}
+use Rattle.type_definitions.specs.declared.definition.TypeDef.TheVariants as types
+use Rattle.type_definitions.specs.Same.{same, agree_at}
+use Rattle.type_definitions.specs.Class.{class_of}
+use Rattle.type_definitions.specs.Leaves.{times}
+use Rattle.type_definitions.specs.Parts.{parts}
 use Rattle.mu_types.specs.Graph.{Table}
 use Rattle.mu_values.specs.declared.scalars.Scalar.TheVariants as scalars
 use Rattle.mu_values.specs.Constants.{width_of}
@@ -17,11 +17,11 @@ use Rattle.check_tables.specs.declared.tables.Tables.{Tables}
 use Rattle.check_tables.specs.Types.{definition_at, class_at, ref_at, iref_at, funcref_at}
 use Rattle.check_tables.specs.TypeTests.{is_scalar}
 use Rattle.check_tables.specs.Lookups.{funcref_of}
-use Rattle.bundle_constants.specs.Bundle.{constant_values}
-use Rattle.bundle_check.specs.declared.code.BlockCode.{BlockCode}
-use Rattle.bundle_check.specs.declared.code.Function.{Function}
-use Rattle.bundle_check.specs.Functions.{body_of}
-use Rattle.bundle_check.specs.Checking.{bundle_tables, bundle_functions, bundle_blocks}
+use Rattle.checked_code.specs.Constants.{constant_values}
+use Rattle.checked_code.specs.declared.blocks.BlockCode.{BlockCode}
+use Rattle.checked_code.specs.declared.blocks.Function.{Function}
+use Rattle.checked_code.specs.Functions.{body_of}
+use Rattle.checked_code.specs.Checking.{bundle_tables, bundle_functions, bundle_blocks}
 use Rattle.bundle_laws.specs.Accepted.{CodeOf, head_classes}
 use Rattle.typed_heap.specs.Objects.{HeapObject, leaf_classes, zeros}
 use Rattle.typed_heap.specs.Heap.{AreNarrow}

@@ -8,8 +8,8 @@ use Rattle.std.specs.Cmp.Lexicographic.{nat_list_eq_equiv}
 use Rattle.ir_tree.specs.declared.items.Item.{Item}
 use Rattle.ir_tree.specs.declared.items.Item.TheVariants as items
 use Rattle.demands.specs.Demands.{or_else}
-use Rattle.demands.specs.Names.{Names, found}
-use Rattle.demands.specs.Numbered.{number_in}
+use Rattle.name_scopes.specs.Names.{Names, found}
+use Rattle.name_scopes.specs.Numbered.{number_in}
 use Rattle.bundle_join.specs.declared.kept.Kept.{Kept}
 use Rattle.bundle_join.specs.Joined.{same_named, same_directive, first_where, compared}
 use Rattle.bundle_join.specs.Firsts.{keyed, HasFirsts, HasItems, text_of, tag, tagged}

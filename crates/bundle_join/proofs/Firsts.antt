@@ -5,8 +5,8 @@ use Rattle.std.specs.Str.{bytes_eq}
 use Rattle.std.specs.Cmp.Lexicographic.{bytes_decides}
 use Rattle.std.proofs.Common.{sym, ◌∙◌, ap}
 use Rattle.demands.specs.Demands.{or_else}
-use Rattle.demands.specs.Names.{Names, found, added}
-use Rattle.demands.specs.Numbered.{number_in}
+use Rattle.name_scopes.specs.Names.{Names, found, added}
+use Rattle.name_scopes.specs.Numbered.{number_in}
 use Rattle.ir_tree.specs.declared.items.Item.{Item}
 use Rattle.bundle_join.specs.Firsts.{keyed, HasFirsts}
 

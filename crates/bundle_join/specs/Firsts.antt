@@ -1,7 +1,7 @@
 -- How the first item of a name is found: what a scope has of a key is the number of the first item with it.
 use Rattle.std.specs.Prelude.{◌≡◌, ℕ, List, ◌∷◌, map}
-use Rattle.demands.specs.Names.{Names, found}
-use Rattle.demands.specs.Numbered.{number_in}
+use Rattle.name_scopes.specs.Names.{Names, found}
+use Rattle.name_scopes.specs.Numbered.{number_in}
 use Rattle.ir_tree.specs.declared.items.Item.{Item}
 use Rattle.ir_tree.specs.declared.items.Item.TheVariants as items
 use Rattle.bundle_join.specs.declared.kept.Kept.{Kept}

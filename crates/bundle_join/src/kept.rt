@@ -2,12 +2,12 @@
 ghost use Rattle.std.specs.Prelude.{◌≡◌, ◌≤◌, [], ◌∷◌, ◌++◌, length, take, slice_get, option_copied, IfOk, OnOk};
 ghost use Rattle.std.specs.Option.{option_and_then};
 ghost use Rattle.bundle_join.specs.Joined.{compared};
-ghost use Rattle.demands.specs.Names.{found};
+ghost use Rattle.name_scopes.specs.Names.{found};
 ghost use Rattle.bundle_join.specs.Firsts.{HasItems, tag, tagged};
 
 use crate::judging::name_of;
-use demands::Scope;
 use ir_tree::{Bundle, Item};
+use name_scopes::Scope;
 use std::alloc::{AllocError, Global};
 use text_forms::Listing;
 

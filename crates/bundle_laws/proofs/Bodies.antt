@@ -1,14 +1,14 @@
 -- The blocks of a function: the number of each finds what the block takes.
 use Rattle.std.proofs.Common.{◌≡◌, ℕ, suc, ◌≤◌, Bool, true, false, List, [], ◌∷◌, ◌++◌, ◌⊎◌, inl, inr, Option, Some, None, nat_eq, is_some, if◌then◌else◌, refl, sym, subst, arith}
 use Rattle.std.specs.Str.{bytes_eq}
-use Rattle.demands.specs.Names.{Names, found, added}
+use Rattle.name_scopes.specs.Names.{Names, found, added}
 use Rattle.ir_tree.specs.declared.code.Block.{Block}
 use Rattle.ir_tree.specs.declared.items.Funcdef.{Funcdef}
 use Rattle.check_tables.specs.declared.tables.Tables.{Tables}
-use Rattle.code_check.specs.declared.scopes.BlockEntry.{BlockEntry}
-use Rattle.code_check.specs.Typed.{BodyFits}
-use Rattle.code_check.proofs.TypedOperands.{nat_eq_is}
-use Rattle.bundle_check.specs.Functions.{entry_of, entries_from, body_of}
+use Rattle.checked_code.specs.declared.scopes.BlockEntry.{BlockEntry}
+use Rattle.bundle_laws.specs.Typed.{BodyFits}
+use Rattle.bundle_laws.proofs.TypedOperands.{nat_eq_is}
+use Rattle.checked_code.specs.Functions.{entry_of, entries_from, body_of}
 use Rattle.bundle_laws.specs.Accepted.{blocks_from}
 
 pub some_is : {T : Type 0} (x y : T) → Some x ≡ Some y → x ≡ y

@@ -3,20 +3,20 @@ use Rattle.std.proofs.Common.{◌≡◌, ℕ, zero, suc, ◌+◌, ◌<◌, ◌�
 use Rattle.std.specs.List.{All}
 use Rattle.std.proofs.lemmas.List.{length-append}
 use Rattle.std.proofs.lemmas.List.Elements.{All-nil, All-cons, All-append}
-use Rattle.demands.specs.Names.{Names, found, added}
+use Rattle.name_scopes.specs.Names.{Names, found, added}
 use Rattle.demands.specs.Demands.{AllMet}
 use Rattle.ir_lex.specs.declared.name.Name.{Name}
 use Rattle.ir_tree.specs.declared.definitions.TypeForm.{TypeForm}
 use Rattle.ir_tree.specs.declared.definitions.TypeForm.TheVariants as written
 use Rattle.ir_tree.specs.declared.items.Item.{Item}
 use Rattle.ir_tree.specs.declared.items.Item.TheVariants as items
-use Rattle.type_laws.specs.declared.definition.TypeDef.{TypeDef}
-use Rattle.type_laws.specs.declared.definition.TypeDef.TheVariants.{Int, Void, StackRef, ThreadRef, Sig}
-use Rattle.type_laws.specs.Definition.{arguments}
-use Rattle.type_laws.specs.Parts.{parts_at}
-use Rattle.type_laws.specs.Same.{IsGraph}
+use Rattle.type_definitions.specs.declared.definition.TypeDef.{TypeDef}
+use Rattle.type_definitions.specs.declared.definition.TypeDef.TheVariants.{Int, Void, StackRef, ThreadRef, Sig}
+use Rattle.type_definitions.specs.Definition.{arguments}
+use Rattle.type_definitions.specs.Parts.{parts_at}
+use Rattle.type_definitions.specs.Same.{IsGraph}
 use Rattle.mu_types.specs.Implied.{complete, references_from}
-use Rattle.mu_types.proofs.References.{complete_is_graph}
+use Rattle.mu_types.specs.CompleteLaws.{complete_is_graph}
 use Rattle.bundle_names.specs.declared.globals.Sort.{Sort}
 use Rattle.bundle_names.specs.declared.globals.Sort.TheVariants as sorts
 use Rattle.bundle_names.specs.declared.globals.Globals.{Globals}
@@ -25,7 +25,7 @@ use Rattle.bundle_names.specs.Uses.{is_signature}
 use Rattle.bundle_names.specs.ItemUses.{form_use, item_uses}
 use Rattle.check_tables.specs.Types.{definition_at, is_type_there, is_sig}
 use Rattle.check_tables.specs.Lookups.{written_number, signature_number}
-use Rattle.bundle_tables.specs.Graph.{within, type_id, type_ids, signature_id, type_definition, types_of, signatures_of, graph_of, table_of}
+use Rattle.checked_code.specs.Graph.{within, type_id, type_ids, signature_id, type_definition, types_of, signatures_of, graph_of, table_of}
 use Rattle.bundle_laws.proofs.Bodies.{some_is, found_added}
 
 -- ---- lists

@@ -6,11 +6,11 @@ use Rattle.ir_tree.specs.declared.code.BlockHead.{BlockHead}
 use Rattle.check_tables.specs.declared.tables.Tables.{Tables}
 use Rattle.check_tables.specs.Types.{ref_void}
 use Rattle.check_tables.specs.Lookups.{noted_class}
-use Rattle.code_check.specs.declared.scopes.Locals.{Locals}
-use Rattle.code_check.specs.Instructions.{no_locals, bound}
-use Rattle.code_check.specs.Typed.{LocalsFit}
-use Rattle.code_check.proofs.TypedVariables.{no_locals_fit, bound_fits}
-use Rattle.bundle_check.specs.Blocks.{bound_parameters, bound_handler, head_locals, parameter_classes}
+use Rattle.checked_code.specs.declared.scopes.Locals.{Locals}
+use Rattle.checked_code.specs.Instructions.{no_locals, bound}
+use Rattle.bundle_laws.specs.Typed.{LocalsFit}
+use Rattle.bundle_laws.proofs.TypedVariables.{no_locals_fit, bound_fits}
+use Rattle.checked_code.specs.Blocks.{bound_parameters, bound_handler, head_locals, parameter_classes}
 use Rattle.bundle_laws.specs.Accepted.{handler_classes, head_classes}
 
 parameters_fit : (p : Tables) (ls : Locals) (qs : List Parameter) → LocalsFit ls → LocalsFit (bound_parameters p ls qs)

@@ -1,3 +1,16 @@
+pub mod TypedOperands
+pub mod TypedVariables
+pub mod TypedTables
+pub mod TypedComputations
+pub mod TypedControl
+pub mod TypedObjects
+pub mod TypedAccesses
+pub mod TypedStacks
+pub mod TypedCommons
+pub mod TypedExits
+pub mod TypedInstructions
+pub mod TypedEndings
+pub mod TypedGifts
 pub mod Heads
 pub mod Bodies
 pub mod Graph

@@ -6,16 +6,16 @@ use Rattle.ir_tree.specs.declared.code.Block.{Block}
 use Rattle.ir_tree.specs.declared.items.Item.{Item}
 use Rattle.ir_tree.specs.declared.items.Item.TheVariants as items
 use Rattle.check_tables.specs.declared.tables.Tables.{Tables}
-use Rattle.code_check.specs.declared.scopes.Body.{Body}
-use Rattle.code_check.specs.Instructions.{insts_code}
-use Rattle.code_check.specs.Typed.{Blocks, CodesFit, joined, BodyFits, TablesFit}
-use Rattle.code_check.specs.TypedLaws.{all_gives}
-use Rattle.code_check.proofs.TypedInstructions.{insts_fit, all_classes}
-use Rattle.code_check.proofs.TypedEndings.{ends_at_last}
+use Rattle.checked_code.specs.declared.scopes.Body.{Body}
+use Rattle.checked_code.specs.Instructions.{insts_code}
+use Rattle.bundle_laws.specs.Typed.{Blocks, CodesFit, joined, BodyFits, TablesFit}
+use Rattle.bundle_laws.specs.TypedLaws.{all_gives}
+use Rattle.bundle_laws.proofs.TypedInstructions.{insts_fit, all_classes}
+use Rattle.bundle_laws.proofs.TypedEndings.{ends_at_last}
 use Rattle.bundle_names.specs.Naming.{name_demands}
-use Rattle.bundle_check.specs.Blocks.{head_locals, block_demands, blocks_demands}
-use Rattle.bundle_check.specs.Functions.{body_of, functions_demands}
-use Rattle.bundle_check.specs.Checking.{bundle_tables, check_demands}
+use Rattle.checked_code.specs.Blocks.{head_locals, block_demands, blocks_demands}
+use Rattle.checked_code.specs.Functions.{body_of, functions_demands}
+use Rattle.checked_code.specs.Checking.{bundle_tables, check_demands}
 use Rattle.bundle_laws.specs.Accepted.{blocks_from, BlockIsFit, EachFits, FunctionsFit}
 use Rattle.bundle_laws.proofs.Heads.{head_fits, head_has}
 use Rattle.bundle_laws.proofs.Bodies.{body_fits}

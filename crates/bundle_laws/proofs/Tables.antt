@@ -1,13 +1,13 @@
 -- What is known of the tables of an accepted bundle.
 use Rattle.std.proofs.Common.{◌≡◌, ℕ, zero, suc, ◌+◌, ◌<◌, Bool, true, false, List, [], ◌∷◌, Option, Some, None, slice_get, length, if◌then◌else◌, refl, ◌∙◌, ap, arith}
 use Rattle.demands.specs.Demands.{AllMet, first_unmet}
-use Rattle.demands.specs.Names.{found}
+use Rattle.name_scopes.specs.Names.{found}
 use Rattle.demands.proofs.Meeting.{all_met}
 use Rattle.ir_tree.specs.declared.definitions.Funcsig.{Funcsig}
 use Rattle.ir_tree.specs.declared.items.Item.{Item}
 use Rattle.ir_tree.specs.declared.items.Item.TheVariants as items
-use Rattle.type_laws.specs.declared.definition.TypeDef.{TypeDef}
-use Rattle.type_laws.specs.declared.definition.TypeDef.TheVariants.{Int, Struct, Array, Hybrid, Void, Ref, Iref, FuncRef, StackRef, ThreadRef, Sig}
+use Rattle.type_definitions.specs.declared.definition.TypeDef.{TypeDef}
+use Rattle.type_definitions.specs.declared.definition.TypeDef.TheVariants.{Int, Struct, Array, Hybrid, Void, Ref, Iref, FuncRef, StackRef, ThreadRef, Sig}
 use Rattle.mu_types.specs.Graph.{Table}
 use Rattle.bundle_names.specs.declared.globals.Globals.{Globals}
 use Rattle.bundle_names.specs.Globals.{globals_of}
@@ -17,11 +17,11 @@ use Rattle.check_tables.specs.declared.tables.Tables.{Tables}
 use Rattle.check_tables.specs.Types.{class_like, definition_at, definition_in, is_type_there, is_sig, iref_at, iref_in, funcref_at}
 use Rattle.check_tables.specs.Lookups.{or_zero, written_number, leaves_named}
 use Rattle.check_tables.specs.TypeTests.{is_sized}
-use Rattle.code_check.specs.Typed.{TablesFit}
-use Rattle.bundle_tables.specs.Graph.{signature_id, signatures_of, table_of}
-use Rattle.bundle_tables.specs.Entries.{signature_entry, signature_entries, global_entries, tables_of}
-use Rattle.bundle_tables.specs.Rules.{globals_demands}
-use Rattle.bundle_check.specs.Checking.{bundle_tables, check_demands}
+use Rattle.bundle_laws.specs.Typed.{TablesFit}
+use Rattle.checked_code.specs.Graph.{signature_id, signatures_of, table_of}
+use Rattle.checked_code.specs.Entries.{signature_entry, signature_entries, global_entries, tables_of}
+use Rattle.checked_code.specs.Rules.{globals_demands}
+use Rattle.checked_code.specs.Checking.{bundle_tables, check_demands}
 use Rattle.bundle_laws.proofs.Bodies.{some_is}
 use Rattle.bundle_laws.proofs.Graph.{Counted, counted, bundle_some, graph_is, is_signature_id, part_is_type}
 

@@ -8,13 +8,13 @@ use Rattle.ir_tree.specs.declared.items.Item.{Item}
 use Rattle.ir_tree.specs.declared.items.Item.TheVariants as items
 use Rattle.check_tables.specs.declared.tables.Tables.{Tables}
 use Rattle.check_tables.specs.Types.{ref_void}
-use Rattle.code_check.specs.declared.scopes.BlockEntry.{BlockEntry}
-use Rattle.code_check.specs.declared.scopes.Body.{Body}
-use Rattle.code_check.specs.Instructions.{insts_code, after_all}
-use Rattle.code_check.specs.Typed.{Blocks, BlockFits, joined}
-use Rattle.bundle_check.specs.declared.code.BlockCode.{BlockCode}
-use Rattle.bundle_check.specs.Blocks.{head_locals, parameter_classes, handler_number}
-use Rattle.bundle_check.specs.Functions.{entry_of, body_of}
+use Rattle.checked_code.specs.declared.scopes.BlockEntry.{BlockEntry}
+use Rattle.checked_code.specs.declared.scopes.Body.{Body}
+use Rattle.checked_code.specs.Instructions.{insts_code, after_all}
+use Rattle.bundle_laws.specs.Typed.{Blocks, BlockFits, joined}
+use Rattle.checked_code.specs.declared.blocks.BlockCode.{BlockCode}
+use Rattle.checked_code.specs.Blocks.{head_locals, parameter_classes, handler_number}
+use Rattle.checked_code.specs.Functions.{entry_of, body_of}
 
 -- by number, what each block of a function takes, of which the first has the number k; nothing under other numbers
 abbrev pub blocks_from : Tables → ℕ → List Block → ℕ → Option BlockEntry

@@ -2,10 +2,10 @@
 use Rattle.std.specs.Prelude.{◌≡◌, ℕ, List, Some, None, slice_get}
 use Rattle.demands.specs.Demands.{first_unmet}
 use Rattle.ir_tree.specs.declared.items.Item.{Item}
-use Rattle.code_check.specs.Typed.{TablesFit}
+use Rattle.bundle_laws.specs.Typed.{TablesFit}
 use Rattle.bundle_names.specs.Naming.{name_demands}
-use Rattle.bundle_check.specs.declared.code.BlockCode.{BlockCode}
-use Rattle.bundle_check.specs.Checking.{bundle_tables, bundle_blocks, check_demands}
+use Rattle.checked_code.specs.declared.blocks.BlockCode.{BlockCode}
+use Rattle.checked_code.specs.Checking.{bundle_tables, bundle_blocks, check_demands}
 use Rattle.bundle_laws.specs.Accepted.{FunctionsFit, CodeOf}
 
 -- of the tables of a bundle that meets its demands is known what well typed code asks

@@ -1,2 +1,4 @@
+pub mod Typed
+pub mod TypedLaws
 pub mod Accepted
 pub mod Laws

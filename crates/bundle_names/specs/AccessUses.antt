@@ -1,6 +1,6 @@
 -- The names in each instruction that reads or writes memory, from left to right.
 use Rattle.demands.specs.Demands.{Demands, none, ◌⨾◌}
-use Rattle.demands.specs.Names.{Names}
+use Rattle.name_scopes.specs.Names.{Names}
 use Rattle.ir_tree.specs.declared.accessing.Access.{Access}
 use Rattle.ir_tree.specs.declared.accessing.Access.TheVariants as accesses
 use Rattle.bundle_names.specs.declared.fault.NameKind.{NameKind}

@@ -2,7 +2,7 @@
 -- own block, and of an earlier instruction, is asked later.
 use Rattle.std.specs.Prelude.{List, [], ◌∷◌}
 use Rattle.demands.specs.Demands.{Demands, none, ◌⨾◌}
-use Rattle.demands.specs.Names.{Names}
+use Rattle.name_scopes.specs.Names.{Names}
 use Rattle.ir_tree.specs.declared.code.Parameter.{Parameter}
 use Rattle.ir_tree.specs.declared.code.Op.{Op}
 use Rattle.ir_tree.specs.declared.code.Op.TheVariants as ops

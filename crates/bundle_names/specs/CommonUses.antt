@@ -1,6 +1,6 @@
 -- The names in each instruction behind COMMINST, from left to right; the instruction's own name is no use.
 use Rattle.demands.specs.Demands.{Demands, none, ◌⨾◌}
-use Rattle.demands.specs.Names.{Names}
+use Rattle.name_scopes.specs.Names.{Names}
 use Rattle.ir_tree.specs.declared.common.CommonInst.{CommonInst}
 use Rattle.ir_tree.specs.declared.common.CommonInst.TheVariants as commons
 use Rattle.bundle_names.specs.declared.fault.NameKind.{NameKind}

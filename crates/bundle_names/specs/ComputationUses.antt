@@ -1,6 +1,6 @@
 -- The names in each instruction that computes, from left to right.
 use Rattle.demands.specs.Demands.{Demands, ◌⨾◌}
-use Rattle.demands.specs.Names.{Names}
+use Rattle.name_scopes.specs.Names.{Names}
 use Rattle.ir_tree.specs.declared.computing.Computation.{Computation}
 use Rattle.ir_tree.specs.declared.computing.Computation.TheVariants as computations
 use Rattle.bundle_names.specs.declared.fault.NameKind.{NameKind}

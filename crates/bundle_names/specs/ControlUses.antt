@@ -1,6 +1,6 @@
 -- The names in each instruction that says where the function goes on, from left to right.
 use Rattle.demands.specs.Demands.{Demands, ◌⨾◌}
-use Rattle.demands.specs.Names.{Names}
+use Rattle.name_scopes.specs.Names.{Names}
 use Rattle.ir_tree.specs.declared.flow.Case.{Case}
 use Rattle.ir_tree.specs.declared.flow.ControlFlow.{ControlFlow}
 use Rattle.ir_tree.specs.declared.flow.ControlFlow.TheVariants as flows

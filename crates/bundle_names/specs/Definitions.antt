@@ -3,7 +3,7 @@
 use Rattle.std.specs.Prelude.{Bool, true, false, List, [], ◌∷◌, Option, Some, None, is_some, not, map, option_to_list}
 use Rattle.std.specs.Option.{option_map_or}
 use Rattle.demands.specs.Demands.{Demands, none, demand, ◌⨾◌}
-use Rattle.demands.specs.Names.{Names, found, added}
+use Rattle.name_scopes.specs.Names.{Names, found, added}
 use Rattle.ir_lex.specs.declared.name.Name.{Name}
 use Rattle.ir_tree.specs.declared.code.Parameter.{Parameter}
 use Rattle.ir_tree.specs.declared.code.BlockHead.{BlockHead}

@@ -1,6 +1,6 @@
 -- What the global names of a bundle stand for, in text order.
 use Rattle.std.specs.Prelude.{◌+◌, List, [], ◌∷◌, is_some, if◌then◌else◌}
-use Rattle.demands.specs.Names.{found, added}
+use Rattle.name_scopes.specs.Names.{found, added}
 use Rattle.ir_lex.specs.declared.name.Name.{Name}
 use Rattle.ir_tree.specs.declared.items.Item.{Item}
 use Rattle.ir_tree.specs.declared.items.Item.TheVariants as items

@@ -1,7 +1,7 @@
 -- The names in each item, from left to right.
 use Rattle.std.specs.Prelude.{List, [], ◌∷◌}
 use Rattle.demands.specs.Demands.{Demands, none, ◌⨾◌}
-use Rattle.demands.specs.Names.{Names}
+use Rattle.name_scopes.specs.Names.{Names}
 use Rattle.ir_tree.specs.declared.definitions.TypeForm.{TypeForm}
 use Rattle.ir_tree.specs.declared.definitions.TypeForm.TheVariants as forms
 use Rattle.ir_tree.specs.declared.definitions.Literal.{Literal}

@@ -1,6 +1,6 @@
 -- The names in each instruction that makes an object or finds a place in one, from left to right.
 use Rattle.demands.specs.Demands.{Demands, ◌⨾◌}
-use Rattle.demands.specs.Names.{Names}
+use Rattle.name_scopes.specs.Names.{Names}
 use Rattle.ir_tree.specs.declared.allocating.Allocation.{Allocation}
 use Rattle.ir_tree.specs.declared.allocating.Allocation.TheVariants as allocations
 use Rattle.ir_tree.specs.declared.addressing.Addressing.{Addressing}

@@ -1,7 +1,7 @@
 -- The names in each instruction that asks the client, enters another stack or starts a thread, from left to right.
 use Rattle.std.specs.Option.{option_map_or}
 use Rattle.demands.specs.Demands.{Demands, none, ◌⨾◌}
-use Rattle.demands.specs.Names.{Names}
+use Rattle.name_scopes.specs.Names.{Names}
 use Rattle.ir_tree.specs.declared.trapping.Trapping.{Trapping}
 use Rattle.ir_tree.specs.declared.trapping.Trapping.TheVariants as trappings
 use Rattle.ir_tree.specs.declared.switching.StackSwitch.{StackSwitch}

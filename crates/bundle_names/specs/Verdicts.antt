@@ -4,7 +4,7 @@ use Rattle.text_forms.specs.declared.fault.Fault as texts
 use Rattle.demands.specs.declared.fault.Fault.{Fault}
 use Rattle.demands.specs.declared.fault.Fault.TheVariants.{At}
 use Rattle.demands.specs.Demands.{first_unmet}
-use Rattle.demands.specs.Names.{Names}
+use Rattle.name_scopes.specs.Names.{Names}
 use Rattle.ir_tree.specs.declared.items.Item.{Item}
 use Rattle.ir_tree.specs.declared.code.Op.{Op}
 use Rattle.bundle_names.specs.declared.fault.NameKind.{NameKind}

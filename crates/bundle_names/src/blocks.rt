@@ -2,13 +2,13 @@
 ghost use Rattle.std.specs.Prelude.{◌≡◌, [], OnOk, IfOk, option_to_list};
 ghost use Rattle.std.specs.Option.{option_map_or};
 ghost use Rattle.demands.specs.Demands.{none, Judges, Meets};
-ghost use Rattle.demands.specs.Names.{added};
+ghost use Rattle.name_scopes.specs.Names.{added};
 ghost use Rattle.bundle_names.specs.Definitions.{fresh, with_name, list_demands, with_list, parameter_names, head_demands, with_head, inst_demands, insts_demands, block_demands, blocks_demands};
 
 use crate::fault::{NameFault, NameKind, fault_at};
-use demands::Scope;
 use ir_lex::Name;
 use ir_tree::{Block, BlockHead, Inst, Parameter};
+use name_scopes::Scope;
 use std::alloc::Global;
 
 /// Defines the name, which has to be new.

@@ -14,9 +14,9 @@ use crate::globals::Sort;
 use crate::objects::{use_in_addressing, use_in_allocation};
 use crate::stacks::{use_in_switch, use_in_trapping};
 use crate::uses::use_type;
-use demands::Scope;
 use ir_lex::Name;
 use ir_tree::{Block, BlockHead, Inst, Op, Parameter};
+use name_scopes::Scope;
 use std::alloc::Global;
 
 // ---- the names that a body defines

@@ -6,8 +6,8 @@ use crate::fault::NameFault;
 use crate::function_names::FunctionNames;
 use crate::globals::Sort;
 use crate::uses::{use_operand, use_signature, use_type};
-use demands::Scope;
 use ir_tree::CommonInst;
+use name_scopes::Scope;
 
 pub fn use_in_common(
     globals: &Scope<Sort>,

@@ -10,8 +10,8 @@ use crate::uses::{
     use_constant, use_destination, use_exception, use_keepalive, use_operand, use_operands,
     use_signature, use_type,
 };
-use demands::Scope;
 use ir_tree::{Case, ControlFlow};
+use name_scopes::Scope;
 
 fn use_in_cases(
     globals: &Scope<Sort>,

@@ -1,7 +1,7 @@
 // Definitions of items: global names are one space.
 ghost use Rattle.std.specs.Prelude.{◌≡◌, ◌+◌, [], is_some, not, IfOk, OnOk};
 ghost use Rattle.demands.specs.Demands.{demand, Judges, Meets, IsMemory};
-ghost use Rattle.demands.specs.Names.{found};
+ghost use Rattle.name_scopes.specs.Names.{found};
 ghost use Rattle.bundle_names.specs.declared.fault.NameKind.TheVariants.{Duplicate};
 ghost use Rattle.ir_tree.specs.declared.items.Item.TheVariants as items;
 ghost use Rattle.bundle_names.specs.Globals.{with_function, with_item, no_globals, globals_of};
@@ -10,9 +10,9 @@ ghost use Rattle.bundle_names.specs.Definitions.{may_be_function, function_deman
 use crate::blocks::{define, define_blocks};
 use crate::fault::{NameFault, NameKind, fault_at};
 use crate::globals::{Counts, Globals, Sort};
-use demands::Scope;
 use ir_lex::Name;
 use ir_tree::{Const, Funcdecl, Funcdef, Funcsig, GlobalCell, Item, Typedef};
+use name_scopes::Scope;
 use std::alloc::Global;
 
 /// One more. Past 2^32 - 1 the answer is out of memory.

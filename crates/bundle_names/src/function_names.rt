@@ -1,5 +1,5 @@
 // The names within a function.
-use demands::Scope;
+use name_scopes::Scope;
 
 /// The names that the instructions of a function may use.
 #[derive(Drop)]

@@ -1,5 +1,5 @@
 // What global names stand for.
-use demands::Scope;
+use name_scopes::Scope;
 
 /// What a global name is defined as, with its number: how many of that sort are defined before it in the text.
 #[derive(Clone, Copy, Debug, PartialEq, Eq)]

@@ -6,8 +6,8 @@ use crate::bodies::use_in_blocks;
 use crate::fault::NameFault;
 use crate::globals::Sort;
 use crate::uses::{use_constants, use_signature, use_type, use_types};
-use demands::Scope;
 use ir_tree::{Item, Literal, TypeForm};
+use name_scopes::Scope;
 use std::alloc::Global;
 
 fn use_in_form(globals: &Scope<Sort>, form: &TypeForm) -> Result<(), NameFault>

@@ -9,8 +9,8 @@ use crate::uses::{
     use_destination, use_entered, use_exception, use_keepalive, use_operand, use_optional,
     use_optional_destination, use_types,
 };
-use demands::Scope;
 use ir_tree::{StackSwitch, Trapping};
+use name_scopes::Scope;
 
 pub fn use_in_trapping(
     globals: &Scope<Sort>,

@@ -7,9 +7,9 @@ ghost use Rattle.bundle_names.specs.Uses.{each, is_operand, global_use, type_use
 use crate::fault::{NameFault, NameKind, fault_at};
 use crate::function_names::FunctionNames;
 use crate::globals::Sort;
-use demands::Scope;
 use ir_lex::Name;
 use ir_tree::{Destination, ExceptionClause, NewStackClause, Operand};
+use name_scopes::Scope;
 use text_forms::Listing;
 
 /// A type.

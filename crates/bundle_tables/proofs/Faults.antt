@@ -6,22 +6,22 @@ use Rattle.demands.specs.Demands.{Demands, first_unmet, as_kind, Judges, Meets}
 use Rattle.demands.specs.Laws.{fault_as}
 use Rattle.demands.proofs.Meeting.{carried}
 use Rattle.ir_tree.specs.declared.items.Item.{Item}
-use Rattle.type_laws.specs.declared.definition.TypeDef.{TypeDef}
-use Rattle.type_laws.specs.declared.definition.TypeDef.TheVariants.{Int, Void, StackRef, ThreadRef}
-use Rattle.type_laws.specs.Same.{IsGraph}
+use Rattle.type_definitions.specs.declared.definition.TypeDef.{TypeDef}
+use Rattle.type_definitions.specs.declared.definition.TypeDef.TheVariants.{Int, Void, StackRef, ThreadRef}
+use Rattle.type_definitions.specs.Same.{IsGraph}
 use Rattle.mu_types.specs.declared.faults.TypeKind.{TypeKind}
 use Rattle.mu_types.specs.Graph.{Table, Written}
 use Rattle.mu_types.specs.Implied.{complete, references_from}
 use Rattle.mu_types.specs.TypeDemands.{passes, written_demands}
 use Rattle.bundle_names.specs.declared.globals.Globals.{Globals}
 use Rattle.bundle_names.specs.Globals.{globals_of}
-use Rattle.mu_types.proofs.References.{complete_is_graph}
+use Rattle.mu_types.specs.CompleteLaws.{complete_is_graph}
 use Rattle.check_tables.specs.declared.fault.CheckKind.{CheckKind}
 use Rattle.check_tables.specs.declared.fault.CheckKind.TheVariants.{Types}
 use Rattle.check_tables.specs.Held.{IsHeld}
-use Rattle.bundle_tables.specs.Graph.{graph_of, table_of, places_of, type_demands}
+use Rattle.checked_code.specs.Graph.{graph_of, table_of, places_of, type_demands}
 use Rattle.bundle_tables.specs.Inner.{fault_of}
-use Rattle.bundle_tables.proofs.Counted.{graph_counted}
+use Rattle.checked_code.proofs.Counted.{graph_counted}
 
 -- the demands on the graph are those on the types
 demands_same : (g : Globals) (is : List Item) (w : Written) → w.definitions ≡ graph_of g is → w.places ≡ places_of is → as_kind Types (written_demands w) ≡ type_demands g is

@@ -3,14 +3,14 @@ use Rattle.std.specs.List.{All}
 use Rattle.std.specs.Prelude.{ℕ, suc, ◌<◌, List, ◌∷◌, Option, Some, None}
 use Rattle.ir_tree.specs.declared.items.Item.{Item}
 use Rattle.bundle_names.specs.declared.globals.Globals.{Globals}
-use Rattle.type_laws.specs.declared.definition.TypeDef.{TypeDef}
-use Rattle.type_laws.specs.Definition.{arguments}
+use Rattle.type_definitions.specs.declared.definition.TypeDef.{TypeDef}
+use Rattle.type_definitions.specs.Definition.{arguments}
 use Rattle.demands.specs.declared.fault.Fault.{Fault}
 use Rattle.demands.specs.declared.fault.Fault.TheVariants as faults
 use Rattle.mu_types.specs.declared.faults.TypeKind.{TypeKind}
 use Rattle.check_tables.specs.declared.fault.CheckKind.{CheckKind}
 use Rattle.check_tables.specs.declared.fault.CheckKind.TheVariants.{Types}
-use Rattle.bundle_tables.specs.Entries.{function_entries}
+use Rattle.checked_code.specs.Entries.{function_entries}
 
 -- the signatures of the functions, where that of the first is told if there is one
 abbrev pub entered : Option ℕ → Globals → List ℕ → ℕ → List Item → List ℕ

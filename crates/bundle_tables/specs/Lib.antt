@@ -1,4 +1,1 @@
-pub mod Graph
-pub mod Entries
-pub mod Rules
 pub mod Inner

@@ -4,8 +4,8 @@ ghost use Rattle.std.specs.List.{All};
 ghost use Rattle.demands.specs.Demands.{Meets, as_kind};
 ghost use Rattle.mu_values.specs.Constants.{constant_demands, HasMembers};
 ghost use Rattle.check_tables.specs.declared.fault.CheckKind.TheVariants.{Const as OfConst};
-ghost use Rattle.bundle_tables.specs.Graph.{type_id};
-ghost use Rattle.bundle_tables.specs.Rules.{constant_id, literal_of, constant_types, constants_demands};
+ghost use Rattle.checked_code.specs.Graph.{type_id};
+ghost use Rattle.checked_code.specs.Rules.{constant_id, literal_of, constant_types, constants_demands};
 
 use crate::graph::places_of_names;
 use crate::numbers::{constant_id, type_id};

@@ -1,12 +1,12 @@
 // What the items of a bundle say, each sort of item by number.
 ghost use Rattle.std.specs.Prelude.{◌≡◌, List, ◌∷◌, length, slice_get, option_and_then, IfOk};
-ghost use Rattle.demands.specs.Names.{found};
+ghost use Rattle.name_scopes.specs.Names.{found};
 ghost use Rattle.check_tables.specs.Types.{iref_in};
 ghost use Rattle.check_tables.specs.Lookups.{written_number, or_zero};
 ghost use Rattle.ir_tree.specs.declared.items.Item.{Item};
-ghost use Rattle.bundle_tables.specs.Graph.{table_of};
+ghost use Rattle.checked_code.specs.Graph.{table_of};
 ghost use Rattle.bundle_tables.specs.Inner.{entered};
-ghost use Rattle.bundle_tables.specs.Entries.{noted_type, noted_types, signature_entry, signature_entries, constant_entries, global_entries, noted_signature, declared_signatures, defined_signatures, is_function, declared_entry, function_entries, tables_of};
+ghost use Rattle.checked_code.specs.Entries.{noted_type, noted_types, signature_entry, signature_entries, constant_entries, global_entries, noted_signature, declared_signatures, defined_signatures, is_function, declared_entry, function_entries, tables_of};
 
 use crate::numbers::{or_zero, signature_id, signature_number, written_number};
 use bundle_names::{Globals, Sort};
@@ -235,7 +235,7 @@ fn function_entries(
 }
 
 /// What the items say, by number, where their types have this table.
-#[tactic(auto, unfolding(crate::specs::Entries::tables_of))]
+#[tactic(auto, unfolding(checked_code::specs::Entries::tables_of))]
 pub fn entries(
     alloc: Global,
     types: TypeTable,

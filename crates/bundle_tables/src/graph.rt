@@ -1,20 +1,21 @@
 // The graph of the types and signatures of a bundle: types stand there first, then signatures, each in text order.
 ghost use Rattle.std.specs.Prelude.{◌≡◌, ℕ, ◌+◌, ◌-◌, ◌^◌, ◌<◌, ◌≤◌, [], ◌∷◌, ◌++◌, length, map, IfOk, OnOk};
 ghost use Rattle.std.specs.List.{All};
-ghost use Rattle.type_laws.specs.declared.definition.TypeDef.TheVariants.{Sig};
-ghost use Rattle.type_laws.specs.Definition.{arguments};
-ghost use Rattle.type_laws.specs.Same.{IsGraph};
+ghost use Rattle.type_definitions.specs.declared.definition.TypeDef.TheVariants.{Sig};
+ghost use Rattle.type_definitions.specs.Definition.{arguments};
+ghost use Rattle.type_definitions.specs.Same.{IsGraph};
 ghost use Rattle.bundle_names.specs.Globals.{globals_of};
-ghost use Rattle.bundle_tables.specs.Graph.{size_of, type_ids, type_definition, types_of, signatures_of, graph_of, places_of_names, argument_places, type_places, signature_places, places_of};
+ghost use Rattle.checked_code.specs.Graph.{size_of, type_ids, type_definition, types_of, signatures_of, graph_of, places_of_names, argument_places, type_places, signature_places, places_of};
 ghost use Rattle.bundle_tables.specs.Inner.{AllBelow};
 
 use crate::numbers::{signature_id, type_id};
 use bundle_names::Globals;
 use ir_lex::{Name, Number};
 use ir_tree::{Funcsig, Item, TypeForm, Typedef};
-use mu_types::{TypeDef, TypeGraph};
+use mu_types::TypeDef;
 use std::alloc::{AllocError, Global};
 use text_forms::Listing;
+use type_classes::TypeGraph;
 
 /// The most items that a graph is built of.
 const MOST_ITEMS: usize = 500000000;

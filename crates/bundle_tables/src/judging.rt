@@ -2,9 +2,9 @@
 ghost use Rattle.std.specs.Prelude.{◌≡◌};
 ghost use Rattle.demands.specs.Demands.{◌⨾◌, Judges, Meets};
 ghost use Rattle.bundle_names.specs.Globals.{globals_of};
-ghost use Rattle.bundle_tables.specs.Graph.{table_of};
-ghost use Rattle.bundle_tables.specs.Entries.{tables_of};
-ghost use Rattle.bundle_tables.specs.Rules.{constant_types, constants_demands, signatures_demands, globals_demands, item_demands};
+ghost use Rattle.checked_code.specs.Graph.{table_of};
+ghost use Rattle.checked_code.specs.Entries.{tables_of};
+ghost use Rattle.checked_code.specs.Rules.{constant_types, constants_demands, signatures_demands, globals_demands, item_demands};
 
 use crate::constants::{constant_types, judge_constants};
 use crate::entries::entries;
@@ -16,7 +16,7 @@ use ir_tree::Item;
 use std::alloc::Global;
 
 /// Constants, signatures and globals, where the types are judged.
-#[tactic(auto, using(crate::proofs::Counted::written_within, crate::proofs::Counted::constants_counted))]
+#[tactic(auto, using(checked_code::proofs::Counted::written_within, checked_code::proofs::Counted::constants_counted))]
 fn judge_others(alloc: Global, tables: &Tables, items: &[Item]) -> Result<(), CheckFault>
     requires types { tables.now.types ≡ table_of tables.now.globals items.now }
     requires globals { tables.now.globals ≡ globals_of items.now }
@@ -30,7 +30,7 @@ fn judge_others(alloc: Global, tables: &Tables, items: &[Item]) -> Result<(), Ch
 
 /// What the items of a bundle say, by number, where those that are no functions meet all demands on them; else the first that they do
 /// not meet: the types in three passes, then the constants, the signatures and the globals, each in text order. `globals` is what the
-/// global names of these items stand for. It takes the time of `mu_types::classes`, and a few hashes for each name. Past 5 * 10^8
+/// global names of these items stand for. It takes the time of `type_classes::classes`, and a few hashes for each name. Past 5 * 10^8
 /// items, or where a place is past 2^32 - 1, the answer is out of memory.
 pub fn tables(alloc: Global, items: &[Item], globals: Globals) -> Result<Tables, CheckFault>
     requires { globals ≡ globals_of items.now }

@@ -1,9 +1,9 @@
 // What global names are the numbers of.
 ghost use Rattle.std.specs.Prelude.{◌≡◌, ◌+◌, ◌<◌, IfOk};
-ghost use Rattle.demands.specs.Names.{found};
+ghost use Rattle.name_scopes.specs.Names.{found};
 ghost use Rattle.check_tables.specs.Lookups.{written_number, signature_number, or_zero};
-ghost use Rattle.bundle_tables.specs.Graph.{type_id, signature_id};
-ghost use Rattle.bundle_tables.specs.Rules.{constant_number, constant_id};
+ghost use Rattle.checked_code.specs.Graph.{type_id, signature_id};
+ghost use Rattle.checked_code.specs.Rules.{constant_number, constant_id};
 
 use bundle_names::{Globals, Sort};
 use ir_lex::Name;

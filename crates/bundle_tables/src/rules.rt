@@ -5,7 +5,7 @@ ghost use Rattle.mu_types.specs.declared.faults.TypeKind.TheVariants.{TooManyLea
 ghost use Rattle.check_tables.specs.declared.fault.CheckKind.TheVariants.{BadSignature, OperandType, Types};
 ghost use Rattle.check_tables.specs.Lookups.{definition_named, leaves_named};
 ghost use Rattle.check_tables.specs.TypeTests.{is_sized, is_value_type};
-ghost use Rattle.bundle_tables.specs.Rules.{signature_type_demands, signatures_demands, most_leaves_of_globals, globals_demands};
+ghost use Rattle.checked_code.specs.Rules.{signature_type_demands, signatures_demands, most_leaves_of_globals, globals_demands};
 
 use check_tables::{CheckFault, CheckKind, Tables, fault_at};
 use ir_lex::Name;

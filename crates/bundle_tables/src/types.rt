@@ -2,15 +2,16 @@
 ghost use Rattle.std.specs.Prelude.{◌≡◌, ◌+◌, IfOk};
 ghost use Rattle.demands.specs.Demands.{Judges};
 ghost use Rattle.bundle_names.specs.Globals.{globals_of};
-ghost use Rattle.bundle_tables.specs.Graph.{table_of, type_demands};
+ghost use Rattle.checked_code.specs.Graph.{table_of, type_demands};
 ghost use Rattle.bundle_tables.specs.Inner.{fault_of};
 
 use crate::graph::graph;
 use bundle_names::Globals;
 use check_tables::{CheckFault, CheckKind, TypeTable, fault_at};
 use ir_tree::Item;
-use mu_types::{TypeFault, classes};
+use mu_types::TypeFault;
 use std::alloc::{AllocError, Global};
+use type_classes::classes;
 
 /// The fault of a graph as that of a bundle.
 fn fault_of(fault: TypeFault) -> CheckFault

@@ -3,13 +3,13 @@ use Rattle.std.proofs.Common.{◌≡◌, ℕ, suc, ◌+◌, ◌<◌, ◌==◌, B
 use Rattle.std.proofs.lemmas.Bool.{false≢true, and_parts, and_from, eqb-true, eq-eqb}
 use Rattle.std.proofs.lemmas.List.Elements.{All-head}
 use Rattle.std.proofs.lemmas.Option.{slice_get_within}
-use Rattle.type_laws.specs.declared.definition.TypeDef.{TypeDef}
-use Rattle.type_laws.specs.declared.definition.TypeDef.TheVariants.{Int, Void, Ref, StackRef, ThreadRef}
-use Rattle.type_laws.specs.Same.{agree, agree_at, same, IsGraph}
-use Rattle.type_laws.proofs.Depth.{alike_same, args_within}
-use Rattle.type_laws.proofs.Proved.{found, congruence}
+use Rattle.type_definitions.specs.declared.definition.TypeDef.{TypeDef}
+use Rattle.type_definitions.specs.declared.definition.TypeDef.TheVariants.{Int, Void, Ref, StackRef, ThreadRef}
+use Rattle.type_definitions.specs.Same.{agree, agree_at, same, IsGraph}
+use Rattle.type_definitions.proofs.Depth.{alike_same, args_within}
+use Rattle.type_definitions.proofs.Proved.{found, congruence}
 use Rattle.mu_types.specs.Implied.{references, references_from, complete}
-use Rattle.mu_types.proofs.References.{headed}
+use Rattle.mu_types.specs.CompleteLaws.{headed}
 use Rattle.check_tables.specs.Types.{class_like}
 use Rattle.check_tables.specs.Laws.{AreDefined}
 

@@ -1,10 +1,10 @@
 -- The class of a type is that of the types that are defined like it.
 use Rattle.std.proofs.Common.{◌≡◌, ℕ, zero, suc, ◌<◌, Bool, true, false, List, length, Some, slice_get, refl, sym, arith}
 use Rattle.std.proofs.lemmas.Option.{slice_get_within}
-use Rattle.type_laws.specs.declared.definition.TypeDef.{TypeDef}
-use Rattle.type_laws.specs.Same.{agree_at, same}
-use Rattle.type_laws.specs.Class.{least, class_of}
-use Rattle.type_laws.specs.Laws.{IsCongruence}
+use Rattle.type_definitions.specs.declared.definition.TypeDef.{TypeDef}
+use Rattle.type_definitions.specs.Same.{agree_at, same}
+use Rattle.type_definitions.specs.Class.{least, class_of}
+use Rattle.type_definitions.specs.Laws.{IsCongruence}
 use Rattle.check_tables.specs.Types.{class_like}
 
 both : (b c : Bool) → (b ≡ true → c ≡ true) → (c ≡ true → b ≡ true) → b ≡ c

@@ -1,8 +1,8 @@
 -- What holds of the types that every bundle has.
 use Rattle.std.specs.Prelude.{◌≡◌, ℕ, List, length, Some, slice_get}
-use Rattle.type_laws.specs.declared.definition.TypeDef.{TypeDef}
-use Rattle.type_laws.specs.declared.definition.TypeDef.TheVariants.{Int, Void, Ref, StackRef, ThreadRef}
-use Rattle.type_laws.specs.Same.{IsGraph}
+use Rattle.type_definitions.specs.declared.definition.TypeDef.{TypeDef}
+use Rattle.type_definitions.specs.declared.definition.TypeDef.TheVariants.{Int, Void, Ref, StackRef, ThreadRef}
+use Rattle.type_definitions.specs.Same.{IsGraph}
 use Rattle.mu_types.specs.Graph.{Table}
 use Rattle.mu_types.specs.Implied.{complete}
 use Rattle.check_tables.specs.Types.{int1, int32, stackref, threadref, ref_void}

@@ -1,9 +1,9 @@
 -- What the forms of instructions ask of the types that they name, by the types' definitions.
 use Rattle.std.specs.Prelude.{ℕ, Bool, true, false, List, Option, Some, None, length, slice_get, is_some, nat_eq, nat_le, if◌then◌else◌, ◌&&◌}
 use Rattle.ir_lex.specs.declared.token.Number.{Number}
-pub use Rattle.type_laws.specs.Scalars.{is_scalar}
-use Rattle.type_laws.specs.declared.definition.TypeDef.{TypeDef}
-use Rattle.type_laws.specs.declared.definition.TypeDef.TheVariants.{Int, Struct, Array, Hybrid, Void, Ref, Iref, FuncRef, StackRef, ThreadRef}
+pub use Rattle.type_definitions.specs.Scalars.{is_scalar}
+use Rattle.type_definitions.specs.declared.definition.TypeDef.{TypeDef}
+use Rattle.type_definitions.specs.declared.definition.TypeDef.TheVariants.{Int, Struct, Array, Hybrid, Void, Ref, Iref, FuncRef, StackRef, ThreadRef}
 
 abbrev pub is_int : Option TypeDef → Bool
 is_int (Some (Int width)) = true

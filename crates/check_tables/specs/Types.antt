@@ -1,11 +1,11 @@
 -- Types by number. A type or signature that is written has the number by which the graph of a bundle's types knows it; the
 -- types that are the same have one class, and what has a type is known by the class of that type.
 use Rattle.std.specs.Prelude.{ℕ, Bool, false, List, [], Option, Some, None, length, slice_get, nat_lt, not, unwrap_or, option_map, option_and_then, if◌then◌else◌}
-use Rattle.type_laws.specs.declared.definition.TypeDef.{TypeDef}
-use Rattle.type_laws.specs.declared.definition.TypeDef.TheVariants.{Int, Ref, Iref, FuncRef, StackRef, ThreadRef}
-use Rattle.type_laws.specs.Same.{same, agree_at}
-use Rattle.type_laws.specs.Class.{least, class_of}
-use Rattle.type_laws.specs.Leaves.{leaves}
+use Rattle.type_definitions.specs.declared.definition.TypeDef.{TypeDef}
+use Rattle.type_definitions.specs.declared.definition.TypeDef.TheVariants.{Int, Ref, Iref, FuncRef, StackRef, ThreadRef}
+use Rattle.type_definitions.specs.Same.{same, agree_at}
+use Rattle.type_definitions.specs.Class.{least, class_of}
+use Rattle.type_definitions.specs.Leaves.{leaves}
 use Rattle.mu_types.specs.Graph.{Table}
 use Rattle.mu_types.specs.Implied.{is_signature}
 

@@ -1,6 +1,6 @@
 // Types by number.
 ghost use Rattle.std.specs.Prelude.{◌≡◌, length, option_copied};
-ghost use Rattle.type_laws.specs.Same.{IsGraph};
+ghost use Rattle.type_definitions.specs.Same.{IsGraph};
 ghost use Rattle.check_tables.specs.Held.{IsHeld};
 ghost use Rattle.mu_types.specs.Implied.{IsThere, definition_of};
 ghost use Rattle.check_tables.specs.Types.{class_like, definition_at, class_at, leaves_at, ref_at, iref_at, funcref_at, int1, int32, stackref, threadref, ref_void};
@@ -19,7 +19,7 @@ pub struct TypeTable {
 impl Model for TypeTable {
     ghost use Rattle.std.specs.Prelude.{◌≡◌, ◌≤◌, length};
     ghost use Rattle.mu_types.specs.Graph.{Table};
-    ghost use Rattle.type_laws.specs.Same.{IsGraph};
+    ghost use Rattle.type_definitions.specs.Same.{IsGraph};
     ghost use Rattle.check_tables.specs.Held.{IsHeld};
 
     ghost Value = { Table };

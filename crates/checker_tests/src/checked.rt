@@ -1,7 +1,7 @@
 // What a checked bundle answers by name and by number.
-use bundle_check::{Checked, EntryFault, check};
+use bundle_check::check;
 use bundle_names::{Sort, resolve};
-use code_check::Form;
+use checked_code::{Checked, EntryFault, Form};
 use ir_text::read_bundle;
 use mu_values::Scalar;
 use std::alloc::{AllocError, Global};

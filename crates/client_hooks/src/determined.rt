@@ -1,4 +1,4 @@
-// Clients whose answers are a function of the view.
+// Clients that answer as a list of script entries does.
 ghost use Rattle.std.specs.Prelude.{◌≡◌, Option};
 ghost use Rattle.check_tables.specs.declared.tables.Tables.{Tables};
 ghost use Rattle.mu_model.specs.Clients.{Answer, Client};
@@ -7,8 +7,12 @@ ghost use Rattle.mu_model.specs.Answers.{answer_of, advanced};
 
 use crate::client::Client;
 
-/// A client that stands for one of the abstract machine: its answers are a function of the view, and so a run is one of what it is
-/// given.
+/// A client that stands for one of the abstract machine, so that a run is a function of what it is given: it answers as a list of script
+/// entries does, one entry for each trap, and then it stops the run, or passes zero and NULL at each trap. The list does not depend on what
+/// is shown at the traps. There an entry takes only where the frames stand and what they keep.
+///
+/// No other function of what is shown is admitted. One could not stand in the list's place: contracts see the client as a part of the
+/// machine's value, and a value has to have a decidable equality, which functions have not.
 pub trait Determined: Client {
     /// The client of the abstract machine that it stands for.
     ghost stands_for: { Self → Client };

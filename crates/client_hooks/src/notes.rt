@@ -2,8 +2,7 @@
 ghost use Rattle.std.specs.Prelude.{◌≡◌, [], ◌∷◌, ◌++◌, OnOk, OnErr};
 ghost use Rattle.mu_model.specs.declared.lines.Note.TheVariants.{Frame, Kept};
 
-use mu_model::Note;
-use mu_values::Passed;
+use mu_model::{Note, SharedValues};
 use std::alloc::{AllocError, Global};
 use std::marker::Model;
 
@@ -42,8 +41,9 @@ impl Notes {
         Ok(())
     }
 
-    /// Adds a record of what a frame keeps, by its number from the top. When out of memory, the records are as before.
-    pub fn add_kept(&mut self, frame: u32, values: Passed) -> Result<(), AllocError>
+    /// Adds a record of what a frame keeps, by its number from the top. Where more than one record tells of the same frame, they may
+    /// share the values (`SharedValues::share`), which are then there once. When out of memory, the records are as before.
+    pub fn add_kept(&mut self, frame: u32, values: SharedValues) -> Result<(), AllocError>
         ensures added { OnOk result (self.new ≡ self.old ++ Kept frame values ∷ []) }
         ensures same { OnErr result (self.new ≡ self.old) }
     {

@@ -1,7 +1,7 @@
 //! What a client is asked.
 ghost use Rattle.std.specs.Prelude.{◌≡◌, ◌<◌, ◌^◌, ◌++◌, ◌∷◌, [], length, map, slice_get, Some, IfOk, IfSome, OnOk};
 ghost use Rattle.std.specs.List.{All};
-ghost use Rattle.type_laws.specs.Same.{IsGraph};
+ghost use Rattle.type_definitions.specs.Same.{IsGraph};
 ghost use Rattle.mu_values.specs.Constants.{width_of};
 ghost use Rattle.check_tables.specs.Types.{stackref};
 ghost use Rattle.typed_heap.specs.Heap.{AreNarrow};

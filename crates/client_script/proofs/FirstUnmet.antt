@@ -12,7 +12,7 @@ use Rattle.text_forms.specs.First.{IsDead, IsPast}
 use Rattle.text_forms.proofs.Unlimited.{derives_unlimited}
 use Rattle.demands.specs.declared.fault.Fault as unmet
 use Rattle.demands.specs.Demands.{AllMet, first_unmet, or_else}
-use Rattle.demands.specs.Names.{Names}
+use Rattle.name_scopes.specs.Names.{Names}
 use Rattle.demands.proofs.Meeting.{all_met}
 use Rattle.bundle_names.specs.declared.globals.Sort.{Sort}
 use Rattle.client_script.specs.declared.fault.ScriptKind.{ScriptKind}

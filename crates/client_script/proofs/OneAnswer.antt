@@ -15,7 +15,7 @@ use Rattle.text_forms.proofs.Ends.{places_rise}
 use Rattle.demands.specs.declared.fault.Fault as unmet
 use Rattle.demands.specs.declared.fault.Fault.TheVariants.{At}
 use Rattle.demands.specs.Demands.{Demands, none, demand, ◌⨾◌, AllMet, first_unmet, or_else}
-use Rattle.demands.specs.Names.{Names}
+use Rattle.name_scopes.specs.Names.{Names}
 use Rattle.ir_lex.specs.Seen.{seen}
 use Rattle.ir_lex.specs.Walk.{tokens_from}
 use Rattle.ir_lex.specs.TokenForms.{mark, name, numeral}

@@ -6,7 +6,7 @@ use Rattle.text_forms.specs.Tokens.{Tok, has, symbol_ahead, at, first, rest_of, 
 use Rattle.demands.specs.declared.fault.Fault.{Fault}
 use Rattle.demands.specs.declared.fault.Fault.TheVariants as faults
 use Rattle.demands.specs.Demands.{Demands, Meets, first_unmet}
-use Rattle.demands.specs.Names.{Names}
+use Rattle.name_scopes.specs.Names.{Names}
 use Rattle.ir_tree.specs.Lists.{globals}
 use Rattle.bundle_names.specs.declared.globals.Sort.{Sort}
 use Rattle.client_script.specs.declared.fault.ScriptKind.{ScriptKind}

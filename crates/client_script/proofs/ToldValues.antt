@@ -2,7 +2,7 @@
 use Rattle.std.proofs.Common.{◌≡◌, ℕ, zero, suc, ◌+◌, ◌<◌, Bool, true, false, List, [], ◌∷◌, ◌++◌, length, Option, Some, None, is_some, slice_get, if◌then◌else◌, refl, sym, ◌∙◌, ap, subst, arith}
 use Rattle.std.specs.Prelude.{nat_eq}
 use Rattle.demands.specs.Demands.{first_unmet}
-use Rattle.demands.specs.Names.{found}
+use Rattle.name_scopes.specs.Names.{found}
 use Rattle.ir_tree.specs.declared.items.Item.{Item}
 use Rattle.ir_tree.specs.declared.items.Item.TheVariants as items
 use Rattle.mu_types.specs.Graph.{Table}
@@ -13,9 +13,9 @@ use Rattle.bundle_names.specs.Globals.{with_item, with_items, no_globals, global
 use Rattle.bundle_names.specs.Naming.{name_demands}
 use Rattle.bundle_names.specs.Uses.{is_operand}
 use Rattle.check_tables.specs.Lookups.{global_class, funcref_of, signature_in}
-use Rattle.bundle_tables.specs.Graph.{table_of}
-use Rattle.bundle_tables.specs.Entries.{tables_of, constant_entries, global_entries, function_entries, defined_signatures, is_function}
-use Rattle.bundle_check.specs.Checking.{check_demands, bundle_tables}
+use Rattle.checked_code.specs.Graph.{table_of}
+use Rattle.checked_code.specs.Entries.{tables_of, constant_entries, global_entries, function_entries, defined_signatures, is_function}
+use Rattle.checked_code.specs.Checking.{check_demands, bundle_tables}
 use Rattle.typed_heap.specs.Places.{with_some}
 use Rattle.typed_heap.specs.Fits.{World}
 use Rattle.mu_model.specs.Clients.{Classed}

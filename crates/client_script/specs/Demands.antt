@@ -4,7 +4,7 @@ use Rattle.text_forms.specs.declared.symbol.Symbol.{Symbol}
 use Rattle.text_forms.specs.declared.symbol.Symbol.TheVariants as symbols
 use Rattle.text_forms.specs.Tokens.{Tok, has}
 use Rattle.demands.specs.Demands.{Demands, none, demand, ◌⨾◌}
-use Rattle.demands.specs.Names.{Names, found}
+use Rattle.name_scopes.specs.Names.{Names, found}
 use Rattle.ir_lex.specs.Scanner.{number_of}
 use Rattle.ir_tree.specs.Lists.{globals}
 use Rattle.bundle_names.specs.declared.globals.Sort.{Sort}

@@ -1,9 +1,9 @@
 -- Worked examples: what texts of scripts mean, each action and each reply once.
 use Rattle.std.specs.Prelude.{Some, None, ◌≡◌, refl, true, false, [], ◌∷◌, codes}
-use Rattle.type_laws.specs.Same.{alike}
-use Rattle.type_laws.specs.Leaves.{leaves_to}
-use Rattle.bundle_constants.specs.Values.{values_to}
-use Rattle.bundle_tables.specs.Entries.{tables_of}
+use Rattle.type_definitions.specs.Same.{alike}
+use Rattle.type_definitions.specs.Leaves.{leaves_to}
+use Rattle.checked_code.specs.ConstantValues.{values_to}
+use Rattle.checked_code.specs.Entries.{tables_of}
 use Rattle.mu_values.specs.declared.scalars.Scalar.TheVariants.{Int, Place, Func}
 use Rattle.text_forms.specs.Reading.{elements}
 use Rattle.ir_lex.specs.WordTable.{words, directives, common_names}

@@ -1,14 +1,14 @@
 -- What holds of the grammar of scripts, and of the names in them.
 use Rattle.std.specs.Prelude.{◌≡◌, List, None, is_some}
 use Rattle.demands.specs.Demands.{first_unmet}
-use Rattle.demands.specs.Names.{found}
+use Rattle.name_scopes.specs.Names.{found}
 use Rattle.ir_lex.specs.declared.name.Name.{Name}
 use Rattle.text_forms.specs.Texts.{IsGrammar}
 use Rattle.ir_tree.specs.declared.items.Item.{Item}
 use Rattle.bundle_names.specs.Globals.{globals_of}
 use Rattle.bundle_names.specs.Naming.{name_demands}
 use Rattle.bundle_names.specs.Uses.{is_operand}
-use Rattle.bundle_check.specs.Checking.{check_demands}
+use Rattle.checked_code.specs.Checking.{check_demands}
 use Rattle.mu_model.specs.Answers.{global_told}
 use Rattle.client_script.specs.Grammar.{script}
 

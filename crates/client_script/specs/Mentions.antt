@@ -7,8 +7,8 @@ use Rattle.std.specs.Rc.{rc_slice_items}
 use Rattle.ir_tree.specs.declared.items.Item.{Item}
 use Rattle.mu_values.specs.declared.scalars.Scalar.{Scalar}
 use Rattle.mu_values.specs.declared.scalars.Scalar.TheVariants.{Place, Func}
-use Rattle.bundle_constants.specs.Bundle.{constant_values}
-use Rattle.bundle_check.specs.Checking.{bundle_tables}
+use Rattle.checked_code.specs.Constants.{constant_values}
+use Rattle.checked_code.specs.Checking.{bundle_tables}
 use Rattle.client_script.specs.declared.mentions.Mentioned.{Mentioned}
 use Rattle.client_script.specs.declared.mentions.Mentioned.TheVariants.{Constant, GlobalCell, Function, Nothing}
 

@@ -5,7 +5,7 @@ use Rattle.text_forms.specs.declared.fault.Fault.{Fault}
 use Rattle.text_forms.specs.Tokens.{Tok}
 use Rattle.text_forms.specs.Reading.{whole}
 use Rattle.demands.specs.Demands.{Demands, demand, ◌⨾◌}
-use Rattle.demands.specs.Names.{Names}
+use Rattle.name_scopes.specs.Names.{Names}
 use Rattle.ir_lex.specs.Walk.{tokens_from}
 use Rattle.ir_tree.specs.declared.items.Item.{Item}
 use Rattle.bundle_names.specs.declared.globals.Sort.{Sort}

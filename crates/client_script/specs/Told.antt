@@ -1,13 +1,13 @@
 -- What the global names of a script stand for.
 use Rattle.std.specs.Prelude.{ℕ, List, [], Option, Some, None, option_map}
-use Rattle.demands.specs.Names.{found}
+use Rattle.name_scopes.specs.Names.{found}
 use Rattle.ir_lex.specs.declared.name.Name.{Name}
 use Rattle.ir_tree.specs.declared.items.Item.{Item}
 use Rattle.bundle_names.specs.declared.globals.Sort.{Sort}
 use Rattle.bundle_names.specs.declared.globals.Sort.TheVariants as sorts
 use Rattle.bundle_names.specs.Globals.{globals_of}
 use Rattle.check_tables.specs.Lookups.{class_of_global}
-use Rattle.bundle_check.specs.Checking.{bundle_tables}
+use Rattle.checked_code.specs.Checking.{bundle_tables}
 use Rattle.typed_heap.specs.Places.{with_some}
 use Rattle.mu_model.specs.Clients.{Classed, ClassedFunction}
 use Rattle.mu_model.specs.Answers.{global_told}

@@ -6,9 +6,10 @@ ghost use Rattle.mu_model.specs.Answers.{frame_notes, notes_of, watches_of};
 ghost use Rattle.client_script.specs.Meaning.{action_meant};
 ghost use Rattle.client_script.specs.Plans.{Makes, Adds, noted};
 
+use crate::copies::Copies;
 use crate::refusal::Refusal;
 use crate::tree::Action;
-use client_hooks::{Notes, Watch, Watches, copy_values};
+use client_hooks::{Notes, Watch, Watches};
 use frames::Frames;
 use std::alloc::{AllocError, Global};
 
@@ -24,12 +25,17 @@ fn note_frames(frames: &Frames, notes: &mut Notes) -> Result<(), AllocError>
 }
 
 /// Records what a frame keeps.
-fn note_kept(alloc: Global, frames: &Frames, n: u32, notes: &mut Notes) -> Result<(), Refusal>
-    ensures { Adds (notes_of (frames_in frames.now) (TellKept n)) notes.old notes.new result }
+fn note_kept(
+    alloc: Global,
+    copies: &mut Copies<'_>,
+    n: u32,
+    notes: &mut Notes,
+) -> Result<(), Refusal>
+    ensures same { copies.new ≡ copies.old }
+    ensures adds { Adds (notes_of copies.old (TellKept n)) notes.old notes.new result }
 {
-    match frames.kept(n) {
-        Some(kept) => {
-            let values = copy_values(alloc, kept)?;
+    match copies.kept(alloc, n)? {
+        Some(values) => {
             notes.add_kept(n, values)?;
             Ok(())
         }
@@ -38,26 +44,33 @@ fn note_kept(alloc: Global, frames: &Frames, n: u32, notes: &mut Notes) -> Resul
 }
 
 /// Records what an action asks for.
-fn note(alloc: Global, frames: &Frames, action: &Action, notes: &mut Notes) -> Result<(), Refusal>
-    ensures { Adds (notes_of (frames_in frames.now) (action_meant action.now)) notes.old notes.new result }
+fn note(
+    alloc: Global,
+    copies: &mut Copies<'_>,
+    action: &Action,
+    notes: &mut Notes,
+) -> Result<(), Refusal>
+    ensures same { copies.new ≡ copies.old }
+    ensures adds { Adds (notes_of copies.old (action_meant action.now)) notes.old notes.new result }
 {
     match action {
         Action::TellFrames => {
-            note_frames(frames, notes)?;
+            note_frames(copies.frames(), notes)?;
             Ok(())
         }
-        Action::TellKept(frame) => note_kept(alloc, frames, *frame, notes),
+        Action::TellKept(frame) => note_kept(alloc, copies, *frame, notes),
         Action::Watch { .. } => Ok(()),
     }
 }
 
-/// The records of some actions.
+/// The records of some actions. What a frame keeps is copied once, however many of them tell of it.
 pub(crate) fn notes(alloc: Global, frames: &Frames, actions: &[Action]) -> Result<Notes, Refusal>
     ensures { Makes (λ ns. ns) (noted (frames_in frames.now) (map action_meant actions.now)) result }
 {
+    let mut copies = Copies::new(alloc, frames);
     let mut notes = Notes::new(alloc);
     for action in actions {
-        note(alloc, frames, action, &mut notes)?;
+        note(alloc, &mut copies, action, &mut notes)?;
     }
     Ok(notes)
 }

@@ -2,7 +2,7 @@
 ghost use Rattle.std.specs.Prelude.{◌≡◌, [], ◌∷◌, true};
 ghost use Rattle.text_forms.specs.declared.symbol.Symbol.TheVariants as symbols;
 ghost use Rattle.text_forms.specs.Tokens.{at, first, goes_on_behind};
-ghost use Rattle.demands.specs.Names.{found};
+ghost use Rattle.name_scopes.specs.Names.{found};
 ghost use Rattle.demands.specs.Demands.{demand, Meets};
 ghost use Rattle.ir_lex.specs.Walk.{tokens_from};
 ghost use Rattle.ir_lex.specs.Scanner.{number_of};
@@ -15,8 +15,8 @@ ghost use Rattle.client_script.specs.Judged.{is_before, judged_tokens};
 use crate::fault::{ScriptFault, ScriptKind};
 use crate::parts::{GLOBALS, is_count};
 use bundle_names::Sort;
-use demands::Scope;
 use ir_lex::Cursor;
+use name_scopes::Scope;
 use text_forms::{FaultKind, Symbol};
 
 /// Nothing stands behind a token of these.

@@ -3,6 +3,7 @@
 
 mod actions;
 mod client;
+mod copies;
 mod entries;
 mod fault;
 mod judging;

@@ -1,15 +1,15 @@
 // What the global names of a script stand for.
 ghost use Rattle.std.specs.Prelude.{◌≡◌, ◌<◌, [], ◌∷◌, IfOk, Some, length, slice_get};
-ghost use Rattle.bundle_constants.specs.Bundle.{constant_values};
-ghost use Rattle.bundle_check.specs.Checking.{bundle_tables};
+ghost use Rattle.checked_code.specs.Constants.{constant_values};
+ghost use Rattle.checked_code.specs.Checking.{bundle_tables};
 ghost use Rattle.mu_values.specs.declared.scalars.Scalar.TheVariants as kinds;
 ghost use Rattle.client_script.specs.Mentions.{mentioned};
 
 use crate::judging::LAST;
 use crate::parts::GLOBALS;
-use bundle_check::Checked;
 use bundle_names::Sort;
 use check_tables::Tables;
+use checked_code::Checked;
 use ir_lex::Cursor;
 use mu_values::Scalar;
 use std::alloc::{AllocError, Global};
@@ -144,8 +144,8 @@ impl<'a> Model for Shared<'a> {
     ghost use Rattle.std.specs.BTreeMap.{get};
     ghost use Rattle.std.specs.Rc.{rc_slice_items};
     ghost use Rattle.ir_tree.specs.declared.items.Item.{Item};
-    ghost use Rattle.bundle_constants.specs.Bundle.{constant_values};
-    ghost use Rattle.bundle_check.specs.Checking.{bundle_tables};
+    ghost use Rattle.checked_code.specs.Constants.{constant_values};
+    ghost use Rattle.checked_code.specs.Checking.{bundle_tables};
 
     ghost Value = { List Item };
 

@@ -13,7 +13,7 @@ use crate::judging::judge_tokens;
 use crate::mentions::share_all;
 use crate::script::Script;
 use crate::tree::Entry;
-use bundle_check::Checked;
+use checked_code::Checked;
 use ir_lex::Cursor;
 use std::alloc::Global;
 use text_forms::{Listing, ReadError};
@@ -33,7 +33,7 @@ fn entries_in(alloc: Global, text: &[u8], code: &Checked) -> Result<Listing<Entr
 /// is looked for there; `Unexpected` at the first token, or at the text's end, with which no script's text goes on, and at a number that
 /// is below 0, or 2^32 or more; `Unknown` at a name of no constant, global or function, and after `push` of no function. It takes time and
 /// memory for the text, and for each constant that it mentions once, however often.
-#[tactic(auto, unfolding(bundle_tables::specs::Entries::tables_of))]
+#[tactic(auto, unfolding(checked_code::specs::Entries::tables_of))]
 pub fn read_script(alloc: Global, bytes: &[u8], code: &Checked) -> Result<Script, ScriptFault>
     ensures { Judges (script_demands code.now bytes.now) (script_entries code.now bytes.now) result }
 {

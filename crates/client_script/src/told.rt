@@ -1,7 +1,7 @@
 //! What the global names of a script stand for.
 ghost use Rattle.std.specs.Prelude.{◌≡◌, IfOk, IsSome, Some};
 ghost use Rattle.check_tables.specs.Lookups.{global_class};
-ghost use Rattle.bundle_check.specs.Checking.{bundle_tables};
+ghost use Rattle.checked_code.specs.Checking.{bundle_tables};
 ghost use Rattle.mu_model.specs.Operands.{global_value};
 ghost use Rattle.client_script.specs.Told.{told, pushed_told};
 
@@ -25,7 +25,7 @@ fn mention(alloc: Global, code: &Shared, sort: Option<Sort>) -> Result<Mention, 
 }
 
 /// What a global name stands for.
-#[tactic(auto, unfolding(bundle_tables::specs::Entries::tables_of))]
+#[tactic(auto, unfolding(checked_code::specs::Entries::tables_of))]
 pub fn told(alloc: Global, code: &Shared, name: &Name) -> Result<Argument, AllocError>
     ensures { IfOk result (λ argument. argument ≡ told code.now name.now) }
 {
@@ -44,7 +44,7 @@ pub fn told(alloc: Global, code: &Shared, name: &Name) -> Result<Argument, Alloc
 }
 
 /// The function that a global name stands for, with the class of its type; None where it stands for none.
-#[tactic(auto, unfolding(bundle_tables::specs::Entries::tables_of))]
+#[tactic(auto, unfolding(checked_code::specs::Entries::tables_of))]
 pub fn pushed(code: &Shared, name: &Name) -> Option<Pushed>
     ensures { result ≡ pushed_told code.now name.now }
 {

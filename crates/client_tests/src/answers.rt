@@ -1,11 +1,12 @@
 // What scripts and hooks answer.
 ghost use Rattle.std.specs.Prelude.{◌<◌, length, IfOk};
 ghost use Rattle.std.specs.List.{All};
-ghost use Rattle.bundle_check.specs.Checking.{bundle_tables};
+ghost use Rattle.checked_code.specs.Checking.{bundle_tables};
 
-use bundle_check::{Checked, check};
+use bundle_check::check;
 use bundle_facts::{constants_have_classes, widths_are_narrow};
 use bundle_names::resolve;
+use checked_code::Checked;
 use client_hooks::{
     Client, ClientFault, Edit, Hook, PassBlank, Reply, ReplyEnd, TrapView, Watch, With,
 };
@@ -150,7 +151,7 @@ fn is_frame(note: Option<&Note>, number: u32, block: u32, at: u32) -> bool {
 }
 
 fn is_kept(note: Option<&Note>, number: u32, scalar: Scalar) -> bool {
-    matches!(note, Some(Note::Kept { frame, values }) if *frame == number && is_one(values, scalar))
+    matches!(note, Some(Note::Kept { frame, values }) if *frame == number && is_one(values.get(), scalar))
 }
 
 // What is recorded by the answer to a trap; none is misuse. A reply is taken apart in this one place, since each place is proved.

@@ -4,7 +4,7 @@
 -- own number is below that. So a clock that knows nothing gives 0, and the clock of event n gives n + 1 for its thread.
 -- What a log's clocks know is what happens before (`laws` proves it).
 use Rattle.std.specs.Prelude.{ℕ, suc, ◌-◌, max, ◌&&◌, ◌==◌, if◌then◌else◌, List, [], ◌∷◌, length}
-use Rattle.heap_cells.specs.declared.cells.CellId.{CellId}
+use Rattle.mu_values.specs.declared.cells.CellId.{CellId}
 use Rattle.mem_axioms.specs.Events.{is_atomic, loads, modifies, is_update, order_of, position_of, position_taken, is_fence, is_seq_cst_fence, is_wake}
 use Rattle.mem_axioms.specs.Synchronizes.{acquires, releases, continues, gives_up, makes_thread}
 use Rattle.mem_axioms.specs.declared.types.Rule.{Rule}

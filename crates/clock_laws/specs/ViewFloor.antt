@@ -1,7 +1,7 @@
 -- The floor of a load, by clocks. It says what `floor` of the memory model says, without happens-before (`laws` proves it).
 use Rattle.std.specs.Prelude.{ℕ, Bool, ◌&&◌, ◌||◌, if◌then◌else◌, nat_lt, List, length}
 use Rattle.mu_base.specs.declared.order.Order.{Order}
-use Rattle.heap_cells.specs.declared.cells.CellId.{CellId}
+use Rattle.mu_values.specs.declared.cells.CellId.{CellId}
 use Rattle.mem_axioms.specs.Events.{accesses, is_seq_cst, is_seq_cst_fence}
 use Rattle.mem_axioms.specs.Logs.{last_number, greatest_position}
 use Rattle.mem_axioms.specs.Floor.{second_kind}

@@ -3,7 +3,7 @@ use Rattle.std.specs.Prelude.{ℕ, List, [], ◌∷◌}
 use Rattle.check_tables.specs.declared.tables.Tables.{Tables}
 use Rattle.code_check.specs.declared.gifts.Gift.{Gift}
 use Rattle.code_check.specs.declared.gifts.Gift.TheVariants.{Nothing, One, Two, Listed, Named}
-use Rattle.code_check.specs.Operands.{noted_list}
+use Rattle.checked_code.specs.Operands.{noted_list}
 
 abbrev pub listed : Tables → Gift → List ℕ
 listed p Nothing = []

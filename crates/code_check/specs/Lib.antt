@@ -1,15 +1,4 @@
-pub mod Operands
 pub mod Gifts
-pub mod Destinations
-pub mod Computations
-pub mod Control
-pub mod Objects
-pub mod Accesses
-pub mod Stacks
-pub mod Commons
-pub mod Instructions
-pub mod Typed
-pub mod TypedLaws
 pub mod Verdicts
 pub mod ComputationExamples
 pub mod MemoryExamples

@@ -15,11 +15,11 @@ use Rattle.ir_tree.specs.Stacks.{trap, wpexc, watchpoint, wpbranch, trapping_for
 use Rattle.ir_tree.specs.CommonForms.{one_value, two_values, three_values, new_stack, kill_stack, thread_exit, current_stack, set_threadlocal, get_threadlocal, futex_wait, futex_wake, futex_wait_timeout, common_inst}
 use Rattle.ir_tree.specs.Instructions.{op}
 use Rattle.ir_tree.specs.Samples.{meaning}
-use Rattle.type_laws.specs.Same.{alike}
-use Rattle.type_laws.specs.Leaves.{leaves_to}
+use Rattle.type_definitions.specs.Same.{alike}
+use Rattle.type_definitions.specs.Leaves.{leaves_to}
 use Rattle.check_tables.specs.declared.fault.CheckKind.TheVariants.{OperandType, ResultCount, ArgumentCount, ArgumentType, NotLocal, AfterEnding, BadOrder, BadDestination, BadIndex}
-use Rattle.code_check.specs.Operands.{argument_demands}
-use Rattle.code_check.specs.Instructions.{inst_demands}
+use Rattle.checked_code.specs.Operands.{argument_demands}
+use Rattle.checked_code.specs.Instructions.{inst_demands}
 use Rattle.code_check.specs.Verdicts.{plain, gives_c, gives_c_d, plain_then, gives_c_then, good, at}
 
 objects_are_judged :

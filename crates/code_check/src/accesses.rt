@@ -5,17 +5,16 @@ ghost use Rattle.ir_tree.specs.declared.accessing.Access.TheVariants as accesses
 ghost use Rattle.check_tables.specs.declared.fault.CheckKind.TheVariants.{BadOrder};
 ghost use Rattle.check_tables.specs.Lookups.{noted_class, definition_named};
 ghost use Rattle.check_tables.specs.TypeTests.{is_scalar};
-ghost use Rattle.code_check.specs.declared.code.AccessForm.TheVariants as forms;
-ghost use Rattle.code_check.specs.Operands.{type_demand};
+ghost use Rattle.checked_code.specs.declared.code.AccessForm.TheVariants as forms;
+ghost use Rattle.checked_code.specs.Operands.{type_demand};
 ghost use Rattle.code_check.specs.Gifts.{listed};
-ghost use Rattle.code_check.specs.Accesses.{may_load, may_store, may_update, may_fail, may_fence, order_demand, updates_type, access_demands, access_gives, access_code};
+ghost use Rattle.checked_code.specs.Accesses.{may_load, may_store, may_update, may_fail, may_fence, order_demand, updates_type, access_demands, access_gives, access_code};
 
-use crate::code::AccessForm;
 use crate::gifts::Gift;
 use crate::objects::{place_of_type, tested_type};
 use crate::operands::{demand, of_type};
-use crate::scopes::Locals;
 use check_tables::{CheckFault, CheckKind, Tables};
+use checked_code::{AccessForm, Locals};
 use ir_lex::Name;
 use ir_tree::{Access, Operand, WrittenOrder};
 use mu_base::{Order, UpdateOp};

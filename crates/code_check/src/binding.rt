@@ -1,13 +1,13 @@
 // Variables that are added to those of the block so far.
 ghost use Rattle.std.specs.Prelude.{◌≡◌, length, OnOk, OnErr};
 ghost use Rattle.demands.specs.Demands.{IsMemory};
-ghost use Rattle.code_check.specs.Operands.{noted_list};
+ghost use Rattle.checked_code.specs.Operands.{noted_list};
 ghost use Rattle.code_check.specs.Gifts.{listed};
-ghost use Rattle.code_check.specs.Instructions.{bound, bound_results};
+ghost use Rattle.checked_code.specs.Instructions.{bound, bound_results};
 
 use crate::gifts::Gift;
-use crate::scopes::{Locals, Variable};
 use check_tables::{CheckFault, Tables};
+use checked_code::{Locals, Variable};
 use ir_lex::Name;
 use std::alloc::Global;
 

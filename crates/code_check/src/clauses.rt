@@ -1,6 +1,6 @@
 // What stands behind instructions, and which of them end their block.
 ghost use Rattle.std.specs.Prelude.{◌≡◌, option_copied};
-ghost use Rattle.code_check.specs.Instructions.{exc_of, normal_of, exceptional_of, keepalive_of, is_ending};
+ghost use Rattle.checked_code.specs.Instructions.{exc_of, normal_of, exceptional_of, keepalive_of, is_ending};
 
 use ir_lex::Name;
 use ir_tree::{

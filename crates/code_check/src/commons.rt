@@ -3,15 +3,14 @@ ghost use Rattle.std.specs.Prelude.{◌≡◌};
 ghost use Rattle.demands.specs.Demands.{Judges};
 ghost use Rattle.ir_tree.specs.declared.common.CommonInst.TheVariants as commons;
 ghost use Rattle.code_check.specs.Gifts.{listed};
-ghost use Rattle.code_check.specs.Commons.{common_demands, common_gives, common_code};
+ghost use Rattle.checked_code.specs.Commons.{common_demands, common_gives, common_code};
 
-use crate::code::CommonForm;
 use crate::gifts::Gift;
 use crate::objects::place_of_type;
 use crate::operands::{int_type, int64_operand, of_type, operand};
-use crate::scopes::Locals;
 use crate::stacks::stack;
 use check_tables::{CheckFault, CheckKind, Tables};
+use checked_code::{CommonForm, Locals};
 use ir_lex::Name;
 use ir_tree::{CommonInst, Operand};
 

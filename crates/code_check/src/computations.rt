@@ -5,13 +5,12 @@ ghost use Rattle.ir_tree.specs.declared.computing.Computation.TheVariants as for
 ghost use Rattle.check_tables.specs.Types.{class_in};
 ghost use Rattle.check_tables.specs.Lookups.{or_zero, definition_named};
 ghost use Rattle.code_check.specs.Gifts.{listed};
-ghost use Rattle.code_check.specs.Computations.{compares, converts, field_named, field_demands, computation_demands, computation_gives, computation_code};
+ghost use Rattle.checked_code.specs.Computations.{compares, converts, field_named, field_demands, computation_demands, computation_gives, computation_code};
 
-use crate::code::ComputationForm;
 use crate::gifts::{Gift, or_zero};
 use crate::operands::{int_type, is_class, of_type, operand, type_demand, value_type};
-use crate::scopes::Locals;
 use check_tables::{CheckFault, CheckKind, Field, Tables, fault_at};
+use checked_code::{ComputationForm, Locals};
 use ir_lex::{Name, Numeral};
 use ir_tree::{Computation, Operand};
 use mu_base::{BinaryOp, CompareOp, ConvertOp};

@@ -1,24 +1,24 @@
 // Instructions that say where the function goes on, or that enter or leave one.
 ghost use Rattle.std.specs.Prelude.{◌≡◌, None, option_copied};
+ghost use Rattle.std.specs.Str.{bytes_eq};
 ghost use Rattle.demands.specs.Demands.{Judges, demand, ◌⨾◌};
-ghost use Rattle.demands.specs.Names.{found};
+ghost use Rattle.name_scopes.specs.Names.{found};
 ghost use Rattle.ir_tree.specs.declared.flow.ControlFlow.TheVariants as flows;
 ghost use Rattle.check_tables.specs.declared.fault.CheckKind.TheVariants.{OperandType};
 ghost use Rattle.check_tables.specs.Lookups.{class_named, class_of_global, signature_named, funcref_of, takes_of, gives_of};
-ghost use Rattle.code_check.specs.Operands.{is_class, operand_demands, argument_demands, source_of, sources_of};
-ghost use Rattle.code_check.specs.Destinations.{normal_demands, target_of};
+ghost use Rattle.checked_code.specs.Operands.{is_class, operand_demands, argument_demands, source_of, sources_of};
+ghost use Rattle.checked_code.specs.Destinations.{normal_demands, target_of};
 ghost use Rattle.code_check.specs.Gifts.{listed};
-ghost use Rattle.code_check.specs.Control.{case_demands, constant_number, case_code, cases_code, are_classes, gives_these, control_demands, control_gives, control_code};
+ghost use Rattle.checked_code.specs.Control.{case_demands, constant_number, case_code, cases_code, gives_these, control_demands, control_gives, control_code};
 
-use crate::code::{CaseForm, ControlForm, Source, Target};
 use crate::destinations::normal;
 use crate::gifts::Gift;
 use crate::operands::{
     arguments, demand, int_type, is_class, of_type, operand, thrown, type_demand,
 };
-use crate::scopes::{Body, Locals};
 use bundle_names::Sort;
 use check_tables::{CheckFault, CheckKind, Tables};
+use checked_code::{Body, CaseForm, ControlForm, Locals, Source, Target};
 use ir_lex::Name;
 use ir_tree::{Arguments, Case, ControlFlow, Destination, Operand};
 use std::alloc::Global;
@@ -112,20 +112,9 @@ fn cases(
 
 /// Whether these are the classes that are wanted.
 pub fn are_classes(classes: &[u32], wanted: &[u32]) -> bool
-    ensures { result ≡ are_classes classes.now wanted.now }
+    ensures { result ≡ bytes_eq classes.now wanted.now }
 {
-    let mut left = classes;
-    let mut others = wanted;
-    'each: while let [class, more @ ..] = left {
-        match others {
-            [other, rest @ ..] if class == other => {
-                left = more;
-                others = rest;
-            }
-            _ => return false,
-        }
-    }
-    matches!(others, [])
+    classes == wanted
 }
 
 /// Whether the signature that a name stands for gives these classes.

@@ -2,13 +2,12 @@
 ghost use Rattle.std.specs.Prelude.{◌≡◌, option_copied};
 ghost use Rattle.std.specs.Option.{option_map_or};
 ghost use Rattle.demands.specs.Demands.{Judges, none};
-ghost use Rattle.code_check.specs.Operands.{variable_demands};
-ghost use Rattle.code_check.specs.Destinations.{block_named, entry_takes, takes_no_exception, exceptional_demands, normal_demands, block_number, target_of, optional_target, keepalive_numbers, entered_demands, entered_code};
+ghost use Rattle.checked_code.specs.Operands.{variable_demands};
+ghost use Rattle.checked_code.specs.Destinations.{block_named, entry_takes, takes_no_exception, exceptional_demands, normal_demands, block_number, target_of, optional_target, keepalive_numbers, entered_demands, entered_code};
 
-use crate::code::{Entered, Target};
 use crate::operands::{arguments, demand, kept, thrown, value_types};
-use crate::scopes::{Body, Locals};
 use check_tables::{CheckFault, CheckKind, Tables};
+use checked_code::{Body, Entered, Locals, Target};
 use ir_lex::Name;
 use ir_tree::{Destination, NewStackClause};
 use std::alloc::Global;

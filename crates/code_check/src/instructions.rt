@@ -2,21 +2,20 @@
 ghost use Rattle.std.specs.Prelude.{◌≡◌, false, length, OnOk};
 ghost use Rattle.demands.specs.Demands.{Judges};
 ghost use Rattle.code_check.specs.Gifts.{listed};
-ghost use Rattle.code_check.specs.Instructions.{op_demands, gives, form_of, after, inst_demands, inst_code, insts_demands, insts_code, after_all, ends};
+ghost use Rattle.checked_code.specs.Instructions.{op_demands, gives, form_of, after, inst_demands, inst_code, insts_demands, insts_code, after_all, ends};
 
 use crate::accesses::{access, access_gift};
 use crate::binding::bind_results;
 use crate::clauses::{exceptional_of, is_ending, keepalive_of, normal_of};
-use crate::code::{Code, Form};
 use crate::commons::{common, common_gift};
 use crate::computations::{computation, computation_gift};
 use crate::control::{control, control_gift};
 use crate::destinations::{keepalive, optional_exceptional, optional_normal};
 use crate::gifts::Gift;
 use crate::objects::{addressing, addressing_gift, allocation, allocation_gift};
-use crate::scopes::{Body, Locals};
 use crate::stacks::{switch, switch_gift, trapping, trapping_gift};
 use check_tables::{CheckFault, CheckKind, Tables, fault_at};
+use checked_code::{Body, Code, Form, Locals};
 use ir_tree::{Inst, Op};
 use std::alloc::Global;
 use text_forms::Listing;
@@ -73,7 +72,7 @@ fn count(tables: &Tables, gift: Gift<'_>) -> usize
 }
 
 /// An instruction, behind an ending one or not. Its results are variables from then on, and where it goes on with them already.
-#[tactic(auto, unfolding(crate::specs::Instructions::inst_demands))]
+#[tactic(auto, unfolding(checked_code::specs::Instructions::inst_demands))]
 fn inst(
     alloc: Global,
     tables: &Tables,

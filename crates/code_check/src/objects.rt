@@ -5,15 +5,14 @@ ghost use Rattle.ir_tree.specs.declared.allocating.Allocation.TheVariants as all
 ghost use Rattle.ir_tree.specs.declared.addressing.Addressing.TheVariants as addressings;
 ghost use Rattle.check_tables.specs.Types.{iref_in};
 ghost use Rattle.check_tables.specs.Lookups.{noted_class, or_zero};
-ghost use Rattle.code_check.specs.Operands.{type_demand, source_of};
+ghost use Rattle.checked_code.specs.Operands.{type_demand, source_of};
 ghost use Rattle.code_check.specs.Gifts.{listed};
-ghost use Rattle.code_check.specs.Objects.{allocation_demands, allocation_gives, allocation_code, place_of_type, object_of_type, addressing_demands, addressing_gives, addressing_code, fixed_field_named};
+ghost use Rattle.checked_code.specs.Objects.{allocation_demands, allocation_gives, allocation_code, place_of_type, object_of_type, addressing_demands, addressing_gives, addressing_code, fixed_field_named};
 
-use crate::code::{AddressingForm, AllocationForm, Source};
 use crate::gifts::{Gift, or_zero};
 use crate::operands::{of_type, operand, type_demand, type_of_index};
-use crate::scopes::Locals;
 use check_tables::{CheckFault, CheckKind, Tables, fault_at};
+use checked_code::{AddressingForm, AllocationForm, Locals, Source};
 use ir_lex::{Name, Numeral};
 use ir_tree::{Addressing, Allocation, Operand};
 

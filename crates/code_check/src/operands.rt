@@ -1,17 +1,16 @@
 // Operands, lists of arguments, and types that are named.
 ghost use Rattle.std.specs.Prelude.{◌≡◌, Some, is_some, length, option_copied, IfOk};
 ghost use Rattle.demands.specs.Demands.{Judges, Meets, demand};
-ghost use Rattle.demands.specs.Names.{found};
+ghost use Rattle.name_scopes.specs.Names.{found};
 ghost use Rattle.check_tables.specs.declared.fault.CheckKind.TheVariants.{NotLocal, OperandType};
 ghost use Rattle.check_tables.specs.Types.{ref_void};
 ghost use Rattle.check_tables.specs.Lookups.{noted_class, definition_named};
 ghost use Rattle.check_tables.specs.TypeTests.{is_int, is_index_type};
-ghost use Rattle.code_check.specs.Operands.{is_class, operand_demands, int64_demands, of_type, member_demands, argument_demands, type_demand, value_type_demand, value_type_demands, noted_list, variable_demands, global_source, source_of, sources_of, numbers_in};
+ghost use Rattle.checked_code.specs.Operands.{is_class, operand_demands, int64_demands, of_type, member_demands, argument_demands, type_demand, value_type_demand, value_type_demands, noted_list, variable_demands, global_source, source_of, sources_of, numbers_in};
 
-use crate::code::Source;
-use crate::scopes::{Locals, Variable};
 use bundle_names::Sort;
 use check_tables::{CheckFault, CheckKind, Tables, fault_at};
+use checked_code::{Locals, Source, Variable};
 use ir_lex::Name;
 use ir_tree::{Arguments, Operand};
 use std::alloc::Global;
@@ -160,7 +159,7 @@ fn members(
 }
 
 /// A list of arguments: as many as there are classes, and each of its class.
-#[tactic(auto, unfolding(crate::specs::Operands::argument_demands))]
+#[tactic(auto, unfolding(checked_code::specs::Operands::argument_demands))]
 pub fn arguments(
     alloc: Global,
     tables: &Tables,

@@ -1,16 +1,15 @@
 // Instructions that ask the client, enter another stack or start a thread.
 ghost use Rattle.std.specs.Prelude.{◌≡◌, option_copied};
 ghost use Rattle.demands.specs.Demands.{Judges};
-ghost use Rattle.code_check.specs.Operands.{source_of};
+ghost use Rattle.checked_code.specs.Operands.{source_of};
 ghost use Rattle.code_check.specs.Gifts.{listed};
-ghost use Rattle.code_check.specs.Stacks.{watchpoint_demand, trapping_demands, trapping_gives, trapping_code, stack_demands, threadlocal_demands, optional_source, switch_demands, switch_gives, switch_code};
+ghost use Rattle.checked_code.specs.Stacks.{watchpoint_demand, trapping_demands, trapping_gives, trapping_code, stack_demands, threadlocal_demands, optional_source, switch_demands, switch_gives, switch_code};
 
-use crate::code::{Source, SwitchForm, TrappingForm};
 use crate::destinations::{entered, normal};
 use crate::gifts::Gift;
 use crate::operands::{operand, value_types};
-use crate::scopes::{Body, Locals};
 use check_tables::{CheckFault, CheckKind, Tables, fault_at};
+use checked_code::{Body, Locals, Source, SwitchForm, TrappingForm};
 use ir_lex::Numeral;
 use ir_tree::{Operand, StackSwitch, Trapping};
 use std::alloc::Global;

@@ -1,8 +1,7 @@
 -- Worked examples.
-use Rattle.std.specs.Prelude.{◌≡◌, ℕ, true, false, [], ◌∷◌, Some, None, codes, refl}
+use Rattle.std.specs.Prelude.{◌≡◌, ℕ, true, false, Some, None, refl}
 use Rattle.demands.specs.declared.fault.Fault.TheVariants.{At}
 use Rattle.demands.specs.Demands.{Demands, none, demand, ◌⨾◌, first_unmet, first_of, listed}
-use Rattle.demands.specs.Names.{found, added}
 
 -- four demands with kinds 1 to 4, of which the second and the fourth are not met
 abbrev four : Demands ℕ
@@ -16,16 +15,3 @@ second_of_the_list = refl
 
 none_is_first : first_unmet {K = ℕ} (demand 3 1 true ⨾ demand 2 2 true) ≡ None
 none_is_first = refl
-
--- the first definition of a name stands
-first_stands : added {T = ℕ} ((codes "%a", 1) ∷ (codes "%b", 2) ∷ []) (codes "%a") 3 ≡ (codes "%a", 1) ∷ (codes "%b", 2) ∷ []
-first_stands = refl
-
-new_goes_last : added {T = ℕ} ((codes "%a", 1) ∷ []) (codes "%b") 2 ≡ (codes "%a", 1) ∷ (codes "%b", 2) ∷ []
-new_goes_last = refl
-
-is_found : found {T = ℕ} ((codes "%a", 1) ∷ (codes "%b", 2) ∷ []) (codes "%b") ≡ Some 2
-is_found = refl
-
-is_not_found : found {T = ℕ} ((codes "%a", 1) ∷ []) (codes "%aa") ≡ None
-is_not_found = refl

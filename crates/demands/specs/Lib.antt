@@ -1,5 +1,3 @@
 pub mod Demands
-pub mod Names
-pub mod Numbered
 pub mod Laws
 pub mod Examples

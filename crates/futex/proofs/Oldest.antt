@@ -4,7 +4,7 @@ use Rattle.std.proofs.Common.{◌∙◌, sym, ap, arith, get_or, take}
 use Rattle.std.proofs.lemmas.List.{take-append-le, length-take, length-take-le, length-map, map-append, append-nil, length_push, take_all, get_or_default}
 use Rattle.std.proofs.lemmas.List.Elements.{filter_more}
 use Rattle.std.proofs.lemmas.List.Filters.{length-filter_both}
-use Rattle.heap_cells.specs.declared.cells.CellId.{CellId}
+use Rattle.mu_values.specs.declared.cells.CellId.{CellId}
 use Rattle.futex.specs.declared.waiters.Waiter.{Waiter}
 use Rattle.futex.specs.Waiting.{is_at, oldest_at, threads_of}
 use Rattle.futex.specs.Kept.{with_next}

@@ -1,7 +1,7 @@
 -- How the waiters are kept, beside what is seen of them.
 use Rattle.std.specs.Prelude.{◌≡◌, ℕ, ◌<◌, ◌&&◌, ◌==◌, not, nat_lt, List, [], ◌∷◌, ◌++◌, None, filter, length, if◌then◌else◌}
 use Rattle.std.specs.List.{list_any, find}
-use Rattle.heap_cells.specs.declared.cells.CellId.{CellId}
+use Rattle.mu_values.specs.declared.cells.CellId.{CellId}
 use Rattle.futex.specs.declared.waiters.Waiter.{Waiter}
 use Rattle.futex.specs.Waiting.{is_at, is_of}
 

@@ -1,8 +1,8 @@
 -- What contracts see of the threads that wait at cells, and which of them are woken.
 use Rattle.std.specs.Prelude.{ℕ, Bool, not, ◌==◌, List, Option, Some, None, filter, map, take, option_map, if◌then◌else◌}
 use Rattle.std.specs.List.{list_any}
-use Rattle.heap_cells.specs.declared.cells.CellId.{CellId}
-use Rattle.heap_cells.specs.SameCell.{same_cell}
+use Rattle.mu_values.specs.declared.cells.CellId.{CellId}
+use Rattle.mu_values.specs.SameCell.{same_cell}
 use Rattle.futex.specs.declared.waiters.Waiter.{Waiter}
 
 -- the waiters, oldest first, and for how many more there is room

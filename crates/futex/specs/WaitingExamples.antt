@@ -1,7 +1,7 @@
 -- Which waiters are woken, and which stay: computed.
 use Rattle.std.specs.Prelude.{◌≡◌, ℕ, Bool, true, false, List, [], ◌∷◌, Some, None, refl}
 use Rattle.std.specs.List.{find}
-use Rattle.heap_cells.specs.declared.cells.CellId.{CellId}
+use Rattle.mu_values.specs.declared.cells.CellId.{CellId}
 use Rattle.futex.specs.declared.waiters.Waiter.{Waiter}
 use Rattle.futex.specs.Waiting.{is_of, cell_of, timed_cell_of, oldest_at, without}
 

@@ -5,7 +5,7 @@ ghost use Rattle.futex.specs.Waiting.{is_at, is_of, cell_of, timed_cell_of, olde
 ghost use Rattle.futex.specs.Kept.{AreApart, other_than, with_next};
 
 use crate::woken::Woken;
-use heap_cells::CellId;
+use mu_values::CellId;
 use std::alloc::{AllocError, Global};
 use std::marker::Model;
 

@@ -5,8 +5,8 @@ use Rattle.std.proofs.lemmas.List.{take-map, length-map, length-append, take-app
 use Rattle.std.proofs.lemmas.List.Sums.{sum_by-cons}
 use Rattle.std.proofs.lemmas.Option.{slice_get-map, slice_get-get_or, slice_get_past}
 use Rattle.demands.specs.declared.fault.Fault.TheVariants.{At}
-use Rattle.type_laws.specs.declared.definition.TypeDef.{TypeDef}
-use Rattle.type_laws.specs.Leaves.{times}
+use Rattle.type_definitions.specs.declared.definition.TypeDef.{TypeDef}
+use Rattle.type_definitions.specs.Leaves.{times}
 use Rattle.typed_heap.specs.Objects.{leaf_classes}
 use Rattle.hail_load.specs.declared.fault.LoadKind.TheVariants.{OutOfRange}
 use Rattle.hail_load.specs.declared.parts.Part.{Part}

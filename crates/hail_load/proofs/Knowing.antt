@@ -4,13 +4,13 @@ use Rattle.std.specs.List.{All}
 use Rattle.std.specs.Str.{bytes_eq}
 use Rattle.std.proofs.lemmas.List.Elements.{All-nil, All-cons}
 use Rattle.demands.specs.Demands.{first_unmet}
-use Rattle.demands.specs.Names.{Names, found, added}
+use Rattle.name_scopes.specs.Names.{Names, found, added}
 use Rattle.demands.proofs.Meeting.{both_met}
 use Rattle.ir_tree.specs.declared.items.Item.{Item}
 use Rattle.ir_tree.specs.declared.items.Item.TheVariants as items
-use Rattle.type_laws.specs.Same.{IsGraph}
-use Rattle.type_laws.specs.Class.{class_of}
-use Rattle.type_laws.proofs.Proved.{decided}
+use Rattle.type_definitions.specs.Same.{IsGraph}
+use Rattle.type_definitions.specs.Class.{class_of}
+use Rattle.type_definitions.proofs.Proved.{decided}
 use Rattle.mu_types.specs.Graph.{Table}
 use Rattle.mu_types.specs.Implied.{complete}
 use Rattle.bundle_names.specs.declared.globals.Sort.{Sort}
@@ -20,16 +20,16 @@ use Rattle.bundle_names.specs.Globals.{with_item, with_items, no_globals, global
 use Rattle.check_tables.specs.declared.tables.Tables.{Tables}
 use Rattle.check_tables.specs.Types.{class_in}
 use Rattle.check_tables.specs.Lookups.{written_number, type_named, or_zero}
-use Rattle.bundle_tables.specs.Graph.{graph_of}
-use Rattle.bundle_tables.specs.Entries.{tables_of}
-use Rattle.bundle_tables.specs.Rules.{item_demands}
-use Rattle.bundle_tables.proofs.Counted.{written_within}
-use Rattle.bundle_constants.specs.Bundle.{constants_of}
-use Rattle.bundle_constants.specs.Members.{Lawful}
-use Rattle.bundle_constants.proofs.Accepted.{accepted, complete_long}
-use Rattle.bundle_check.specs.Checking.{bundle_tables, check_demands}
-use Rattle.bundle_check.specs.Functions.{functions_demands}
-use Rattle.bundle_check.specs.Answers.{global_classes}
+use Rattle.checked_code.specs.Graph.{graph_of}
+use Rattle.checked_code.specs.Entries.{tables_of}
+use Rattle.checked_code.specs.Rules.{item_demands}
+use Rattle.checked_code.proofs.Counted.{written_within}
+use Rattle.checked_code.specs.Constants.{constants_of}
+use Rattle.checked_code.specs.ConstantMembers.{Lawful}
+use Rattle.checked_code.proofs.ConstantsAccepted.{accepted, complete_long}
+use Rattle.checked_code.specs.Checking.{bundle_tables, check_demands}
+use Rattle.checked_code.specs.Functions.{functions_demands}
+use Rattle.checked_code.specs.Answers.{global_classes}
 use Rattle.typed_heap.specs.Heap.{AreNarrow}
 use Rattle.hail_load.specs.Code.{Code, code_of}
 use Rattle.hail_load.specs.Known.{IsKnown}

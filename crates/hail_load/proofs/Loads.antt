@@ -4,7 +4,7 @@ use Rattle.std.proofs.lemmas.List.{take-append-drop}
 use Rattle.std.proofs.Math.Seq.{take-suc, drop-cons}
 use Rattle.demands.specs.declared.fault.Fault.{Fault}
 use Rattle.demands.specs.declared.fault.Fault.TheVariants.{Memory, At}
-use Rattle.demands.specs.Names.{Names}
+use Rattle.name_scopes.specs.Names.{Names}
 use Rattle.typed_heap.specs.Heap.{HeapContents}
 use Rattle.hail_load.specs.declared.fault.LoadKind.{LoadKind}
 use Rattle.hail_load.specs.declared.parts.Made.{Made}

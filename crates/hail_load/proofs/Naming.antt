@@ -3,12 +3,12 @@ use Rattle.std.proofs.Common.{◌≡◌, ℕ, ◌<◌, Bool, true, false, List, 
 use Rattle.std.specs.List.{All}
 use Rattle.std.specs.Str.{bytes_eq}
 use Rattle.std.proofs.lemmas.List.Elements.{All-head, All-tail}
-use Rattle.demands.specs.Names.{Names, found}
+use Rattle.name_scopes.specs.Names.{Names, found}
 use Rattle.ir_lex.specs.declared.name.Name.{Name}
-use Rattle.type_laws.specs.declared.definition.TypeDef.{TypeDef}
+use Rattle.type_definitions.specs.declared.definition.TypeDef.{TypeDef}
 use Rattle.bundle_names.specs.declared.globals.Sort.{Sort}
 use Rattle.bundle_names.specs.declared.globals.Sort.TheVariants as sorts
-use Rattle.bundle_constants.proofs.Members.{holds_at}
+use Rattle.checked_code.proofs.ConstantMembers.{holds_at}
 use Rattle.hail_load.specs.declared.parts.Made.{Made}
 use Rattle.hail_load.specs.declared.parts.Part.TheVariants.{Value}
 use Rattle.hail_load.specs.declared.parts.Spot.{Spot}

@@ -1,7 +1,7 @@
 -- Parts in runs.
 use Rattle.std.proofs.Common.{◌≡◌, ℕ, zero, suc, ◌-◌, ◌<◌, ◌≤◌, List, [], ◌∷◌, ◌++◌, refl, sym, ap, ◌∙◌, arith, append_assoc}
 use Rattle.std.proofs.lemmas.List.{append-nil}
-use Rattle.type_laws.specs.Leaves.{times}
+use Rattle.type_definitions.specs.Leaves.{times}
 use Rattle.hail_load.specs.declared.parts.Part.{Part}
 use Rattle.hail_load.specs.declared.pending.Run.{Run}
 use Rattle.hail_load.specs.PartsSoFar.{parts_in, parts_left}

@@ -7,13 +7,13 @@ use Rattle.std.proofs.lemmas.List.{length-map, length-append}
 use Rattle.std.proofs.lemmas.List.Elements.{All-nil, All-cons, All-head, All-tail, All-append, All-map}
 use Rattle.demands.specs.declared.fault.Fault.{Fault}
 use Rattle.demands.specs.declared.fault.Fault.TheVariants.{Memory, At}
-use Rattle.demands.specs.Names.{Names, added}
-use Rattle.type_laws.specs.declared.definition.TypeDef.{TypeDef}
-use Rattle.type_laws.specs.declared.definition.TypeDef.TheVariants as types
-use Rattle.type_laws.specs.Definition.{arguments}
-use Rattle.type_laws.specs.Same.{IsGraph}
-use Rattle.type_laws.specs.Leaves.{times}
-use Rattle.type_laws.proofs.Depth.{args_within}
+use Rattle.name_scopes.specs.Names.{Names, added}
+use Rattle.type_definitions.specs.declared.definition.TypeDef.{TypeDef}
+use Rattle.type_definitions.specs.declared.definition.TypeDef.TheVariants as types
+use Rattle.type_definitions.specs.Definition.{arguments}
+use Rattle.type_definitions.specs.Same.{IsGraph}
+use Rattle.type_definitions.specs.Leaves.{times}
+use Rattle.type_definitions.proofs.Depth.{args_within}
 use Rattle.demands.specs.Demands.{first_unmet}
 use Rattle.mu_values.specs.declared.literals.ConstFault.{ConstFault}
 use Rattle.mu_values.specs.declared.literals.ConstKind.TheVariants.{OutOfWidth, WrongShape}

@@ -4,8 +4,8 @@ use Rattle.std.specs.Prelude.{◌≡◌, ℕ, ◌<◌, List, ◌++◌, Result, O
 use Rattle.std.specs.List.{All}
 use Rattle.demands.specs.declared.fault.Fault.{Fault}
 use Rattle.demands.specs.declared.fault.Fault.TheVariants.{Memory, At}
-use Rattle.demands.specs.Names.{Names}
-use Rattle.type_laws.specs.declared.definition.TypeDef.{TypeDef}
+use Rattle.name_scopes.specs.Names.{Names}
+use Rattle.type_definitions.specs.declared.definition.TypeDef.{TypeDef}
 use Rattle.mu_values.specs.declared.literals.ConstKind.{ConstKind}
 use Rattle.mu_values.specs.declared.literals.ConstKind.TheVariants.{OutOfWidth}
 use Rattle.typed_heap.specs.declared.faults.HeapFault.{HeapFault}

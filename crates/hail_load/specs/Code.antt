@@ -1,14 +1,14 @@
 -- What a script sees of a bundle.
 use Rattle.std.specs.Prelude.{ℕ, List}
-use Rattle.demands.specs.Names.{Names}
-use Rattle.type_laws.specs.declared.definition.TypeDef.{TypeDef}
+use Rattle.name_scopes.specs.Names.{Names}
+use Rattle.type_definitions.specs.declared.definition.TypeDef.{TypeDef}
 use Rattle.mu_values.specs.declared.scalars.Scalar.{Scalar}
 use Rattle.ir_tree.specs.declared.items.Item.{Item}
 use Rattle.bundle_names.specs.declared.globals.Sort.{Sort}
 use Rattle.check_tables.specs.declared.tables.Tables.{Tables}
-use Rattle.bundle_constants.specs.Bundle.{constant_values}
-use Rattle.bundle_check.specs.Checking.{bundle_tables}
-use Rattle.bundle_check.specs.Answers.{global_classes}
+use Rattle.checked_code.specs.Constants.{constant_values}
+use Rattle.checked_code.specs.Checking.{bundle_tables}
+use Rattle.checked_code.specs.Answers.{global_classes}
 use Rattle.typed_heap.specs.Fits.{signature_classes}
 
 -- what its global names stand for; its types; of each constant the class of its type and its value; the class of the type of each

@@ -1,6 +1,6 @@
 -- What a source refers to fits a type exactly where it is a value of that type.
 use Rattle.std.specs.Prelude.{◌≡◌, Bool, true, false, Some, ◌↔◌}
-use Rattle.type_laws.specs.declared.definition.TypeDef.{TypeDef}
+use Rattle.type_definitions.specs.declared.definition.TypeDef.{TypeDef}
 use Rattle.mu_values.specs.declared.scalars.Scalar.{Scalar}
 use Rattle.mu_values.specs.declared.scalars.Scalar.TheVariants.{Object, Place, Func}
 use Rattle.typed_heap.specs.Fits.{World, DefinitionFits}

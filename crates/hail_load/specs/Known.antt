@@ -2,8 +2,8 @@
 -- Contracts inside the crate cite this; no public one does, so no reader of those needs it.
 use Rattle.std.specs.Prelude.{◌≡◌, ℕ, ◌<◌, ◌≤◌, List, Some, length, slice_get}
 use Rattle.std.specs.List.{All}
-use Rattle.demands.specs.Names.{found}
-use Rattle.type_laws.specs.Same.{IsGraph}
+use Rattle.name_scopes.specs.Names.{found}
+use Rattle.type_definitions.specs.Same.{IsGraph}
 use Rattle.mu_values.specs.Constants.{width_of}
 use Rattle.check_tables.specs.Lookups.{written_number}
 use Rattle.hail_load.specs.Code.{Code}

@@ -1,8 +1,8 @@
 -- Parts that stand behind each other, as runs of the same part.
 -- Contracts inside the crate cite this; no public one does, so no reader of those needs it.
 use Rattle.std.specs.Prelude.{ℕ, ◌+◌, List, [], ◌∷◌, ◌++◌, map, take, sum_by, slice_index}
-use Rattle.type_laws.specs.declared.definition.TypeDef.{TypeDef}
-use Rattle.type_laws.specs.Leaves.{times}
+use Rattle.type_definitions.specs.declared.definition.TypeDef.{TypeDef}
+use Rattle.type_definitions.specs.Leaves.{times}
 use Rattle.hail_load.specs.declared.parts.Part.{Part}
 use Rattle.hail_load.specs.declared.parts.Part.TheVariants.{Value}
 use Rattle.hail_load.specs.declared.parts.Spot.{Spot}

@@ -3,9 +3,9 @@ use Rattle.std.specs.Prelude.{ℕ, false, List, [], ◌∷◌, Option, Some, map
 use Rattle.demands.specs.declared.fault.Fault.{Fault}
 use Rattle.demands.specs.declared.fault.Fault.TheVariants.{At}
 use Rattle.demands.specs.Demands.{first_unmet}
-use Rattle.demands.specs.Names.{Names}
-use Rattle.type_laws.specs.declared.definition.TypeDef.{TypeDef}
-use Rattle.type_laws.specs.declared.definition.TypeDef.TheVariants as types
+use Rattle.name_scopes.specs.Names.{Names}
+use Rattle.type_definitions.specs.declared.definition.TypeDef.{TypeDef}
+use Rattle.type_definitions.specs.declared.definition.TypeDef.TheVariants as types
 use Rattle.mu_values.specs.declared.scalars.Scalar.{Scalar}
 use Rattle.mu_values.specs.declared.scalars.Scalar.TheVariants.{Int}
 use Rattle.ir_lex.specs.declared.name.Name.{Name}

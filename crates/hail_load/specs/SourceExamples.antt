@@ -1,7 +1,7 @@
 -- Worked examples: sources, met and unmet.
 use Rattle.std.specs.Prelude.{◌≡◌, refl, ℕ, false, List, [], ◌∷◌, ◌++◌, None, Some, codes}
-use Rattle.type_laws.specs.Same.{alike}
-use Rattle.type_laws.specs.Leaves.{times, leaves_to}
+use Rattle.type_definitions.specs.Same.{alike}
+use Rattle.type_definitions.specs.Leaves.{times, leaves_to}
 use Rattle.mu_values.specs.declared.scalars.Scalar.TheVariants.{Int, Null, Object, Place, Func}
 use Rattle.text_forms.specs.Reading.{elements}
 use Rattle.ir_lex.specs.WordTable.{words, directives, common_names}

@@ -1,6 +1,6 @@
 -- Worked examples: texts of scripts.
 use Rattle.std.specs.Prelude.{◌≡◌, refl, [], ◌∷◌, ◌++◌, None, codes}
-use Rattle.type_laws.specs.Leaves.{times}
+use Rattle.type_definitions.specs.Leaves.{times}
 use Rattle.text_forms.specs.declared.fault.FaultKind.TheVariants as kinds
 use Rattle.text_forms.specs.Reading.{elements}
 use Rattle.ir_lex.specs.WordTable.{words, directives, common_names}

@@ -1,9 +1,9 @@
 // Which sources that are no lists fit a type, and the scalars that they are.
 ghost use Rattle.std.specs.Prelude.{◌≡◌, ℕ, ◌<◌, ◌≤◌, ◌∷◌, [], Some, length, slice_get, slice_index_or, IfSome, IsTrue};
-ghost use Rattle.demands.specs.Names.{found};
-ghost use Rattle.type_laws.specs.Same.{IsGraph};
-ghost use Rattle.type_laws.specs.Class.{class_of};
-ghost use Rattle.type_laws.specs.declared.definition.TypeDef.TheVariants as types;
+ghost use Rattle.name_scopes.specs.Names.{found};
+ghost use Rattle.type_definitions.specs.Same.{IsGraph};
+ghost use Rattle.type_definitions.specs.Class.{class_of};
+ghost use Rattle.type_definitions.specs.declared.definition.TypeDef.TheVariants as types;
 ghost use Rattle.mu_values.specs.declared.scalars.Scalar.TheVariants.{Object, Place};
 ghost use Rattle.mu_values.specs.Constants.{width_of, is_reference};
 ghost use Rattle.typed_heap.specs.Fits.{signature_classes};
@@ -18,15 +18,15 @@ use crate::gathered::Gathered;
 use crate::parts::Made;
 use crate::targets::reference_spot;
 use crate::tree::{Piece, Root};
-use bundle_check::Checked;
 use bundle_names::Sort;
 use check_tables::Tables;
-use demands::Scope;
+use checked_code::Checked;
 use ir_lex::{Name, Numeral};
 use mu_types::{Classes, TypeDef};
 use mu_values::{
     ConstKind, Literal, LiteralKind, Made as Constants, Scalar, judge_const, make_const,
 };
+use name_scopes::Scope;
 use std::alloc::Global;
 use text_forms::Listing;
 use typed_heap::Heap;

@@ -1,10 +1,10 @@
 // The parts that indexes lead to.
 ghost use Rattle.std.specs.Prelude.{◌≡◌, ℕ, ◌+◌, ◌<◌, ◌∷◌, [], Ok, Err, Some, length, map, slice_get, sum_by, IfOk, IfSome};
 ghost use Rattle.demands.specs.declared.fault.Fault.TheVariants.{At};
-ghost use Rattle.type_laws.specs.Definition.{arguments};
+ghost use Rattle.type_definitions.specs.Definition.{arguments};
 ghost use Rattle.std.specs.List.{All};
-ghost use Rattle.type_laws.specs.Leaves.{times};
-ghost use Rattle.type_laws.specs.Same.{IsGraph};
+ghost use Rattle.type_definitions.specs.Leaves.{times};
+ghost use Rattle.type_definitions.specs.Same.{IsGraph};
 ghost use Rattle.hail_load.specs.declared.parts.Part.TheVariants.{Value};
 ghost use Rattle.hail_load.specs.Parts.{size_of, parts_of, value_parts, hybrid_parts, part_with, index_into, indexed};
 ghost use Rattle.hail_load.specs.Fitting.{next_indexes};
@@ -191,7 +191,7 @@ fn value_part(
 }
 
 /// The part that an index leads to. It takes time for the fields before it.
-#[tactic(auto, using(type_laws::proofs::Depth::args_within))]
+#[tactic(auto, using(type_definitions::proofs::Depth::args_within))]
 fn follow(classes: &Classes, spot: Spot, index: &Index) -> Result<Spot, LoadFault>
     requires graph { IsGraph classes.now.definitions }
     requires part { IsThere classes.now.definitions spot.part }

@@ -2,7 +2,7 @@
 ghost use Rattle.std.specs.Prelude.{◌≡◌, ◌∷◌, [], Some, Err, OnOk};
 ghost use Rattle.std.specs.List.{All};
 ghost use Rattle.demands.specs.declared.fault.Fault.TheVariants.{At};
-ghost use Rattle.type_laws.specs.Leaves.{times};
+ghost use Rattle.type_definitions.specs.Leaves.{times};
 ghost use Rattle.hail_load.specs.declared.parts.Part.TheVariants.{Value};
 ghost use Rattle.hail_load.specs.Code.{code_of};
 ghost use Rattle.hail_load.specs.Known.{IsKnown};

@@ -1,7 +1,7 @@
 // What the commands of a script make.
 ghost use Rattle.std.specs.Prelude.{◌≡◌, ◌+◌, ◌-◌, ◌<◌, ◌≤◌, ◌^◌, Some, Err, length, IfOk, OnOk, OnErr};
 ghost use Rattle.demands.specs.declared.fault.Fault.TheVariants.{At};
-ghost use Rattle.demands.specs.Names.{found, added};
+ghost use Rattle.name_scopes.specs.Names.{found, added};
 ghost use Rattle.check_tables.specs.TypeTests.{is_hybrid, is_no_hybrid};
 ghost use Rattle.check_tables.specs.Lookups.{written_number};
 ghost use Rattle.hail_load.specs.declared.parts.Part.TheVariants.{Value, Hybrid};
@@ -20,10 +20,10 @@ use crate::judgement::judge;
 use crate::parts::{Made, Part};
 use crate::targets::target_spot;
 use crate::tree::{Command, Hail, Piece, Target};
-use bundle_check::Checked;
-use demands::Scope;
+use checked_code::Checked;
 use ir_lex::Name;
 use mu_types::TypeDef;
+use name_scopes::Scope;
 use std::alloc::{AllocError, Global};
 use typed_heap::{Heap, HeapFault};
 

@@ -2,7 +2,7 @@
 ghost use Rattle.std.specs.Prelude.{◌≡◌, [], ◌∷◌, true, OnOk};
 ghost use Rattle.text_forms.specs.declared.symbol.Symbol.TheVariants as symbols;
 ghost use Rattle.text_forms.specs.Tokens.{at, first, goes_on_behind};
-ghost use Rattle.demands.specs.Names.{found};
+ghost use Rattle.name_scopes.specs.Names.{found};
 ghost use Rattle.demands.specs.Demands.{demand, Meets};
 ghost use Rattle.ir_lex.specs.Walk.{tokens_from};
 ghost use Rattle.hail_load.specs.Names.{global_fits, is_given_behind, object_demand, given_with, number_demand, token_demand, token_demands};
@@ -11,8 +11,8 @@ ghost use Rattle.hail_load.specs.Judged.{is_before, judged_tokens};
 use crate::fault::{HailFault, HailKind};
 use crate::tokens::GLOBALS;
 use bundle_names::Sort;
-use demands::Scope;
 use ir_lex::Cursor;
+use name_scopes::Scope;
 use std::alloc::{AllocError, Global};
 use text_forms::{FaultKind, Symbol};
 

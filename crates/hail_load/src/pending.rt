@@ -1,6 +1,6 @@
 // Parts that are to be filled.
 ghost use Rattle.std.specs.Prelude.{◌≡◌, [], ◌∷◌, ◌++◌, map, OnOk, IfOk, IfSome, IfNone, IfOk};
-ghost use Rattle.type_laws.specs.Leaves.{times};
+ghost use Rattle.type_definitions.specs.Leaves.{times};
 ghost use Rattle.hail_load.specs.declared.parts.Part.TheVariants.{Value};
 
 use crate::parts::Part;

@@ -11,10 +11,10 @@ use crate::commands::hail;
 use crate::fault::{HailFault, HailKind};
 use crate::names::judge_tokens;
 use crate::tree::Hail;
-use bundle_check::Checked;
 use bundle_names::Sort;
-use demands::Scope;
+use checked_code::Checked;
 use ir_lex::Cursor;
+use name_scopes::Scope;
 use std::alloc::Global;
 use text_forms::{Fault, ReadError};
 

@@ -1,7 +1,7 @@
 // The places that targets name.
 ghost use Rattle.std.specs.Prelude.{◌≡◌, Err, IfOk, slice_get};
 ghost use Rattle.demands.specs.declared.fault.Fault.TheVariants.{At};
-ghost use Rattle.demands.specs.Names.{found};
+ghost use Rattle.name_scopes.specs.Names.{found};
 ghost use Rattle.hail_load.specs.Code.{code_of};
 ghost use Rattle.hail_load.specs.Parts.{made_spot, typed_spot, global_spot, root_spot, target_spot};
 ghost use Rattle.hail_load.specs.Fitting.{next_indexes};
@@ -12,10 +12,10 @@ use crate::fault::{LoadFault, LoadKind};
 use crate::indexes::{indexed, indexed_by};
 use crate::parts::{Made, Part, Spot};
 use crate::tree::{Index, Piece, Root};
-use bundle_check::Checked;
 use bundle_names::Sort;
-use demands::Scope;
+use checked_code::Checked;
 use ir_lex::Name;
+use name_scopes::Scope;
 
 /// Nothing of the kind has the name.
 fn wrong_type(name: &Name) -> Result<Spot, LoadFault>

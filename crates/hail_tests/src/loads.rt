@@ -3,8 +3,9 @@ ghost use Rattle.std.specs.Prelude.{IfOk};
 ghost use Rattle.hail_load.specs.Code.{code_of};
 ghost use Rattle.hail_load.specs.LoadAnswers.{AreGlobals};
 
-use bundle_check::{Checked, check};
+use bundle_check::check;
 use bundle_names::resolve;
+use checked_code::Checked;
 use hail_load::{LoadFault, LoadKind, load_hail, read_hail};
 use ir_text::read_bundle;
 use mu_values::Scalar;

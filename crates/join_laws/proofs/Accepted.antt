@@ -4,7 +4,7 @@ use Rattle.ir_tree.specs.declared.items.Item.{Item}
 use Rattle.demands.specs.Demands.{Demands, none, demand, ◌⨾◌, AllMet, first_unmet}
 use Rattle.demands.proofs.Meeting.{all_met}
 use Rattle.bundle_names.specs.Naming.{name_demands}
-use Rattle.bundle_check.specs.Checking.{check_demands}
+use Rattle.checked_code.specs.Checking.{check_demands}
 use Rattle.ir_print.specs.Laws.{Alike}
 use Rattle.join_laws.specs.Laws.{Accepted, AllAccepted, JoinedAreAccepted, PlacesAreNotSeen}
 use Rattle.join_laws.proofs.Joining.{Among}

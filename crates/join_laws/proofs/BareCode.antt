@@ -33,20 +33,20 @@ use Rattle.ir_print.specs.Placeless.{bare_name, bare_value, bare_values, bare_de
 use Rattle.check_tables.specs.declared.fault.CheckKind.{CheckKind}
 use Rattle.check_tables.specs.declared.fault.CheckKind.TheVariants.{OperandType, ArgumentType, AfterEnding, ResultCount}
 use Rattle.check_tables.specs.declared.tables.Tables.{Tables}
-use Rattle.code_check.specs.declared.scopes.Locals.{Locals}
-use Rattle.code_check.specs.declared.scopes.Body.{Body}
+use Rattle.checked_code.specs.declared.scopes.Locals.{Locals}
+use Rattle.checked_code.specs.declared.scopes.Body.{Body}
 use Rattle.demands.specs.Demands.{Demands, none, demand, ◌⨾◌}
 use Rattle.check_tables.specs.Lookups.{class_named, ref_named, iref_named, noted_class, signature_named, funcref_of, takes_of, noted_classes}
 use Rattle.check_tables.specs.Types.{class_in, int1, int32, stackref, ref_void}
-use Rattle.code_check.specs.Operands.{operand_demands, int64_demands, member_demands, argument_demands, value_type_demands, noted_list, variable_demands}
-use Rattle.code_check.specs.Destinations.{block_named, entry_takes, exceptional_demands, normal_demands, entered_demands}
-use Rattle.code_check.specs.Computations.{field_named, computation_demands}
-use Rattle.code_check.specs.Control.{case_demands, control_demands}
-use Rattle.code_check.specs.Objects.{allocation_demands, addressing_demands}
-use Rattle.code_check.specs.Accesses.{access_demands}
-use Rattle.code_check.specs.Stacks.{trapping_demands, threadlocal_demands, switch_demands}
-use Rattle.code_check.specs.Commons.{common_demands}
-use Rattle.code_check.specs.Instructions.{op_demands, gives, exc_of, normal_of, exceptional_of, keepalive_of, is_ending, bound, bound_results, after, inst_demands, insts_demands, ends}
+use Rattle.checked_code.specs.Operands.{operand_demands, int64_demands, member_demands, argument_demands, value_type_demands, noted_list, variable_demands}
+use Rattle.checked_code.specs.Destinations.{block_named, entry_takes, exceptional_demands, normal_demands, entered_demands}
+use Rattle.checked_code.specs.Computations.{field_named, computation_demands}
+use Rattle.checked_code.specs.Control.{case_demands, control_demands}
+use Rattle.checked_code.specs.Objects.{allocation_demands, addressing_demands}
+use Rattle.checked_code.specs.Accesses.{access_demands}
+use Rattle.checked_code.specs.Stacks.{trapping_demands, threadlocal_demands, switch_demands}
+use Rattle.checked_code.specs.Commons.{common_demands}
+use Rattle.checked_code.specs.Instructions.{op_demands, gives, exc_of, normal_of, exceptional_of, keepalive_of, is_ending, bound, bound_results, after, inst_demands, insts_demands, ends}
 use Rattle.join_laws.proofs.Nowhere.{nowhere}
 
 -- ---- operands and lists

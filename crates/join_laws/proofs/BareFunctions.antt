@@ -9,18 +9,18 @@ use Rattle.ir_tree.specs.declared.items.Item.{Item}
 use Rattle.ir_tree.specs.declared.items.Item.TheVariants as items
 use Rattle.ir_print.specs.Placeless.{bare_name, bare_pair, bare_head, bare_inst, bare_block, bare_funcdef, bare_item}
 use Rattle.demands.specs.Demands.{Demands, demand, ◌⨾◌}
-use Rattle.demands.specs.Names.{Names, found, added}
+use Rattle.name_scopes.specs.Names.{Names, found, added}
 use Rattle.check_tables.specs.declared.fault.CheckKind.{CheckKind}
 use Rattle.check_tables.specs.declared.fault.CheckKind.TheVariants.{NoEnding, EntryParameters, BadSignature}
 use Rattle.check_tables.specs.declared.tables.Tables.{Tables}
 use Rattle.check_tables.specs.Lookups.{noted_class, signature_named, takes_of, gives_of, noted_classes}
-use Rattle.code_check.specs.declared.scopes.Locals.{Locals}
-use Rattle.code_check.specs.declared.scopes.Body.{Body}
-use Rattle.code_check.specs.declared.scopes.BlockEntry.{BlockEntry}
-use Rattle.code_check.specs.Control.{gives_these}
-use Rattle.code_check.specs.Instructions.{bound, no_locals, insts_demands}
-use Rattle.bundle_check.specs.Blocks.{bound_parameters, bound_handler, head_locals, parameter_classes, parameter_demands, block_demands, blocks_demands}
-use Rattle.bundle_check.specs.Functions.{entry_of, entries_from, body_of, is_as_declared, first_block_demands, function_demands, functions_demands}
+use Rattle.checked_code.specs.declared.scopes.Locals.{Locals}
+use Rattle.checked_code.specs.declared.scopes.Body.{Body}
+use Rattle.checked_code.specs.declared.scopes.BlockEntry.{BlockEntry}
+use Rattle.checked_code.specs.Control.{gives_these}
+use Rattle.checked_code.specs.Instructions.{bound, no_locals, insts_demands}
+use Rattle.checked_code.specs.Blocks.{bound_parameters, bound_handler, head_locals, parameter_classes, parameter_demands, block_demands, blocks_demands}
+use Rattle.checked_code.specs.Functions.{entry_of, entries_from, body_of, is_as_declared, first_block_demands, function_demands, functions_demands}
 use Rattle.join_laws.proofs.Nowhere.{nowhere}
 use Rattle.join_laws.proofs.BareCode.{as_many, insts_bare, ends_same}
 

@@ -6,7 +6,7 @@ use Rattle.ir_tree.specs.declared.definitions.Literal.TheVariants as literals
 use Rattle.ir_tree.specs.declared.items.Item.{Item}
 use Rattle.ir_tree.specs.declared.items.Item.TheVariants as items
 use Rattle.ir_print.specs.Placeless.{bare_name, bare_literal, bare_item, bare_bundle}
-use Rattle.type_laws.specs.declared.definition.TypeDef.{TypeDef}
+use Rattle.type_definitions.specs.declared.definition.TypeDef.{TypeDef}
 use Rattle.demands.specs.Demands.{Demands, demand, ◌⨾◌, AllMet, as_kind}
 use Rattle.mu_types.specs.declared.faults.TypeKind.{TypeKind}
 use Rattle.mu_types.specs.Implied.{complete}
@@ -23,11 +23,11 @@ use Rattle.check_tables.specs.declared.fault.CheckKind.{CheckKind}
 use Rattle.check_tables.specs.declared.fault.CheckKind.TheVariants.{Types, Const}
 use Rattle.check_tables.specs.declared.tables.Tables.{Tables}
 use Rattle.check_tables.specs.Lookups.{leaves_named}
-use Rattle.bundle_tables.specs.Graph.{type_id, graph_of, places_of, places_of_names, type_demands}
-use Rattle.bundle_tables.specs.Entries.{tables_of}
-use Rattle.bundle_tables.specs.Rules.{constant_id, literal_of, constant_types, constants_demands, signature_type_demands, signatures_demands, globals_demands, item_demands}
-use Rattle.bundle_check.specs.Functions.{functions_demands}
-use Rattle.bundle_check.specs.Checking.{bundle_tables, check_demands}
+use Rattle.checked_code.specs.Graph.{type_id, graph_of, places_of, places_of_names, type_demands}
+use Rattle.checked_code.specs.Entries.{tables_of}
+use Rattle.checked_code.specs.Rules.{constant_id, literal_of, constant_types, constants_demands, signature_type_demands, signatures_demands, globals_demands, item_demands}
+use Rattle.checked_code.specs.Functions.{functions_demands}
+use Rattle.checked_code.specs.Checking.{bundle_tables, check_demands}
 use Rattle.join_laws.proofs.Nowhere.{nowhere, nowhere_met, met_nowhere, nowhere_again, nowhere_kind}
 use Rattle.join_laws.proofs.BareNames.{globals_same, definitions_bare}
 use Rattle.join_laws.proofs.BareUses.{uses_bare}

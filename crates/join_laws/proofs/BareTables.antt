@@ -7,20 +7,20 @@ use Rattle.ir_tree.specs.declared.definitions.Funcsig.{Funcsig}
 use Rattle.ir_tree.specs.declared.items.Item.{Item}
 use Rattle.ir_tree.specs.declared.items.Item.TheVariants as items
 use Rattle.ir_print.specs.Placeless.{bare_name, bare_type_form, bare_funcsig, bare_item, bare_bundle}
-use Rattle.type_laws.specs.declared.definition.TypeDef.{TypeDef}
-use Rattle.type_laws.specs.declared.definition.TypeDef.TheVariants.{Struct, Hybrid, Sig}
+use Rattle.type_definitions.specs.declared.definition.TypeDef.{TypeDef}
+use Rattle.type_definitions.specs.declared.definition.TypeDef.TheVariants.{Struct, Hybrid, Sig}
 use Rattle.mu_types.specs.Graph.{Table}
 use Rattle.mu_types.specs.Implied.{complete}
-use Rattle.demands.specs.Names.{found}
+use Rattle.name_scopes.specs.Names.{found}
 use Rattle.bundle_names.specs.declared.globals.Globals.{Globals}
 use Rattle.bundle_names.specs.Globals.{globals_of}
 use Rattle.check_tables.specs.declared.tables.Signature.{Signature}
 use Rattle.check_tables.specs.declared.tables.Tables.{Tables}
 use Rattle.check_tables.specs.Lookups.{or_zero}
 use Rattle.check_tables.specs.Types.{class_at, funcref_at}
-use Rattle.bundle_tables.specs.Graph.{type_id, type_ids, signature_id, type_definition, types_of, signatures_of, graph_of, table_of}
-use Rattle.bundle_tables.specs.Entries.{noted_type, noted_types, signature_entry, signature_entries, constant_entries, global_entries, noted_signature, declared_signatures, defined_signatures, is_function, declared_entry, function_entries, tables_of}
-use Rattle.bundle_check.specs.Checking.{bundle_tables}
+use Rattle.checked_code.specs.Graph.{type_id, type_ids, signature_id, type_definition, types_of, signatures_of, graph_of, table_of}
+use Rattle.checked_code.specs.Entries.{noted_type, noted_types, signature_entry, signature_entries, constant_entries, global_entries, noted_signature, declared_signatures, defined_signatures, is_function, declared_entry, function_entries, tables_of}
+use Rattle.checked_code.specs.Checking.{bundle_tables}
 use Rattle.join_laws.proofs.BareNames.{globals_same}
 
 pub numbers_same : (number : Name → ℕ) → ((n : Name) → number (bare_name n) ≡ number n) → (ns : List Name) → map number (map bare_name ns) ≡ map number ns

@@ -38,7 +38,7 @@ use Rattle.ir_tree.specs.declared.items.Item.{Item}
 use Rattle.ir_tree.specs.declared.items.Item.TheVariants as items
 use Rattle.ir_print.specs.Placeless.{bare_name, bare_value, bare_dest, bare_exc, bare_new_stack_clause, bare_type_form, bare_literal, bare_computation, bare_case, bare_control, bare_allocation, bare_addressing, bare_access, bare_trapping, bare_stack_switch, bare_common_inst, bare_op, bare_inst, bare_pair, bare_block, bare_item, bare_bundle}
 use Rattle.demands.specs.Demands.{Demands, none, ◌⨾◌}
-use Rattle.demands.specs.Names.{Names}
+use Rattle.name_scopes.specs.Names.{Names}
 use Rattle.bundle_names.specs.declared.fault.NameKind.{NameKind}
 use Rattle.bundle_names.specs.declared.function_names.FunctionNames.{FunctionNames}
 use Rattle.bundle_names.specs.declared.globals.Sort.{Sort}

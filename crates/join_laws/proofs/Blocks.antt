@@ -9,18 +9,18 @@ use Rattle.ir_tree.specs.declared.code.Block.{Block}
 use Rattle.ir_tree.specs.declared.items.Funcdef.{Funcdef}
 use Rattle.check_tables.specs.declared.tables.Signature.{Signature}
 use Rattle.check_tables.specs.declared.tables.Tables.{Tables}
-use Rattle.code_check.specs.declared.scopes.Locals.{Locals}
-use Rattle.code_check.specs.declared.scopes.BlockEntry.{BlockEntry}
-use Rattle.code_check.specs.declared.scopes.Body.{Body}
+use Rattle.checked_code.specs.declared.scopes.Locals.{Locals}
+use Rattle.checked_code.specs.declared.scopes.BlockEntry.{BlockEntry}
+use Rattle.checked_code.specs.declared.scopes.Body.{Body}
 use Rattle.mu_types.specs.Graph.{Table}
 use Rattle.demands.specs.Demands.{AllMet, or_else}
-use Rattle.demands.specs.Names.{Names, found, added}
+use Rattle.name_scopes.specs.Names.{Names, found, added}
 use Rattle.check_tables.specs.Types.{ref_void}
 use Rattle.check_tables.specs.Lookups.{noted_class, signature_named, takes_of, gives_of}
-use Rattle.code_check.specs.Instructions.{no_locals, bound}
-use Rattle.code_check.specs.Control.{gives_these}
-use Rattle.bundle_check.specs.Blocks.{bound_parameters, bound_handler, head_locals, parameter_classes, parameter_demands, block_demands, blocks_demands}
-use Rattle.bundle_check.specs.Functions.{entry_of, entries_from, body_of, is_as_declared, first_block_demands, function_demands}
+use Rattle.checked_code.specs.Instructions.{no_locals, bound}
+use Rattle.checked_code.specs.Control.{gives_these}
+use Rattle.checked_code.specs.Blocks.{bound_parameters, bound_handler, head_locals, parameter_classes, parameter_demands, block_demands, blocks_demands}
+use Rattle.checked_code.specs.Functions.{entry_of, entries_from, body_of, is_as_declared, first_block_demands, function_demands}
 use Rattle.join_laws.proofs.Names.{found_added}
 use Rattle.join_laws.proofs.Classes.{AllGo}
 use Rattle.join_laws.proofs.References.{ref_void_goes}

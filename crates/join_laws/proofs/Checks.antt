@@ -10,8 +10,8 @@ use Rattle.check_tables.specs.declared.tables.Tables.{Tables}
 use Rattle.demands.specs.Demands.{AllMet}
 use Rattle.check_tables.specs.TypeTests.{is_sized}
 use Rattle.check_tables.specs.Lookups.{definition_named, leaves_named}
-use Rattle.bundle_tables.specs.Rules.{signature_type_demands, signatures_demands, globals_demands}
-use Rattle.bundle_check.specs.Functions.{function_demands, functions_demands}
+use Rattle.checked_code.specs.Rules.{signature_type_demands, signatures_demands, globals_demands}
+use Rattle.checked_code.specs.Functions.{function_demands, functions_demands}
 pub use Rattle.join_laws.specs.Laws.{leaves_of_globals}
 use Rattle.join_laws.proofs.Members.{Member}
 use Rattle.join_laws.proofs.Lookups.{TablesGo, value_test}

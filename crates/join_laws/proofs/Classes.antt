@@ -2,15 +2,15 @@
 use Rattle.std.proofs.Common.{◌≡◌, ℕ, zero, suc, ◌<◌, ◌≤◌, Bool, true, false, ◌&&◌, ◌==◌, List, [], ◌∷◌, length, nat_lt, Option, Some, None, slice_get, refl, sym, ◌∙◌, subst, arith}
 use Rattle.std.proofs.lemmas.Bool.{false≢true, and_parts, eqb-true}
 use Rattle.std.proofs.lemmas.Option.{slice_get_within}
-use Rattle.type_laws.specs.declared.definition.TypeDef.{TypeDef}
-use Rattle.type_laws.specs.declared.definition.TypeDef.TheVariants.{Int, Void, Ref, Iref, FuncRef, StackRef, ThreadRef}
-use Rattle.type_laws.specs.Definition.{constructor, number, arguments}
-use Rattle.type_laws.specs.Same.{pairs, agree, agree_at, same, IsGraph}
-use Rattle.type_laws.specs.Class.{class_of}
-use Rattle.type_laws.specs.Laws.{IsFinite}
-use Rattle.type_laws.specs.Parts.{parts_at}
-use Rattle.type_laws.proofs.Depth.{alike_back}
-use Rattle.type_laws.proofs.Proved.{decided, congruence}
+use Rattle.type_definitions.specs.declared.definition.TypeDef.{TypeDef}
+use Rattle.type_definitions.specs.declared.definition.TypeDef.TheVariants.{Int, Void, Ref, Iref, FuncRef, StackRef, ThreadRef}
+use Rattle.type_definitions.specs.Definition.{constructor, number, arguments}
+use Rattle.type_definitions.specs.Same.{pairs, agree, agree_at, same, IsGraph}
+use Rattle.type_definitions.specs.Class.{class_of}
+use Rattle.type_definitions.specs.Laws.{IsFinite}
+use Rattle.type_definitions.specs.Parts.{parts_at}
+use Rattle.type_definitions.proofs.Depth.{alike_back}
+use Rattle.type_definitions.proofs.Proved.{decided, congruence}
 use Rattle.kin_laws.specs.Kin.{akin, Kin}
 use Rattle.kin_laws.proofs.Kin.{kin_before, kin_after, kin_both, kin_decides}
 use Rattle.mu_types.specs.Graph.{Table}

@@ -1,10 +1,10 @@
 -- A joined bundle meets the demands on constants.
 use Rattle.std.proofs.Common.{◌≡◌, ℕ, zero, suc, ◌+◌, ◌<◌, Bool, true, ◌&&◌, nat_eq, nat_le, List, [], ◌∷◌, ◌++◌, length, map, Option, Some, slice_get, slice_index, inl, inr, refl, sym, ◌∙◌, ap, subst, append_assoc, arith}
 use Rattle.std.proofs.lemmas.Bool.{false≢true}
-use Rattle.type_laws.specs.declared.definition.TypeDef.{TypeDef}
-use Rattle.type_laws.specs.declared.definition.TypeDef.TheVariants.{Int, Struct, Array}
-use Rattle.type_laws.specs.Definition.{constructor, number, arguments}
-use Rattle.type_laws.specs.Same.{same, IsGraph}
+use Rattle.type_definitions.specs.declared.definition.TypeDef.{TypeDef}
+use Rattle.type_definitions.specs.declared.definition.TypeDef.TheVariants.{Int, Struct, Array}
+use Rattle.type_definitions.specs.Definition.{constructor, number, arguments}
+use Rattle.type_definitions.specs.Same.{same, IsGraph}
 use Rattle.kin_laws.specs.Kin.{Kin}
 use Rattle.kin_laws.proofs.Kin.{kin_decides}
 use Rattle.kin_laws.proofs.Parts.{AllKin, Defined, defined}
@@ -22,15 +22,15 @@ use Rattle.check_tables.specs.declared.fault.CheckKind.{CheckKind}
 use Rattle.check_tables.specs.declared.fault.CheckKind.TheVariants as checks
 use Rattle.check_tables.specs.declared.tables.Tables.{Tables}
 use Rattle.demands.specs.Demands.{Demands, none, demand, ◌⨾◌, AllMet, as_kind}
-use Rattle.demands.specs.Names.{found}
+use Rattle.name_scopes.specs.Names.{found}
 use Rattle.mu_values.specs.Constants.{width_of, is_reference, member_count, member_type, number_demands, is_count, member_demands, kind_demands, constant_demands}
 use Rattle.bundle_names.specs.Globals.{with_item, with_items, no_globals, globals_of}
 use Rattle.bundle_names.specs.Uses.{each, constant_use, is_type, is_constant}
 use Rattle.bundle_names.specs.ItemUses.{literal_use}
-use Rattle.bundle_tables.specs.Graph.{type_id, places_of_names}
-use Rattle.bundle_tables.specs.Rules.{constant_id, literal_of, constant_types, constants_demands}
-use Rattle.bundle_check.specs.Checking.{bundle_tables}
-use Rattle.bundle_tables.specs.Entries.{tables_of}
+use Rattle.checked_code.specs.Graph.{type_id, places_of_names}
+use Rattle.checked_code.specs.Rules.{constant_id, literal_of, constant_types, constants_demands}
+use Rattle.checked_code.specs.Checking.{bundle_tables}
+use Rattle.checked_code.specs.Entries.{tables_of}
 use Rattle.join_laws.proofs.Tests.{IsKept}
 use Rattle.join_laws.proofs.Tests.{by_numbers}
 use Rattle.join_laws.proofs.Classes.{below, kin_definitions, test_goes}

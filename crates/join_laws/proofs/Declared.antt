@@ -11,15 +11,15 @@ use Rattle.check_tables.specs.declared.tables.Signature.{Signature}
 use Rattle.check_tables.specs.declared.tables.Tables.{Tables}
 use Rattle.mu_types.specs.Graph.{Table}
 use Rattle.demands.specs.Demands.{AllMet}
-use Rattle.demands.specs.Names.{found}
+use Rattle.name_scopes.specs.Names.{found}
 use Rattle.bundle_names.specs.Globals.{with_item, with_items, no_globals, globals_of}
 use Rattle.bundle_names.specs.Uses.{is_signature}
 use Rattle.bundle_names.specs.Naming.{name_demands}
 use Rattle.check_tables.specs.Lookups.{signature_number, signature_in, signature_named}
-use Rattle.bundle_tables.specs.Entries.{noted_signature, declared_signatures, signature_entry, tables_of}
-use Rattle.code_check.specs.Operands.{is_class}
-use Rattle.bundle_check.specs.Functions.{class_of_signature, is_as_declared}
-use Rattle.bundle_check.specs.Checking.{bundle_tables, check_demands}
+use Rattle.checked_code.specs.Entries.{noted_signature, declared_signatures, signature_entry, tables_of}
+use Rattle.checked_code.specs.Operands.{is_class}
+use Rattle.checked_code.specs.Functions.{class_of_signature, is_as_declared}
+use Rattle.checked_code.specs.Checking.{bundle_tables, check_demands}
 use Rattle.join_laws.proofs.Names.{added_cases}
 use Rattle.join_laws.proofs.Classes.{Goes, Pair}
 use Rattle.join_laws.proofs.Lookups.{SignatureGoes}

@@ -7,9 +7,9 @@ use Rattle.bundle_names.specs.declared.globals.Sort.{Sort}
 use Rattle.bundle_names.specs.declared.globals.Sort.TheVariants as sorts
 use Rattle.bundle_names.specs.declared.globals.Counts.{Counts}
 use Rattle.bundle_names.specs.declared.globals.Globals.{Globals}
-use Rattle.demands.specs.Names.{found}
+use Rattle.name_scopes.specs.Names.{found}
 use Rattle.bundle_names.specs.Globals.{with_function, with_item, with_items, no_globals, globals_of}
-use Rattle.bundle_tables.specs.Entries.{is_function, noted_signature, declared_entry, defined_signatures, function_entries, tables_of}
+use Rattle.checked_code.specs.Entries.{is_function, noted_signature, declared_entry, defined_signatures, function_entries, tables_of}
 use Rattle.join_laws.proofs.Names.{added_own, stays}
 use Rattle.join_laws.proofs.Numbers.{stands}
 use Rattle.bundle_facts.proofs.Names.{AreLow, IsLow, item_low, names_low}

@@ -1,15 +1,16 @@
 -- Instructions that meet their demands in the one bundle meet them in the other, and give what stands for what they give there.
 use Rattle.std.proofs.Common.{◌≡◌, ℕ, zero, suc, ◌<◌, Bool, true, false, List, [], ◌∷◌, ◌++◌, length, nat_eq, nat_lt, if◌then◌else◌, Option, Some, None, slice_get, is_some, refl, sym, ◌∙◌, subst, arith}
 use Rattle.std.specs.Option.{option_map_or}
+use Rattle.std.specs.Str.{bytes_eq}
 use Rattle.std.proofs.lemmas.Bool.{false≢true, and_parts, and_from}
-use Rattle.type_laws.specs.declared.definition.TypeDef.{TypeDef}
-use Rattle.type_laws.specs.declared.definition.TypeDef.TheVariants.{Int, Struct, Array, Hybrid, Ref, Iref, FuncRef}
+use Rattle.type_definitions.specs.declared.definition.TypeDef.{TypeDef}
+use Rattle.type_definitions.specs.declared.definition.TypeDef.TheVariants.{Int, Struct, Array, Hybrid, Ref, Iref, FuncRef}
 use Rattle.kin_laws.specs.Kin.{akin}
-use Rattle.type_laws.specs.Same.{same}
-use Rattle.type_laws.specs.Class.{class_of}
-use Rattle.type_laws.proofs.Proved.{decided}
+use Rattle.type_definitions.specs.Same.{same}
+use Rattle.type_definitions.specs.Class.{class_of}
+use Rattle.type_definitions.proofs.Proved.{decided}
 use Rattle.kin_laws.proofs.Kin.{kin_both}
-use Rattle.type_laws.specs.Parts.{parts_at}
+use Rattle.type_definitions.specs.Parts.{parts_at}
 use Rattle.ir_lex.specs.declared.name.Name.{Name}
 use Rattle.ir_lex.specs.declared.name.Numeral.{Numeral}
 use Rattle.ir_lex.specs.declared.token.Number.{Number}
@@ -39,22 +40,22 @@ use Rattle.ir_tree.specs.declared.code.Inst.{Inst}
 use Rattle.check_tables.specs.declared.fault.CheckKind.TheVariants.{OperandType}
 use Rattle.check_tables.specs.declared.tables.Signature.{Signature}
 use Rattle.check_tables.specs.declared.tables.Tables.{Tables}
-use Rattle.code_check.specs.declared.scopes.Locals.{Locals}
-use Rattle.code_check.specs.declared.scopes.Body.{Body}
+use Rattle.checked_code.specs.declared.scopes.Locals.{Locals}
+use Rattle.checked_code.specs.declared.scopes.Body.{Body}
 use Rattle.mu_types.specs.Graph.{Table}
 use Rattle.demands.specs.Demands.{AllMet, none}
 use Rattle.check_tables.specs.Types.{class_like, definition_at, definition_in, class_in, iref_in, is_type_there, ref_in, int1, int32, stackref, ref_void}
 use Rattle.check_tables.specs.TypeTests.{is_int, is_sized, is_no_hybrid, is_scalar, is_castable, are_cast, is_hybrid, is_struct, is_int64, is_index_type, is_value_type, fields_of, fixed_fields_of, field_at, element_of, repeated_of}
 use Rattle.check_tables.specs.Lookups.{type_named, definition_named, class_named, leaves_named, ref_named, iref_named, or_zero, signature_named, class_of_global, takes_of, gives_of, funcref_of, noted_classes}
-use Rattle.code_check.specs.Operands.{is_class, operand_class, operand_demands, variable_demands}
-use Rattle.code_check.specs.Destinations.{normal_demands, exceptional_demands}
-use Rattle.code_check.specs.Computations.{compares, converts, field_named, field_demands, computation_demands, computation_gives}
-use Rattle.code_check.specs.Control.{case_demands, are_classes, gives_these, control_demands, control_gives}
-use Rattle.code_check.specs.Objects.{fixed_field_named, allocation_demands, allocation_gives, addressing_demands, addressing_gives}
-use Rattle.code_check.specs.Accesses.{updates_type, access_demands, access_gives}
-use Rattle.code_check.specs.Stacks.{trapping_demands, trapping_gives, switch_demands, switch_gives, threadlocal_demands}
-use Rattle.code_check.specs.Commons.{common_demands, common_gives}
-use Rattle.code_check.specs.Instructions.{op_demands, gives, normal_of, exceptional_of, keepalive_of, is_ending, after, inst_demands, insts_demands}
+use Rattle.checked_code.specs.Operands.{is_class, operand_class, operand_demands, variable_demands}
+use Rattle.checked_code.specs.Destinations.{normal_demands, exceptional_demands}
+use Rattle.checked_code.specs.Computations.{compares, converts, field_named, field_demands, computation_demands, computation_gives}
+use Rattle.checked_code.specs.Control.{case_demands, gives_these, control_demands, control_gives}
+use Rattle.checked_code.specs.Objects.{fixed_field_named, allocation_demands, allocation_gives, addressing_demands, addressing_gives}
+use Rattle.checked_code.specs.Accesses.{updates_type, access_demands, access_gives}
+use Rattle.checked_code.specs.Stacks.{trapping_demands, trapping_gives, switch_demands, switch_gives, threadlocal_demands}
+use Rattle.checked_code.specs.Commons.{common_demands, common_gives}
+use Rattle.checked_code.specs.Instructions.{op_demands, gives, normal_of, exceptional_of, keepalive_of, is_ending, after, inst_demands, insts_demands}
 use Rattle.join_laws.proofs.Tests.{int_kept, sized_kept, no_hybrid_kept, scalar_kept, castable_kept, hybrid_kept, struct_kept, int64_kept, index_kept, compares_kept, updates_kept, cast_kept, convert_kept}
 use Rattle.join_laws.proofs.Classes.{Stands, Goes, AllGo, Pair, IsWrittenKin, NumberGoes, DefinitionGoes, shaped, test_goes, class_goes, class_stands, stands_same, definition_goes, below, is_below}
 use Rattle.join_laws.proofs.References.{FieldsGo, fields_go, fixed_go, element_goes, repeated_goes, field_goes, part_number, int1_goes, int32_goes, stackref_goes, threadref_goes, ref_void_goes}
@@ -233,13 +234,13 @@ cases_go : (p q : Tables) (f k : Body) (ls ms : Locals) (t : Name) (cs : List Ca
 cases_go p q f k ls ms t [] go body g m = tt
 cases_go p q f k ls ms t (c ∷ cs) go body g m = ((same_class p.types q.types go.pair (class_of_global p c.constant) (class_of_global q c.constant) (class_named p t) (class_named q t) (go.operand c.constant.text) (named_class p q go t) m.0.0, normal_goes p q f k ls ms c.destination go body g m.0.1), cases_go p q f k ls ms t cs go body g m.1)
 
-same_classes : (p q : Table) → Pair p q → (ts us xs ys : List ℕ) → AllGo p q ts xs → AllGo p q us ys → are_classes ts us ≡ true → are_classes xs ys ≡ true
+same_classes : (p q : Table) → Pair p q → (ts us xs ys : List ℕ) → AllGo p q ts xs → AllGo p q us ys → bytes_eq ts us ≡ true → bytes_eq xs ys ≡ true
 same_classes p q pair [] [] [] [] g h m = refl
 same_classes p q pair (t ∷ ts) (u ∷ us) (x ∷ xs) (y ∷ ys) g h m =
-    let both = and_parts (nat_eq t u) (are_classes ts us) m in
+    let both = and_parts (nat_eq t u) (bytes_eq ts us) m in
     let one : t ≡ u = nat_eq_is t u both.0 in
     let same : x ≡ y = stands_same p q pair u x y (subst (λ (k : ℕ). Stands p.definitions q.definitions k x) one g.0) h.0 in
-    and_from (nat_eq x y) (are_classes xs ys) (subst (λ (k : ℕ). nat_eq x k ≡ true) same (nat_same x)) (same_classes p q pair ts us xs ys g.1 h.1 both.1)
+    and_from (nat_eq x y) (bytes_eq xs ys) (subst (λ (k : ℕ). nat_eq x k ≡ true) same (nat_same x)) (same_classes p q pair ts us xs ys g.1 h.1 both.1)
 same_classes p q pair [] (u ∷ us) xs ys g h m = absurd (false≢true m)
 same_classes p q pair (t ∷ ts) [] xs ys g h m = absurd (false≢true m)
 same_classes p q pair [] [] (x ∷ xs) ys g h m = absurd g

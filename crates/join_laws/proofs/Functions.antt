@@ -1,11 +1,11 @@
 -- Functions as operands: what a name of a function stands for in a bundle, it stands for the like in the joined one.
 use Rattle.std.proofs.Common.{◌≡◌, ℕ, zero, suc, ◌+◌, ◌<◌, Bool, true, false, List, [], ◌∷◌, ◌++◌, length, Option, Some, None, slice_get, unwrap_or, option_and_then, if◌then◌else◌, ◌⊎◌, inl, inr, refl, sym, ◌∙◌, ap, subst, arith}
 use Rattle.std.proofs.lemmas.Bool.{false≢true, and_from}
-use Rattle.type_laws.specs.declared.definition.TypeDef.TheVariants.{FuncRef}
+use Rattle.type_definitions.specs.declared.definition.TypeDef.TheVariants.{FuncRef}
 use Rattle.std.proofs.lemmas.Option.{slice_get_within}
-use Rattle.type_laws.specs.Same.{same, agree_at}
-use Rattle.type_laws.specs.Class.{class_of}
-use Rattle.type_laws.proofs.Proved.{decided, congruence}
+use Rattle.type_definitions.specs.Same.{same, agree_at}
+use Rattle.type_definitions.specs.Class.{class_of}
+use Rattle.type_definitions.proofs.Proved.{decided, congruence}
 use Rattle.ir_lex.specs.declared.name.Name.{Name}
 use Rattle.ir_tree.specs.declared.definitions.Funcdecl.{Funcdecl}
 use Rattle.ir_tree.specs.declared.items.Funcdef.{Funcdef}
@@ -16,19 +16,19 @@ use Rattle.bundle_names.specs.declared.globals.Sort.TheVariants as sorts
 use Rattle.bundle_names.specs.declared.globals.Globals.{Globals}
 use Rattle.check_tables.specs.declared.tables.Signature.{Signature}
 use Rattle.demands.specs.Demands.{AllMet}
-use Rattle.demands.specs.Names.{found}
+use Rattle.name_scopes.specs.Names.{found}
 use Rattle.bundle_names.specs.Globals.{with_item, with_items, no_globals, globals_of}
 use Rattle.bundle_names.specs.Uses.{is_signature}
 use Rattle.bundle_names.specs.Naming.{name_demands}
 use Rattle.check_tables.specs.Types.{class_like}
 use Rattle.check_tables.specs.Lookups.{signature_number, signature_in, signature_named, funcref_of, global_class}
-use Rattle.bundle_tables.specs.Graph.{signature_id, type_ids}
+use Rattle.checked_code.specs.Graph.{signature_id, type_ids}
 use Rattle.bundle_names.specs.Definitions.{items_demands}
 use Rattle.bundle_names.specs.ItemUses.{item_use}
-use Rattle.bundle_tables.specs.Entries.{noted_signature, defined_signatures, is_function, declared_entry, function_entries, signature_entry, tables_of}
-use Rattle.code_check.specs.Operands.{is_class}
-use Rattle.bundle_check.specs.Functions.{class_of_signature}
-use Rattle.bundle_check.specs.Checking.{bundle_tables}
+use Rattle.checked_code.specs.Entries.{noted_signature, defined_signatures, is_function, declared_entry, function_entries, signature_entry, tables_of}
+use Rattle.checked_code.specs.Operands.{is_class}
+use Rattle.checked_code.specs.Functions.{class_of_signature}
+use Rattle.checked_code.specs.Checking.{bundle_tables}
 use Rattle.bundle_join.specs.Joined.{name_of}
 use Rattle.join_laws.proofs.Names.{some_is, added_cases}
 use Rattle.join_laws.proofs.Classes.{Goes, StandsIn, IsWhole, Pair, below, class_is_like}

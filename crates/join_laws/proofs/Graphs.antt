@@ -1,8 +1,8 @@
 -- The types of a bundle by name: what a name of a type leads to in the graph.
 use Rattle.std.proofs.Common.{◌≡◌, ℕ, suc, ◌+◌, ◌<◌, List, [], ◌∷◌, ◌++◌, length, Some, slice_get, inl, inr, refl, sym, ◌∙◌, ap, subst, append_assoc, arith}
 use Rattle.std.proofs.lemmas.List.{length-append}
-use Rattle.type_laws.specs.declared.definition.TypeDef.{TypeDef}
-use Rattle.type_laws.specs.declared.definition.TypeDef.TheVariants.{Int, Void, StackRef, ThreadRef, Sig}
+use Rattle.type_definitions.specs.declared.definition.TypeDef.{TypeDef}
+use Rattle.type_definitions.specs.declared.definition.TypeDef.TheVariants.{Int, Void, StackRef, ThreadRef, Sig}
 use Rattle.ir_lex.specs.declared.name.Name.{Name}
 use Rattle.ir_tree.specs.declared.definitions.Typedef.{Typedef}
 use Rattle.ir_tree.specs.declared.definitions.Funcsig.{Funcsig}
@@ -11,11 +11,11 @@ use Rattle.ir_tree.specs.declared.items.Item.TheVariants as items
 use Rattle.bundle_names.specs.declared.globals.Sort.TheVariants as sorts
 use Rattle.bundle_names.specs.declared.globals.Globals.{Globals}
 use Rattle.demands.specs.Demands.{AllMet}
-use Rattle.demands.specs.Names.{found}
+use Rattle.name_scopes.specs.Names.{found}
 use Rattle.mu_types.specs.Implied.{complete, references_from}
 use Rattle.bundle_names.specs.Globals.{with_item, with_items, no_globals, globals_of}
 use Rattle.bundle_names.specs.Definitions.{items_demands}
-use Rattle.bundle_tables.specs.Graph.{type_id, type_ids, signature_id, type_definition, types_of, signatures_of, graph_of}
+use Rattle.checked_code.specs.Graph.{type_id, type_ids, signature_id, type_definition, types_of, signatures_of, graph_of}
 pub use Rattle.bundle_laws.proofs.Graph.{get_right}
 pub use Rattle.bundle_facts.proofs.Completed.{get_left}
 use Rattle.join_laws.proofs.Classes.{below}

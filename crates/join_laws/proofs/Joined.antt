@@ -1,10 +1,10 @@
 -- A bundle each of whose items is in another one, alike: its types are kin to the types of the same names there.
 use Rattle.std.proofs.Common.{◌≡◌, ℕ, zero, suc, ◌+◌, Bool, true, ◌&&◌, ◌==◌, List, [], ◌∷◌, ◌++◌, length, Option, Some, slice_get, refl, sym, ◌∙◌, ap, subst}
 use Rattle.std.proofs.lemmas.Bool.{false≢true, and_parts, and_from, eq-eqb}
-use Rattle.type_laws.specs.declared.definition.TypeDef.{TypeDef}
-use Rattle.type_laws.specs.declared.definition.TypeDef.TheVariants.{Sig}
-use Rattle.type_laws.specs.Definition.{constructor, number, arguments}
-use Rattle.type_laws.specs.Same.{pairs, agree, agree_at}
+use Rattle.type_definitions.specs.declared.definition.TypeDef.{TypeDef}
+use Rattle.type_definitions.specs.declared.definition.TypeDef.TheVariants.{Sig}
+use Rattle.type_definitions.specs.Definition.{constructor, number, arguments}
+use Rattle.type_definitions.specs.Same.{pairs, agree, agree_at}
 use Rattle.kin_laws.specs.Kin.{akin, Kin}
 use Rattle.kin_laws.proofs.Parts.{kin_is}
 use Rattle.ir_lex.specs.declared.name.Name.{Name}
@@ -17,13 +17,13 @@ use Rattle.ir_tree.specs.declared.items.Item.TheVariants as items
 use Rattle.bundle_names.specs.declared.globals.Sort.{Sort}
 use Rattle.bundle_names.specs.declared.globals.Sort.TheVariants as sorts
 use Rattle.demands.specs.Demands.{AllMet}
-use Rattle.demands.specs.Names.{Names, found}
+use Rattle.name_scopes.specs.Names.{Names, found}
 use Rattle.mu_types.specs.Implied.{complete}
 use Rattle.bundle_names.specs.Globals.{no_globals, globals_of}
 use Rattle.bundle_names.specs.Definitions.{items_demands}
 use Rattle.bundle_names.specs.Uses.{is_type, is_signature, type_uses}
 use Rattle.bundle_names.specs.ItemUses.{form_use, item_use, item_uses}
-use Rattle.bundle_tables.specs.Graph.{type_id, type_ids, signature_id, type_definition, size_of, types_of, graph_of}
+use Rattle.checked_code.specs.Graph.{type_id, type_ids, signature_id, type_definition, size_of, types_of, graph_of}
 use Rattle.join_laws.proofs.Alike.{SameNames, SameForm, Alike}
 use Rattle.join_laws.proofs.Graphs.{In, TypeOf, type_of_name, TypeIs, type_is, SignatureOf, signature_of_name, SignatureIs, signature_is, id_of_type, id_of_signature}
 

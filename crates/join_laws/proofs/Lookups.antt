@@ -1,14 +1,14 @@
 -- What the names of two bundles stand for: what a name stands for in the first, it stands for the like in the second.
 use Rattle.std.proofs.Common.{◌≡◌, ℕ, Bool, true, false, List, length, nat_lt, nat_le, if◌then◌else◌, Option, Some, None, slice_get, is_some, refl, sym, ◌∙◌}
 use Rattle.std.proofs.lemmas.Bool.{false≢true, and_parts}
-use Rattle.type_laws.specs.declared.definition.TypeDef.{TypeDef}
-use Rattle.type_laws.specs.declared.definition.TypeDef.TheVariants.{Sig}
-use Rattle.type_laws.specs.Class.{class_of}
+use Rattle.type_definitions.specs.declared.definition.TypeDef.{TypeDef}
+use Rattle.type_definitions.specs.declared.definition.TypeDef.TheVariants.{Sig}
+use Rattle.type_definitions.specs.Class.{class_of}
 use Rattle.ir_lex.specs.declared.name.Name.{Name}
 use Rattle.check_tables.specs.declared.tables.Signature.{Signature}
 use Rattle.check_tables.specs.declared.tables.Tables.{Tables}
 use Rattle.mu_types.specs.Graph.{Table}
-use Rattle.demands.specs.Names.{found}
+use Rattle.name_scopes.specs.Names.{found}
 use Rattle.check_tables.specs.Types.{definition_at, definition_in, class_at, class_in, ref_in, iref_in, is_type_there}
 use Rattle.check_tables.specs.Lookups.{written_number, signature_number, signature_in, global_class, type_named, definition_named, class_named, leaves_named, ref_named, iref_named, noted_class, or_zero, takes_of, gives_of, funcref_of}
 use Rattle.check_tables.specs.TypeTests.{is_sized, is_no_hybrid, is_value_type}

@@ -4,8 +4,8 @@ use Rattle.ir_tree.specs.declared.items.Item.{Item}
 use Rattle.demands.specs.Demands.{AllMet}
 use Rattle.bundle_names.specs.Globals.{no_globals}
 use Rattle.bundle_names.specs.Naming.{name_demands}
-use Rattle.bundle_tables.specs.Entries.{tables_of}
-use Rattle.bundle_check.specs.Checking.{bundle_tables, check_demands}
+use Rattle.checked_code.specs.Entries.{tables_of}
+use Rattle.checked_code.specs.Checking.{bundle_tables, check_demands}
 use Rattle.bundle_join.specs.Joined.{joined}
 use Rattle.join_laws.proofs.Classes.{Pair}
 use Rattle.join_laws.proofs.Members.{met_once}

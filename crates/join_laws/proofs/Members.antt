@@ -9,7 +9,7 @@ use Rattle.ir_tree.specs.declared.items.Item.TheVariants as items
 use Rattle.bundle_names.specs.declared.globals.Sort.{Sort}
 use Rattle.bundle_names.specs.declared.globals.Globals.{Globals}
 use Rattle.demands.specs.Demands.{AllMet}
-use Rattle.demands.specs.Names.{Names, found, added}
+use Rattle.name_scopes.specs.Names.{Names, found, added}
 use Rattle.bundle_names.specs.Globals.{with_item, with_items, no_globals}
 use Rattle.bundle_names.specs.Definitions.{may_be_function, items_demands, item_demands, blocks_demands}
 use Rattle.join_laws.proofs.Names.{stays, added_own, added_cases}

@@ -3,7 +3,7 @@ use Rattle.std.proofs.Common.{◌≡◌, ℕ, Bool, true, false, List, Option, S
 use Rattle.std.proofs.lemmas.Slice.Eq.{bytes_eq-Decides}
 use Rattle.std.specs.Str.{bytes_eq}
 use Rattle.demands.specs.Demands.{or_else}
-use Rattle.demands.specs.Names.{Names, found, added}
+use Rattle.name_scopes.specs.Names.{Names, found, added}
 pub use Rattle.model_numbers.proofs.Names.{some_is, found_added, stays}
 
 -- a new name stands for what was added

@@ -7,7 +7,7 @@ use Rattle.bundle_names.specs.declared.globals.Sort.{Sort}
 use Rattle.bundle_names.specs.declared.globals.Sort.TheVariants as sorts
 use Rattle.bundle_names.specs.declared.globals.Globals.{Globals}
 use Rattle.demands.specs.Demands.{AllMet}
-use Rattle.demands.specs.Names.{Names, found, added}
+use Rattle.name_scopes.specs.Names.{Names, found, added}
 use Rattle.bundle_names.specs.Globals.{with_item, with_items}
 use Rattle.bundle_names.specs.Definitions.{may_be_function, items_demands}
 pub use Rattle.bundle_join.specs.Joined.{name_of}

@@ -12,18 +12,18 @@ use Rattle.ir_tree.specs.declared.operands.NewStackClause.TheVariants as clauses
 use Rattle.check_tables.specs.declared.fault.CheckKind.{CheckKind}
 use Rattle.check_tables.specs.declared.fault.CheckKind.TheVariants.{OperandType, ArgumentType}
 use Rattle.check_tables.specs.declared.tables.Tables.{Tables}
-use Rattle.code_check.specs.declared.scopes.Variable.{Variable}
-use Rattle.code_check.specs.declared.scopes.Locals.{Locals}
-use Rattle.code_check.specs.declared.scopes.BlockEntry.{BlockEntry}
-use Rattle.code_check.specs.declared.scopes.Body.{Body}
+use Rattle.checked_code.specs.declared.scopes.Variable.{Variable}
+use Rattle.checked_code.specs.declared.scopes.Locals.{Locals}
+use Rattle.checked_code.specs.declared.scopes.BlockEntry.{BlockEntry}
+use Rattle.checked_code.specs.declared.scopes.Body.{Body}
 use Rattle.mu_types.specs.Graph.{Table}
 use Rattle.demands.specs.Demands.{AllMet, or_else}
-use Rattle.demands.specs.Names.{found}
+use Rattle.name_scopes.specs.Names.{found}
 use Rattle.check_tables.specs.Types.{ref_void}
 use Rattle.check_tables.specs.Lookups.{class_named}
-use Rattle.code_check.specs.Operands.{is_there, operand_class, variable_class, is_class, operand_demands, of_type, member_demands, argument_demands, value_type_demands, noted_list, variable_demands}
-use Rattle.code_check.specs.Destinations.{block_named, entry_takes, takes_no_exception, exceptional_demands, normal_demands, entered_demands}
-use Rattle.code_check.specs.Instructions.{bound, bound_results}
+use Rattle.checked_code.specs.Operands.{is_there, operand_class, variable_class, is_class, operand_demands, of_type, member_demands, argument_demands, value_type_demands, noted_list, variable_demands}
+use Rattle.checked_code.specs.Destinations.{block_named, entry_takes, takes_no_exception, exceptional_demands, normal_demands, entered_demands}
+use Rattle.checked_code.specs.Instructions.{bound, bound_results}
 use Rattle.join_laws.proofs.Names.{found_added}
 use Rattle.join_laws.proofs.Classes.{Stands, Goes, AllGo, Pair, stands_same}
 use Rattle.join_laws.proofs.References.{ref_void_goes}

@@ -1,11 +1,11 @@
 -- The graphs of a bundle and of a joined one: each written type has kin, and where no type of a bundle contains itself, none of the joined one does.
 use Rattle.std.proofs.Common.{◌≡◌, ℕ, zero, suc, ◌+◌, ◌-◌, ◌<◌, ◌≤◌, Bool, true, false, List, [], ◌∷◌, ◌++◌, length, Option, Some, slice_get, cond, ◌⊎◌, inl, inr, refl, sym, ◌∙◌, ap, subst, append_assoc, arith}
 use Rattle.std.proofs.lemmas.List.{length-append}
-use Rattle.type_laws.specs.declared.definition.TypeDef.{TypeDef}
-use Rattle.type_laws.specs.declared.definition.TypeDef.TheVariants.{Int, Void, Ref, Iref, FuncRef, StackRef, ThreadRef}
-use Rattle.type_laws.specs.Laws.{IsFinite}
-use Rattle.type_laws.specs.Same.{IsGraph}
-use Rattle.type_laws.specs.Parts.{parts_at, leads}
+use Rattle.type_definitions.specs.declared.definition.TypeDef.{TypeDef}
+use Rattle.type_definitions.specs.declared.definition.TypeDef.TheVariants.{Int, Void, Ref, Iref, FuncRef, StackRef, ThreadRef}
+use Rattle.type_definitions.specs.Laws.{IsFinite}
+use Rattle.type_definitions.specs.Same.{IsGraph}
+use Rattle.type_definitions.specs.Parts.{parts_at, leads}
 use Rattle.kin_laws.proofs.Parts.{finite_kin}
 use Rattle.ir_tree.specs.declared.definitions.Typedef.{Typedef}
 use Rattle.ir_tree.specs.declared.definitions.Funcsig.{Funcsig}
@@ -17,7 +17,7 @@ use Rattle.demands.specs.Demands.{AllMet}
 use Rattle.mu_types.specs.Implied.{complete, references_from, is_signature}
 use Rattle.bundle_names.specs.Globals.{no_globals, globals_of}
 use Rattle.bundle_names.specs.Definitions.{items_demands}
-use Rattle.bundle_tables.specs.Graph.{types_of, signatures_of, graph_of}
+use Rattle.checked_code.specs.Graph.{types_of, signatures_of, graph_of}
 use Rattle.join_laws.proofs.Classes.{IsWrittenKin}
 use Rattle.join_laws.proofs.Graphs.{In, get_right, type_is, signature_is}
 use Rattle.join_laws.proofs.Members.{in_of, member_of}

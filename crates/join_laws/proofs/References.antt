@@ -2,10 +2,10 @@
 use Rattle.std.proofs.Common.{◌≡◌, ℕ, zero, suc, ◌<◌, Bool, true, false, ◌&&◌, List, [], ◌∷◌, ◌++◌, length, nat_lt, nat_le, if◌then◌else◌, Option, Some, None, slice_get, is_some, refl, subst}
 use Rattle.std.proofs.Common.{◌==◌}
 use Rattle.std.proofs.lemmas.Bool.{false≢true, and_parts, and_from}
-use Rattle.type_laws.specs.declared.definition.TypeDef.{TypeDef}
-use Rattle.type_laws.specs.declared.definition.TypeDef.TheVariants.{Int, Struct, Array, Hybrid, Void, Ref, Iref, FuncRef, StackRef, ThreadRef}
-use Rattle.type_laws.specs.Definition.{constructor, number, arguments}
-use Rattle.type_laws.specs.Same.{pairs}
+use Rattle.type_definitions.specs.declared.definition.TypeDef.{TypeDef}
+use Rattle.type_definitions.specs.declared.definition.TypeDef.TheVariants.{Int, Struct, Array, Hybrid, Void, Ref, Iref, FuncRef, StackRef, ThreadRef}
+use Rattle.type_definitions.specs.Definition.{constructor, number, arguments}
+use Rattle.type_definitions.specs.Same.{pairs}
 use Rattle.kin_laws.specs.Kin.{akin, Kin}
 use Rattle.kin_laws.proofs.Parts.{AllKin, all_kin, leaves_kin}
 use Rattle.ir_lex.specs.declared.token.Number.{Number}

@@ -1,10 +1,10 @@
 -- A bundle that meets the demands on names has a whole graph, and where it meets all demands, no type of it contains itself.
 use Rattle.std.proofs.Common.{◌≡◌, ℕ, ◌+◌, ◌-◌, ◌≤◌, Bool, true, false, not, List, [], ◌∷◌, ◌++◌, length, slice_get, inl, inr, refl, ◌∙◌, ap, arith}
 use Rattle.std.proofs.lemmas.List.{length-append}
-use Rattle.type_laws.specs.declared.definition.TypeDef.{TypeDef}
-use Rattle.type_laws.specs.declared.definition.TypeDef.TheVariants.{Int, Void, Ref, Iref, FuncRef, StackRef, ThreadRef}
-use Rattle.type_laws.specs.Laws.{IsFinite}
-use Rattle.type_laws.specs.Parts.{parts_at, contains_itself}
+use Rattle.type_definitions.specs.declared.definition.TypeDef.{TypeDef}
+use Rattle.type_definitions.specs.declared.definition.TypeDef.TheVariants.{Int, Void, Ref, Iref, FuncRef, StackRef, ThreadRef}
+use Rattle.type_definitions.specs.Laws.{IsFinite}
+use Rattle.type_definitions.specs.Parts.{parts_at, contains_itself}
 use Rattle.ir_tree.specs.declared.items.Item.{Item}
 use Rattle.demands.specs.Demands.{AllMet}
 use Rattle.mu_types.specs.Implied.{complete, references_from}
@@ -12,14 +12,14 @@ use Rattle.mu_types.specs.TypeDemands.{endless_type, passes}
 use Rattle.bundle_names.specs.Globals.{globals_of}
 use Rattle.bundle_names.specs.Naming.{name_demands}
 use Rattle.check_tables.specs.Types.{is_type_there, is_sig}
-use Rattle.bundle_tables.specs.Graph.{graph_of, places_of}
-use Rattle.bundle_check.specs.Checking.{check_demands}
+use Rattle.checked_code.specs.Graph.{graph_of, places_of}
+use Rattle.checked_code.specs.Checking.{check_demands}
 use Rattle.join_laws.proofs.Classes.{IsWhole}
 use Rattle.join_laws.proofs.Joined.{graph}
 use Rattle.join_laws.proofs.Tables.{table}
 use Rattle.join_laws.proofs.Pairs.{cases_low, leads_none, implied_parts}
 use Rattle.join_laws.proofs.Types.{each_at, of_kind, from_zero}
-use Rattle.mu_types.proofs.References.{headed}
+use Rattle.mu_types.specs.CompleteLaws.{headed}
 use Rattle.bundle_laws.proofs.Graph.{counted, bundle_some, graph_is, part_is_type}
 use Rattle.bundle_facts.proofs.Completed.{reference_in, void_in, ref_stands, funcref_stands, written_there}
 

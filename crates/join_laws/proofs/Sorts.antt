@@ -8,7 +8,7 @@ use Rattle.bundle_names.specs.declared.globals.Sort.{Sort}
 use Rattle.bundle_names.specs.declared.globals.Sort.TheVariants as sorts
 use Rattle.bundle_names.specs.declared.globals.Globals.{Globals}
 use Rattle.demands.specs.Demands.{AllMet}
-use Rattle.demands.specs.Names.{Names, found}
+use Rattle.name_scopes.specs.Names.{Names, found}
 use Rattle.bundle_names.specs.Globals.{with_items, no_globals, globals_of}
 use Rattle.bundle_names.specs.Definitions.{items_demands}
 use Rattle.bundle_names.specs.ItemUses.{item_use, item_uses}

@@ -1,7 +1,7 @@
 -- The tables of a bundle each of whose items is in another one, alike, stand for those of the other.
 use Rattle.std.proofs.Common.{◌≡◌, ℕ, suc, ◌<◌, true, List, [], ◌∷◌, ◌++◌, length, Option, Some, slice_get, is_some, option_and_then, inl, inr, refl, sym, ◌∙◌, ap, arith}
 use Rattle.std.proofs.lemmas.List.{length-append}
-use Rattle.type_laws.specs.declared.definition.TypeDef.TheVariants.{Sig}
+use Rattle.type_definitions.specs.declared.definition.TypeDef.TheVariants.{Sig}
 use Rattle.ir_lex.specs.declared.name.Name.{Name}
 use Rattle.ir_tree.specs.declared.definitions.Funcsig.{Funcsig}
 use Rattle.ir_tree.specs.declared.items.Item.{Item}
@@ -12,13 +12,13 @@ use Rattle.bundle_names.specs.declared.globals.Globals.{Globals}
 use Rattle.check_tables.specs.declared.tables.Signature.{Signature}
 use Rattle.mu_types.specs.Graph.{Table}
 use Rattle.demands.specs.Demands.{AllMet}
-use Rattle.demands.specs.Names.{found}
+use Rattle.name_scopes.specs.Names.{found}
 use Rattle.bundle_names.specs.Globals.{with_items, no_globals, globals_of}
 use Rattle.bundle_names.specs.Uses.{is_type, type_uses}
 use Rattle.check_tables.specs.Types.{class_at, class_in, definition_at, funcref_at, is_sig}
 use Rattle.check_tables.specs.Lookups.{written_number, signature_number}
-use Rattle.bundle_tables.specs.Graph.{type_ids, types_of, signatures_of, table_of}
-use Rattle.bundle_tables.specs.Entries.{noted_type, noted_types, signature_entry, signature_entries}
+use Rattle.checked_code.specs.Graph.{type_ids, types_of, signatures_of, table_of}
+use Rattle.checked_code.specs.Entries.{noted_type, noted_types, signature_entry, signature_entries}
 use Rattle.join_laws.proofs.Numbers.{name_of, sort_of, FoundAt, leads_to}
 use Rattle.join_laws.proofs.Classes.{Stands, AllGo, Pair, IsWrittenKin, NumberGoes, below, class_goes}
 use Rattle.join_laws.proofs.References.{funcref_goes}

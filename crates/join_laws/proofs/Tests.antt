@@ -1,8 +1,8 @@
 -- Tests of definitions by constructor and number.
 use Rattle.std.proofs.Common.{◌≡◌, ℕ, Bool, true, false, ◌&&◌, ◌||◌, not, nat_eq, nat_le, Option, Some, None, refl, sym, ◌∙◌, ap₂}
-use Rattle.type_laws.specs.declared.definition.TypeDef.{TypeDef}
-use Rattle.type_laws.specs.declared.definition.TypeDef.TheVariants.{Int, Ref, Iref, FuncRef}
-use Rattle.type_laws.specs.Definition.{constructor, number}
+use Rattle.type_definitions.specs.declared.definition.TypeDef.{TypeDef}
+use Rattle.type_definitions.specs.declared.definition.TypeDef.TheVariants.{Int, Ref, Iref, FuncRef}
+use Rattle.type_definitions.specs.Definition.{constructor, number}
 use Rattle.check_tables.specs.TypeTests.{is_int, is_sized, is_no_hybrid, is_scalar, is_castable, are_cast, is_hybrid, is_struct, is_int64, is_index_type}
 use Rattle.check_tables.specs.Types.{is_sig, is_type_there}
 use Rattle.mu_base.specs.declared.operators.CompareOp.{CompareOp}
@@ -11,8 +11,8 @@ use Rattle.mu_base.specs.declared.operators.ConvertOp.{ConvertOp}
 use Rattle.mu_base.specs.declared.operators.UpdateOp.{UpdateOp}
 use Rattle.mu_base.specs.declared.operators.UpdateOp.TheVariants as updates
 use Rattle.mu_values.specs.Integers.{is_conversion}
-use Rattle.code_check.specs.Computations.{compares, converts}
-use Rattle.code_check.specs.Accesses.{updates_type}
+use Rattle.checked_code.specs.Computations.{compares, converts}
+use Rattle.checked_code.specs.Accesses.{updates_type}
 
 -- a test that nothing passes, and that passes on to each definition of the same constructor and number
 pub record IsKept (test : Option TypeDef → Bool) : Type 0 where

@@ -2,11 +2,11 @@
 use Rattle.std.proofs.Common.{◌≡◌, ℕ, zero, suc, ◌+◌, ◌<◌, true, ◌||◌, not, nat_eq, nat_le, List, [], ◌∷◌, ◌++◌, length, Option, Some, slice_get, slice_index, inl, inr, refl, sym, ◌∙◌, ap, subst, arith}
 use Rattle.std.specs.Prelude.{slice_index_or}
 use Rattle.std.proofs.lemmas.List.{length-append}
-use Rattle.type_laws.specs.declared.definition.TypeDef.{TypeDef}
-use Rattle.type_laws.specs.declared.definition.TypeDef.TheVariants.{Int, Struct, Array, Hybrid, Void, Ref, Iref, FuncRef, StackRef, ThreadRef, Sig}
-use Rattle.type_laws.specs.Definition.{constructor, number, arguments}
-use Rattle.type_laws.specs.Same.{IsGraph}
-use Rattle.type_laws.specs.Laws.{IsFinite}
+use Rattle.type_definitions.specs.declared.definition.TypeDef.{TypeDef}
+use Rattle.type_definitions.specs.declared.definition.TypeDef.TheVariants.{Int, Struct, Array, Hybrid, Void, Ref, Iref, FuncRef, StackRef, ThreadRef, Sig}
+use Rattle.type_definitions.specs.Definition.{constructor, number, arguments}
+use Rattle.type_definitions.specs.Same.{IsGraph}
+use Rattle.type_definitions.specs.Laws.{IsFinite}
 use Rattle.kin_laws.specs.Kin.{Kin}
 use Rattle.kin_laws.proofs.Parts.{AllKin, defined, leaves_kin}
 use Rattle.ir_tree.specs.declared.items.Item.{Item}
@@ -19,7 +19,7 @@ use Rattle.check_tables.specs.declared.fault.CheckKind.TheVariants.{Types}
 use Rattle.demands.specs.Demands.{Demands, none, demand, ◌⨾◌, AllMet, as_kind}
 use Rattle.mu_types.specs.TypeDemands.{each, place, can_be_part, judged, allows, wrong_arguments, wrong_arguments_of, endless_type, too_many_leaves, passes}
 use Rattle.bundle_names.specs.Globals.{globals_of}
-use Rattle.bundle_tables.specs.Graph.{types_of, signatures_of, places_of, type_demands}
+use Rattle.checked_code.specs.Graph.{types_of, signatures_of, places_of, type_demands}
 use Rattle.join_laws.proofs.Tests.{IsKept}
 use Rattle.join_laws.proofs.Tests.{by_numbers}
 use Rattle.join_laws.proofs.Classes.{kin_definitions, test_goes}

@@ -25,7 +25,7 @@ use Rattle.bundle_names.specs.declared.globals.Sort.{Sort}
 use Rattle.bundle_names.specs.declared.globals.Sort.TheVariants as sorts
 use Rattle.bundle_names.specs.declared.function_names.FunctionNames.{FunctionNames}
 use Rattle.demands.specs.Demands.{AllMet, none}
-use Rattle.demands.specs.Names.{Names, found}
+use Rattle.name_scopes.specs.Names.{Names, found}
 use Rattle.bundle_names.specs.Uses.{each, is_type, is_signature, is_constant, is_operand, type_use, signature_use, constant_use, type_uses, operand_use, operand_uses, destination_use, exception_use, entered_use}
 use Rattle.bundle_names.specs.BodyUses.{names_of, op_use, inst_uses, parameter_uses, block_uses}
 use Rattle.bundle_names.specs.ItemUses.{form_use, literal_use, item_use}

@@ -11,14 +11,14 @@ use Rattle.bundle_names.specs.declared.globals.Sort.{Sort}
 use Rattle.bundle_names.specs.declared.globals.Sort.TheVariants as sorts
 use Rattle.bundle_names.specs.declared.globals.Globals.{Globals}
 use Rattle.mu_types.specs.Graph.{Table}
-use Rattle.demands.specs.Names.{found}
+use Rattle.name_scopes.specs.Names.{found}
 use Rattle.bundle_names.specs.Globals.{with_item, with_items, no_globals, globals_of}
 use Rattle.bundle_names.specs.Uses.{is_type}
 use Rattle.check_tables.specs.Types.{definition_at, iref_in, is_type_there}
 use Rattle.check_tables.specs.Lookups.{written_number, signature_number, signature_in, global_class, or_zero}
-use Rattle.bundle_tables.specs.Graph.{type_definition}
-use Rattle.bundle_tables.specs.Entries.{noted_type, constant_entries, global_entries, tables_of}
-use Rattle.bundle_check.specs.Checking.{bundle_tables}
+use Rattle.checked_code.specs.Graph.{type_definition}
+use Rattle.checked_code.specs.Entries.{noted_type, constant_entries, global_entries, tables_of}
+use Rattle.checked_code.specs.Checking.{bundle_tables}
 use Rattle.join_laws.proofs.Numbers.{name_of, sort_of, leads_to}
 use Rattle.join_laws.proofs.Classes.{Stands, Goes, Pair, below}
 use Rattle.join_laws.proofs.References.{iref_goes}

@@ -5,11 +5,11 @@ use Rattle.ir_tree.specs.declared.items.Funcdef.{Funcdef}
 use Rattle.ir_tree.specs.declared.items.Item.{Item}
 use Rattle.ir_tree.specs.declared.items.Item.TheVariants as items
 use Rattle.demands.specs.Demands.{AllMet}
-use Rattle.demands.specs.Names.{found}
+use Rattle.name_scopes.specs.Names.{found}
 use Rattle.bundle_names.specs.Globals.{globals_of}
-use Rattle.bundle_tables.specs.Rules.{constant_types}
-use Rattle.bundle_check.specs.Functions.{is_as_declared}
-use Rattle.bundle_check.specs.Checking.{bundle_tables, check_demands}
+use Rattle.checked_code.specs.Rules.{constant_types}
+use Rattle.checked_code.specs.Functions.{is_as_declared}
+use Rattle.checked_code.specs.Checking.{bundle_tables, check_demands}
 use Rattle.join_laws.proofs.Classes.{Pair}
 use Rattle.join_laws.proofs.Lookups.{TablesGo, type_test}
 use Rattle.join_laws.proofs.Tests.{sized_kept}

@@ -6,7 +6,7 @@ use Rattle.check_tables.specs.declared.tables.Tables.{Tables}
 use Rattle.demands.specs.Demands.{first_unmet}
 use Rattle.check_tables.specs.Lookups.{leaves_named}
 use Rattle.bundle_names.specs.Naming.{name_demands}
-use Rattle.bundle_check.specs.Checking.{bundle_tables, check_demands}
+use Rattle.checked_code.specs.Checking.{bundle_tables, check_demands}
 use Rattle.ir_tree.specs.declared.definitions.Typedef.{Typedef}
 use Rattle.ir_tree.specs.declared.definitions.Funcsig.{Funcsig}
 use Rattle.ir_tree.specs.declared.definitions.Const.{Const}

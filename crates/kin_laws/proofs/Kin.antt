@@ -2,10 +2,10 @@
 use Rattle.std.proofs.Common.{◌≡◌, ℕ, zero, suc, ◌<◌, Bool, true, List, length, Option, Some, None, slice_get, ◌==◌, ◌&&◌, refl, sym, ◌∙◌, ap, subst}
 use Rattle.std.proofs.lemmas.Bool.{false≢true, and_parts, and_from, eqb-true}
 use Rattle.std.proofs.Common.{eq-eqb}
-use Rattle.type_laws.specs.declared.definition.TypeDef.{TypeDef}
-use Rattle.type_laws.specs.Definition.{constructor, number, arguments}
-use Rattle.type_laws.specs.Same.{pairs, agree_at, alike, same, IsGraph}
-use Rattle.type_laws.proofs.Depth.{pairs_back, pairs_over, alike_back, same_to_each_depth}
+use Rattle.type_definitions.specs.declared.definition.TypeDef.{TypeDef}
+use Rattle.type_definitions.specs.Definition.{constructor, number, arguments}
+use Rattle.type_definitions.specs.Same.{pairs, agree_at, alike, same, IsGraph}
+use Rattle.type_definitions.proofs.Depth.{pairs_back, pairs_over, alike_back, same_to_each_depth}
 use Rattle.kin_laws.specs.Kin.{akin, Kin, KinDecides}
 
 -- two definitions that agree by r

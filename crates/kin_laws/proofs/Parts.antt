@@ -4,19 +4,19 @@ use Rattle.std.specs.List.{list_any, sum_by}
 use Rattle.std.proofs.lemmas.Option.{slice_get_within}
 use Rattle.std.proofs.Common.{◌&&◌}
 use Rattle.std.proofs.lemmas.Bool.{false≢true, and_parts, eqb-true}
-use Rattle.type_laws.specs.declared.definition.TypeDef.{TypeDef}
-use Rattle.type_laws.specs.declared.definition.TypeDef.TheVariants.{Int, Struct, Array, Hybrid, Void, Ref, Iref, FuncRef, StackRef, ThreadRef, Sig}
-use Rattle.type_laws.specs.Definition.{constructor, number, arguments}
-use Rattle.type_laws.specs.Same.{pairs, agree_at, IsGraph}
-use Rattle.type_laws.specs.Parts.{parts, parts_at, leads, contains_itself}
-use Rattle.type_laws.specs.Leaves.{leaves, leaves_at}
-use Rattle.type_laws.specs.Laws.{IsFinite}
-use Rattle.type_laws.specs.Counts.{count_by}
+use Rattle.type_definitions.specs.declared.definition.TypeDef.{TypeDef}
+use Rattle.type_definitions.specs.declared.definition.TypeDef.TheVariants.{Int, Struct, Array, Hybrid, Void, Ref, Iref, FuncRef, StackRef, ThreadRef, Sig}
+use Rattle.type_definitions.specs.Definition.{constructor, number, arguments}
+use Rattle.type_definitions.specs.Same.{pairs, agree_at, IsGraph}
+use Rattle.type_definitions.specs.Parts.{parts, parts_at, leads, contains_itself}
+use Rattle.type_definitions.specs.Leaves.{leaves, leaves_at}
+use Rattle.type_definitions.specs.Laws.{IsFinite}
+use Rattle.type_definitions.specs.Counts.{count_by}
 use Rattle.std.proofs.lemmas.List.Sums.{sum_by-cons}
-use Rattle.type_laws.proofs.Counts.{counted}
-use Rattle.type_laws.proofs.Descents.{goes, goes_ends}
-use Rattle.type_laws.proofs.Unfolds.{leaves_are}
-use Rattle.type_laws.proofs.Ranks.{or_cases}
+use Rattle.type_definitions.proofs.Counts.{counted}
+use Rattle.type_definitions.proofs.Descents.{goes, goes_ends}
+use Rattle.type_definitions.proofs.Unfolds.{leaves_are}
+use Rattle.type_definitions.proofs.Ranks.{or_cases}
 use Rattle.kin_laws.specs.Kin.{akin, Kin}
 use Rattle.kin_laws.proofs.Kin.{agrees}
 

@@ -1,10 +1,10 @@
 -- Types of two graphs. A type of the first graph is kin to a type of the second where both unfold alike to every depth.
 -- Each graph numbers its types for itself, so kin types may have different numbers.
 use Rattle.std.specs.Prelude.{◌≡◌, ℕ, zero, suc, Bool, true, false, List, length, slice_get, ◌<◌}
-use Rattle.type_laws.specs.declared.definition.TypeDef.{TypeDef}
-use Rattle.type_laws.specs.Same.{agree_at, same}
-use Rattle.type_laws.specs.Parts.{contains_itself}
-use Rattle.type_laws.specs.Leaves.{leaves}
+use Rattle.type_definitions.specs.declared.definition.TypeDef.{TypeDef}
+use Rattle.type_definitions.specs.Same.{agree_at, same}
+use Rattle.type_definitions.specs.Parts.{contains_itself}
+use Rattle.type_definitions.specs.Leaves.{leaves}
 
 -- alike to a depth: the definitions agree, with arguments that are alike to one level less
 unfoldable pub akin : List TypeDef → List TypeDef → ℕ → ℕ → ℕ → Bool

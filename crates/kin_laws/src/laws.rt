@@ -1,9 +1,9 @@
 // What holds of kin types in every two graphs.
-ghost use Rattle.type_laws.specs.Same.{IsGraph};
-ghost use Rattle.type_laws.specs.Laws.{IsFinite};
+ghost use Rattle.type_definitions.specs.Same.{IsGraph};
+ghost use Rattle.type_definitions.specs.Laws.{IsFinite};
 ghost use Rattle.kin_laws.specs.Kin.{KinDecides, KinEnd, KinHaveAsManyLeaves};
 
-use type_laws::TypeDef;
+use type_definitions::TypeDef;
 
 /// Types that are kin to the same type are the same type.
 #[tactic(auto, using(crate::proofs::Kin::kin_decides))]

@@ -5,12 +5,12 @@ use Rattle.std.proofs.lemmas.List.{drop-append-le}
 use Rattle.std.proofs.lemmas.List.Sums.{sum_by-append, sum_by-cons}
 use Rattle.std.proofs.lemmas.Bool.Decides.{leb_tells}
 use Rattle.demands.specs.declared.fault.Fault.TheVariants.{At}
-use Rattle.demands.specs.Names.{found}
+use Rattle.name_scopes.specs.Names.{found}
 use Rattle.mu_values.specs.declared.scalars.Scalar.{Scalar}
 use Rattle.ir_lex.specs.declared.name.Name.{Name}
 use Rattle.check_tables.specs.TypeTests.{is_hybrid, is_no_hybrid}
 use Rattle.check_tables.specs.Lookups.{written_number}
-use Rattle.bundle_check.specs.Checking.{bundle_tables}
+use Rattle.checked_code.specs.Checking.{bundle_tables}
 use Rattle.typed_heap.specs.Objects.{HeapObject, object_of, filled, with_filled}
 use Rattle.hail_load.specs.declared.fault.LoadKind.TheVariants.{WrongType, HeapFull}
 use Rattle.hail_load.specs.declared.parts.Part.{Part}

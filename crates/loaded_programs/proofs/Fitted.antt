@@ -5,7 +5,7 @@ use Rattle.demands.specs.Demands.{first_unmet}
 use Rattle.ir_tree.specs.declared.items.Item.{Item}
 use Rattle.mu_values.specs.declared.scalars.Scalar.TheVariants.{Place}
 use Rattle.bundle_names.specs.Naming.{name_demands}
-use Rattle.bundle_check.specs.Checking.{bundle_tables, check_demands}
+use Rattle.checked_code.specs.Checking.{bundle_tables, check_demands}
 use Rattle.bundle_laws.proofs.Tables.{tables_fit}
 use Rattle.bundle_facts.proofs.Accepted as facts
 use Rattle.typed_heap.specs.Objects.{HeapObject}

@@ -4,19 +4,19 @@ use Rattle.demands.specs.Demands.{AllMet, first_unmet}
 use Rattle.demands.proofs.Meeting.{all_met}
 use Rattle.ir_tree.specs.declared.items.Item.{Item}
 use Rattle.ir_tree.specs.declared.items.Item.TheVariants as items
-use Rattle.type_laws.specs.declared.definition.TypeDef.{TypeDef}
-use Rattle.type_laws.specs.declared.definition.TypeDef.TheVariants.{Int, Struct, Array, Hybrid, Void, Ref, Iref, FuncRef, StackRef, ThreadRef, Sig}
-use Rattle.type_laws.specs.Class.{class_of}
+use Rattle.type_definitions.specs.declared.definition.TypeDef.{TypeDef}
+use Rattle.type_definitions.specs.declared.definition.TypeDef.TheVariants.{Int, Struct, Array, Hybrid, Void, Ref, Iref, FuncRef, StackRef, ThreadRef, Sig}
+use Rattle.type_definitions.specs.Class.{class_of}
 use Rattle.mu_types.specs.Graph.{Table}
 use Rattle.bundle_names.specs.Naming.{name_demands}
 use Rattle.check_tables.specs.declared.tables.Tables.{Tables}
 use Rattle.check_tables.specs.Types.{class_like, definition_at, definition_in, is_type_there, iref_at, iref_in, class_at, class_in}
 use Rattle.check_tables.specs.Lookups.{or_zero, type_named, leaves_named}
 use Rattle.check_tables.specs.TypeTests.{is_sized}
-use Rattle.bundle_tables.specs.Entries.{global_entries, tables_of}
-use Rattle.bundle_tables.specs.Rules.{globals_demands}
-use Rattle.bundle_check.specs.Answers.{global_classes}
-use Rattle.bundle_check.specs.Checking.{bundle_tables, check_demands}
+use Rattle.checked_code.specs.Entries.{global_entries, tables_of}
+use Rattle.checked_code.specs.Rules.{globals_demands}
+use Rattle.checked_code.specs.Answers.{global_classes}
+use Rattle.checked_code.specs.Checking.{bundle_tables, check_demands}
 use Rattle.typed_heap.specs.Objects.{HeapObject, leaf_classes, object_of}
 use Rattle.mu_model.specs.Types.{class_definition}
 use Rattle.mu_model.specs.Run.{target_leaves}

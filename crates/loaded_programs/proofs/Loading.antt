@@ -7,10 +7,10 @@ use Rattle.std.proofs.lemmas.List.Concat.{flat_map-cons}
 use Rattle.std.proofs.lemmas.List.Elements.{All-nil, All-cons, All-append, All-weaker, All-set}
 use Rattle.std.proofs.lemmas.Option.{slice_get-map}
 use Rattle.demands.specs.declared.fault.Fault.TheVariants.{At}
-use Rattle.demands.specs.Names.{found}
+use Rattle.name_scopes.specs.Names.{found}
 use Rattle.bundle_laws.proofs.Bodies.{found_added}
-use Rattle.bundle_constants.proofs.Members.{holds_at}
-use Rattle.type_laws.specs.declared.definition.TypeDef.{TypeDef}
+use Rattle.checked_code.proofs.ConstantMembers.{holds_at}
+use Rattle.type_definitions.specs.declared.definition.TypeDef.{TypeDef}
 use Rattle.mu_values.specs.declared.scalars.Scalar.{Scalar}
 use Rattle.ir_lex.specs.declared.name.Name.{Name}
 use Rattle.bundle_names.specs.declared.globals.Sort.{Sort}

@@ -8,12 +8,12 @@ use Rattle.std.proofs.lemmas.List.Sums.{sum_by-cons}
 use Rattle.std.proofs.lemmas.List.Elements.{All-nil, All-cons, All-head, All-tail, All-append, All-map}
 use Rattle.std.proofs.lemmas.Grind.{flat_map-append}
 use Rattle.demands.specs.declared.fault.Fault.{Fault}
-use Rattle.type_laws.specs.declared.definition.TypeDef.{TypeDef}
-use Rattle.type_laws.specs.declared.definition.TypeDef.TheVariants as types
-use Rattle.type_laws.specs.Definition.{arguments}
-use Rattle.type_laws.specs.Same.{IsGraph}
-use Rattle.type_laws.specs.Leaves.{times}
-use Rattle.type_laws.proofs.Depth.{args_within}
+use Rattle.type_definitions.specs.declared.definition.TypeDef.{TypeDef}
+use Rattle.type_definitions.specs.declared.definition.TypeDef.TheVariants as types
+use Rattle.type_definitions.specs.Definition.{arguments}
+use Rattle.type_definitions.specs.Same.{IsGraph}
+use Rattle.type_definitions.specs.Leaves.{times}
+use Rattle.type_definitions.proofs.Depth.{args_within}
 use Rattle.typed_heap.specs.Objects.{HeapObject, leaf_classes, run_of, run_classes}
 use Rattle.typed_heap.specs.Heap.{hybrid_classes}
 use Rattle.typed_heap.proofs.Runs.{times_length}

@@ -1,7 +1,7 @@
 -- A function that a client's script pushes is one of the bundle.
 use Rattle.std.specs.Prelude.{◌≡◌, ℕ, zero, suc, List, [], ◌∷◌, Option, Some, None, IsSome, map, option_map, slice_get, refl}
 use Rattle.std.proofs.Common.{subst}
-use Rattle.demands.specs.Names.{found}
+use Rattle.name_scopes.specs.Names.{found}
 use Rattle.ir_lex.specs.declared.name.Name.{Name}
 use Rattle.ir_tree.specs.declared.items.Item.{Item}
 use Rattle.bundle_names.specs.declared.globals.Sort.{Sort}
@@ -9,8 +9,8 @@ use Rattle.bundle_names.specs.declared.globals.Sort.TheVariants as sorts
 use Rattle.bundle_names.specs.Globals.{globals_of}
 use Rattle.check_tables.specs.declared.tables.Tables.{Tables}
 use Rattle.check_tables.specs.Lookups.{global_class, funcref_of, signature_in, noted_signature}
-use Rattle.bundle_tables.specs.Entries.{tables_of}
-use Rattle.bundle_check.specs.Checking.{bundle_tables}
+use Rattle.checked_code.specs.Entries.{tables_of}
+use Rattle.checked_code.specs.Checking.{bundle_tables}
 use Rattle.typed_heap.specs.Fits.{signature_classes}
 use Rattle.typed_heap.specs.Places.{with_some}
 use Rattle.mu_model.specs.Clients.{ClassedFunction}

@@ -11,7 +11,7 @@ use Rattle.text_forms.specs.Derives.{Derives, Elements}
 use Rattle.text_forms.specs.Reading.{whole}
 use Rattle.text_forms.proofs.Whole.{whole_ok}
 use Rattle.demands.specs.Demands.{AllMet, none, demand, first_unmet}
-use Rattle.demands.specs.Names.{Names, found}
+use Rattle.name_scopes.specs.Names.{Names, found}
 use Rattle.demands.proofs.Meeting.{all_met}
 use Rattle.ir_lex.specs.declared.name.Name.{Name}
 use Rattle.ir_lex.specs.TokenForms.{mark, name}
@@ -24,7 +24,7 @@ use Rattle.bundle_names.specs.declared.globals.Sort.TheVariants as sorts
 use Rattle.bundle_names.specs.Globals.{globals_of}
 use Rattle.bundle_names.specs.Naming.{name_demands}
 use Rattle.bundle_names.specs.Uses.{is_operand}
-use Rattle.bundle_check.specs.Checking.{bundle_tables, check_demands}
+use Rattle.checked_code.specs.Checking.{bundle_tables, check_demands}
 use Rattle.typed_heap.specs.Fits.{World}
 use Rattle.mu_model.specs.Types.{type_graph}
 use Rattle.mu_model.specs.Clients.{ScriptEntry, Client}

@@ -8,7 +8,7 @@ use Rattle.std.proofs.lemmas.Option.{slice_get_within}
 use Rattle.std.proofs.lemmas.List.Elements.{All-nil, All-cons, All-push, All-set}
 use Rattle.demands.specs.declared.fault.Fault.TheVariants.{At}
 use Rattle.demands.specs.Demands.{AllMet, first_unmet}
-use Rattle.demands.specs.Names.{found}
+use Rattle.name_scopes.specs.Names.{found}
 use Rattle.demands.proofs.Meeting.{all_met}
 use Rattle.text_forms.specs.declared.fault.Fault.{Fault}
 use Rattle.text_forms.specs.declared.symbol.Symbol.{Symbol}
@@ -17,9 +17,9 @@ use Rattle.text_forms.specs.Forms.{token, within}
 use Rattle.text_forms.specs.Reading.{whole}
 use Rattle.text_forms.specs.Tokens.{Tok}
 use Rattle.text_forms.specs.Derives.{Derives, Elements}
-use Rattle.type_laws.specs.declared.definition.TypeDef.{TypeDef}
-use Rattle.type_laws.specs.Class.{class_of}
-use Rattle.type_laws.specs.Leaves.{leaves}
+use Rattle.type_definitions.specs.declared.definition.TypeDef.{TypeDef}
+use Rattle.type_definitions.specs.Class.{class_of}
+use Rattle.type_definitions.specs.Leaves.{leaves}
 use Rattle.mu_values.specs.declared.scalars.Scalar.{Scalar}
 use Rattle.ir_lex.specs.declared.name.Name.{Name}
 use Rattle.ir_lex.specs.declared.token.Token.{Token}
@@ -41,9 +41,9 @@ use Rattle.check_tables.specs.Types.{definition_in, iref_in, leaves_in}
 use Rattle.check_tables.specs.TypeTests.{is_hybrid, is_no_hybrid, is_sized}
 use Rattle.check_tables.specs.Lookups.{leaves_named, or_zero, type_named, written_number}
 use Rattle.mu_types.specs.Graph.{Table}
-use Rattle.bundle_tables.specs.Entries.{global_entries, tables_of}
-use Rattle.bundle_tables.specs.Rules.{globals_demands, most_leaves_of_globals}
-use Rattle.bundle_check.specs.Checking.{bundle_tables, check_demands}
+use Rattle.checked_code.specs.Entries.{global_entries, tables_of}
+use Rattle.checked_code.specs.Rules.{globals_demands, most_leaves_of_globals}
+use Rattle.checked_code.specs.Checking.{bundle_tables, check_demands}
 use Rattle.bundle_facts.proofs.Completed.{IsComplete, is_complete}
 use Rattle.bundle_facts.proofs.Shapes.{class_leaves, class_own, class_within}
 use Rattle.typed_heap.specs.Objects.{HeapObject, filled, leaf_classes, object_of, with_filled}

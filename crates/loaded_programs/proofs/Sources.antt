@@ -7,14 +7,14 @@ use Rattle.std.proofs.lemmas.List.Elements.{All-head}
 use Rattle.std.proofs.lemmas.Option.{slice_get_within, get_or_from_slice_get}
 use Rattle.demands.specs.declared.fault.Fault.{Fault}
 use Rattle.demands.specs.declared.fault.Fault.TheVariants.{At}
-use Rattle.demands.specs.Names.{found}
-use Rattle.type_laws.specs.declared.definition.TypeDef.{TypeDef}
-use Rattle.type_laws.specs.declared.definition.TypeDef.TheVariants as types
-use Rattle.type_laws.specs.Definition.{arguments}
-use Rattle.type_laws.specs.Same.{IsGraph}
-use Rattle.type_laws.specs.Class.{class_of}
-use Rattle.type_laws.specs.Scalars.{is_scalar}
-use Rattle.type_laws.proofs.Depth.{args_within}
+use Rattle.name_scopes.specs.Names.{found}
+use Rattle.type_definitions.specs.declared.definition.TypeDef.{TypeDef}
+use Rattle.type_definitions.specs.declared.definition.TypeDef.TheVariants as types
+use Rattle.type_definitions.specs.Definition.{arguments}
+use Rattle.type_definitions.specs.Same.{IsGraph}
+use Rattle.type_definitions.specs.Class.{class_of}
+use Rattle.type_definitions.specs.Scalars.{is_scalar}
+use Rattle.type_definitions.proofs.Depth.{args_within}
 use Rattle.mu_values.specs.declared.scalars.Scalar.{Scalar}
 use Rattle.mu_values.specs.declared.scalars.Scalar.TheVariants.{Int, Null, Object, Place, Func}
 use Rattle.mu_values.specs.Constants.{width_of, is_reference, number_bits, fits as fits_width}

@@ -1,7 +1,7 @@
 -- What a global name of a client's script tells fits its class.
 use Rattle.std.proofs.Common.{◌≡◌, ◌∙◌, ℕ, true, List, [], Option, Some, None, IsSomeAnd, is_some, refl, subst}
 use Rattle.demands.specs.Demands.{first_unmet}
-use Rattle.demands.specs.Names.{found}
+use Rattle.name_scopes.specs.Names.{found}
 use Rattle.ir_lex.specs.declared.name.Name.{Name}
 use Rattle.ir_tree.specs.declared.items.Item.{Item}
 use Rattle.bundle_names.specs.declared.globals.Sort.{Sort}
@@ -10,11 +10,11 @@ use Rattle.bundle_names.specs.Globals.{globals_of}
 use Rattle.bundle_names.specs.Naming.{name_demands}
 use Rattle.bundle_names.specs.Uses.{is_operand}
 use Rattle.check_tables.specs.Lookups.{global_class, class_of_global}
-use Rattle.bundle_tables.specs.Entries.{tables_of}
-use Rattle.bundle_check.specs.Checking.{bundle_tables, check_demands}
-use Rattle.code_check.specs.declared.code.Source.{Source}
-use Rattle.code_check.specs.declared.code.Source.TheVariants as sources
-use Rattle.code_check.specs.Typed.{SourceFits}
+use Rattle.checked_code.specs.Entries.{tables_of}
+use Rattle.checked_code.specs.Checking.{bundle_tables, check_demands}
+use Rattle.checked_code.specs.declared.code.Source.{Source}
+use Rattle.checked_code.specs.declared.code.Source.TheVariants as sources
+use Rattle.bundle_laws.specs.Typed.{SourceFits}
 use Rattle.typed_heap.specs.Fits.{World, ValueFits}
 use Rattle.typed_heap.specs.Places.{with_some}
 use Rattle.frames.specs.Activations.{Value}

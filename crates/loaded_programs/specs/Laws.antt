@@ -3,7 +3,7 @@
 use Rattle.std.specs.Prelude.{◌≡◌, ℕ, List, [], None}
 use Rattle.demands.specs.Demands.{first_unmet}
 use Rattle.ir_tree.specs.declared.items.Item.{Item}
-use Rattle.bundle_check.specs.Checking.{bundle_tables}
+use Rattle.checked_code.specs.Checking.{bundle_tables}
 use Rattle.typed_heap.specs.Objects.{HeapObject}
 use Rattle.hail_load.specs.declared.tree.Command.{Command}
 use Rattle.hail_load.specs.Code.{code_of}

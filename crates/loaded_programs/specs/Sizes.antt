@@ -2,8 +2,8 @@
 use Rattle.std.specs.Prelude.{◌≡◌, ◌≤◌, ◌+◌, ℕ, suc, List, All, Ok, length}
 use Rattle.ir_tree.specs.declared.items.Item.{Item}
 use Rattle.ir_text.specs.TextAnswers.{IsAnswer}
-use Rattle.bundle_tables.specs.Rules.{most_leaves_of_globals}
-use Rattle.bundle_check.specs.Checking.{bundle_tables}
+use Rattle.checked_code.specs.Rules.{most_leaves_of_globals}
+use Rattle.checked_code.specs.Checking.{bundle_tables}
 use Rattle.hail_load.specs.declared.tree.Command.{Command}
 use Rattle.hail_load.specs.Texts.{hail_commands}
 use Rattle.mu_model.specs.Run.{Setting}

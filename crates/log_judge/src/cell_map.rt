@@ -1,10 +1,10 @@
 // The places of the cells of a log.
 ghost use Rattle.std.specs.Prelude.{◌≡◌, ℕ, ◌*◌, ◌+◌, ◌<◌, [], if◌then◌else◌, length, vec_len, vec_capacity, OnErr, MatchOption};
-ghost use Rattle.heap_cells.specs.declared.cells.CellId.{CellId};
+ghost use Rattle.mu_values.specs.declared.cells.CellId.{CellId};
 ghost use Rattle.view_parts.specs.Placing.{Owned};
 ghost use Rattle.log_judge.specs.CellKeys.{cell_key, number_in};
 
-use heap_cells::CellId;
+use mu_values::CellId;
 use std::alloc::{AllocError, Global};
 use std::collections::BTreeMap;
 use view_parts::CellPlaces;

@@ -1,6 +1,6 @@
 // What is known of the events so far.
 ghost use Rattle.std.specs.Prelude.{◌≡◌, ℕ, ◌+◌, ◌<◌, ◌≤◌, ◌==◌, ◌&&◌, true, false, if◌then◌else◌, None, Some, List, [], ◌∷◌, length, nat_lt, slice_index, slice_get, OnOk, OnErr, MatchOption, IfSome, IsSomeAnd};
-ghost use Rattle.heap_cells.specs.declared.cells.CellId.{CellId};
+ghost use Rattle.mu_values.specs.declared.cells.CellId.{CellId};
 ghost use Rattle.mem_axioms.specs.Events.{accesses, is_seq_cst_fence};
 ghost use Rattle.mem_axioms.specs.Logs.{newest};
 ghost use Rattle.mem_axioms.specs.Form.{is_only_value, has_form_alone, fits_form_alone};
@@ -23,11 +23,10 @@ ghost use Rattle.log_judge.specs.Kept.{initial_read, InitialsHold, ThreadsHold, 
 use crate::ahead::look_ahead;
 use crate::cell_map::{CellMap, key_of};
 use clocks::{Clock, ClockList, EventClocks};
-use heap_cells::CellId;
 use mem_axioms::event_facts::{cell_of, is_same_scalar, seq_cst, seq_cst_fence};
 use mem_axioms::{Event, Kind, Log, Mode, Rule};
 use mu_base::{Order, Steps};
-use mu_values::Scalar;
+use mu_values::{CellId, Scalar};
 use std::alloc::{AllocError, Global};
 use std::collections::BTreeMap;
 use std::marker::Brand;

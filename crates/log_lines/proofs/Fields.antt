@@ -10,7 +10,7 @@ use Rattle.mu_base.specs.declared.order.Order.{Order}
 use Rattle.mu_base.specs.declared.order.Order.TheVariants.{NotAtomic, Relaxed, Consume, Acquire, Release, AcqRel, SeqCst}
 use Rattle.mu_values.specs.declared.scalars.Scalar.{Scalar}
 use Rattle.mu_values.specs.declared.scalars.Scalar.TheVariants as scalars
-use Rattle.heap_cells.specs.declared.cells.CellId.{CellId}
+use Rattle.mu_values.specs.declared.cells.CellId.{CellId}
 use Rattle.log_lines.specs.declared.types.LogKind.TheVariants.{Unexpected}
 use Rattle.log_lines.specs.Fields.{Text, Judged, mapped, or_else, number, exactly, thread, stack, object, cell, cell_in, is_numeral, parts}
 use Rattle.log_lines.specs.Words.{look_up, order_words, order_text, order}

@@ -6,7 +6,7 @@ use Rattle.std.proofs.lemmas.Bool.{false≢true}
 use Rattle.demands.specs.declared.fault.Fault.{Fault}
 use Rattle.mu_base.specs.declared.order.Order.{Order}
 use Rattle.mu_values.specs.declared.scalars.Scalar.{Scalar}
-use Rattle.heap_cells.specs.declared.cells.CellId.{CellId}
+use Rattle.mu_values.specs.declared.cells.CellId.{CellId}
 use Rattle.mem_axioms.specs.declared.types.Mode.{Mode}
 use Rattle.mem_axioms.specs.declared.types.Mode.TheVariants as modes
 use Rattle.mem_axioms.specs.declared.types.Kind.{Kind}

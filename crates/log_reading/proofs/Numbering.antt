@@ -3,7 +3,7 @@ use Rattle.std.proofs.Common.{◌≡◌, ℕ, suc, ◌+◌, Bool, true, false, n
 use Rattle.std.specs.Prelude.{if◌then◌else◌, is_some}
 use Rattle.std.specs.Str.{bytes_eq}
 use Rattle.std.specs.Cmp.Lexicographic.{nat_list_eq_equiv}
-use Rattle.demands.specs.Names.{found, added}
+use Rattle.name_scopes.specs.Names.{found, added}
 use Rattle.log_lines.specs.Fields.{Text}
 use Rattle.log_lines.specs.Values.{Names, is_name, is_among, place_among, names_with}
 use Rattle.log_reading.specs.Inner.{names_of, AreNumbered}

@@ -12,10 +12,10 @@ use crate::parts::first_part;
 use crate::references::{cell, stack, thread};
 use crate::words::{access_order, fence_order, kind_word};
 use demands::Fault;
-use heap_cells::CellId;
 use log_lines::{KindWord, LogKind};
 use mem_axioms::Mode;
 use mu_base::Order;
+use mu_values::CellId;
 use std::marker::Model;
 
 /// Why a log is refused: its first fault with its byte offset, or out of memory.

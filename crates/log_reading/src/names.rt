@@ -3,7 +3,7 @@ ghost use Rattle.std.specs.Prelude.{◌≡◌, [], true, IfOk, OnOk};
 ghost use Rattle.std.specs.List.{list_all};
 ghost use Rattle.log_lines.specs.Values.{is_name, is_name_byte, place_among, names_with};
 
-use demands::Scope;
+use name_scopes::Scope;
 use std::alloc::{AllocError, Global};
 use std::marker::Model;
 

@@ -4,8 +4,8 @@ ghost use Rattle.log_lines.specs.Fields.{thread, stack, object, cell, cell_in, c
 
 use crate::numbers::{NUMBERS, THREADS, number};
 use crate::parts::first_part;
-use heap_cells::CellId;
 use log_lines::LogKind;
+use mu_values::CellId;
 
 /// `tN`.
 pub fn thread(field: &[u8]) -> Result<u32, LogKind>

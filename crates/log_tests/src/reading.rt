@@ -1,11 +1,10 @@
 // Logs are read, and others are refused.
 use demands::Fault;
-use heap_cells::CellId;
 use log_lines::LogKind;
 use log_reading::{LogFault, read_log};
 use mem_axioms::{Event, Kind, Mode};
 use mu_base::Order;
-use mu_values::Scalar;
+use mu_values::{CellId, Scalar};
 use std::alloc::Global;
 use std::test::Fail;
 

@@ -7,7 +7,7 @@
 -- Axiom 3 has the shape of ISO/IEC 14882:2020, 31.4, with the order of the log for the single total order S.
 use Rattle.std.specs.Prelude.{◌≡◌, ◌⊎◌, ℕ, ◌<◌, ◌≤◌, Bool, true, not, ◌&&◌, ◌||◌, ◌==◌, nat_lt, List, Some}
 use Rattle.mu_values.specs.declared.scalars.Scalar.{Scalar}
-use Rattle.heap_cells.specs.declared.cells.CellId.{CellId}
+use Rattle.mu_values.specs.declared.cells.CellId.{CellId}
 use Rattle.mem_axioms.specs.Events.{is_seq_cst, order_of, position_of, is_fence, is_read, is_modification, on_one_cell}
 use Rattle.mem_axioms.specs.Logs.{event_at, each_event, each_where}
 use Rattle.mem_axioms.specs.HappensBefore.{happens_before, Before}

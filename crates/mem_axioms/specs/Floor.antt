@@ -8,7 +8,7 @@
 use Rattle.std.specs.Prelude.{ℕ, Bool, ◌&&◌, ◌||◌, if◌then◌else◌, nat_lt, List, ◌∷◌, length}
 use Rattle.mu_base.specs.declared.order.Order.{Order}
 use Rattle.mu_base.specs.declared.order.Order.TheVariants.{NotAtomic}
-use Rattle.heap_cells.specs.declared.cells.CellId.{CellId}
+use Rattle.mu_values.specs.declared.cells.CellId.{CellId}
 use Rattle.mem_axioms.specs.Events.{accesses, order_of, is_seq_cst, is_seq_cst_fence}
 use Rattle.mem_axioms.specs.Logs.{any_event, last_number, greatest_position}
 use Rattle.mem_axioms.specs.HappensBefore.{happens_before}

@@ -6,8 +6,8 @@
 use Rattle.std.specs.Prelude.{ℕ, suc, Bool, true, ◌&&◌, ◌==◌, nat_le, if◌then◌else◌, List, [], ◌∷◌}
 use Rattle.mu_values.specs.declared.scalars.Scalar.{Scalar}
 use Rattle.mu_values.specs.SameScalar.{same_scalar}
-use Rattle.heap_cells.specs.declared.cells.CellId.{CellId}
-use Rattle.heap_cells.specs.SameCell.{same_cell}
+use Rattle.mu_values.specs.declared.cells.CellId.{CellId}
+use Rattle.mu_values.specs.SameCell.{same_cell}
 use Rattle.mem_axioms.specs.Events.{stores, accesses, position_of, value_of}
 use Rattle.mem_axioms.specs.Logs.{each_where, newest}
 use Rattle.mem_axioms.specs.declared.types.Kind.TheVariants.{Access}

@@ -1,7 +1,7 @@
 -- The cells of a log are those of the added objects.
 use Rattle.std.specs.Prelude.{◌≡◌, ℕ, Some, true, List}
 use Rattle.mu_values.specs.declared.scalars.Scalar.{Scalar}
-use Rattle.heap_cells.specs.declared.cells.CellId.{CellId}
+use Rattle.mu_values.specs.declared.cells.CellId.{CellId}
 use Rattle.mem_axioms.specs.Events.{accesses}
 use Rattle.mem_axioms.specs.Logs.{event_at}
 use Rattle.mem_axioms.specs.Objects.{HasCell}

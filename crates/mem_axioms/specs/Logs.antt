@@ -1,6 +1,6 @@
 -- Looking into a log, whose events stand newest first and are numbered from the oldest, which has number 0.
 use Rattle.std.specs.Prelude.{ℕ, suc, Bool, true, false, not, ◌==◌, if◌then◌else◌, ◌||◌, ◌&&◌, max, List, [], ◌∷◌, length, Some, None, Option}
-use Rattle.heap_cells.specs.declared.cells.CellId.{CellId}
+use Rattle.mu_values.specs.declared.cells.CellId.{CellId}
 use Rattle.mem_axioms.specs.declared.types.Event.{Event}
 use Rattle.mem_axioms.specs.Events.{modifies, position_of}
 

@@ -2,7 +2,7 @@
 -- rules of release sequences, of every log unless it says more.
 use Rattle.std.specs.Prelude.{◌≡◌, ◌↔◌, ℕ, ◌<◌, ◌≤◌, Bool, true, List, ◌∷◌, length, Some, MatchOption}
 use Rattle.mu_values.specs.declared.scalars.Scalar.{Scalar}
-use Rattle.heap_cells.specs.declared.cells.CellId.{CellId}
+use Rattle.mu_values.specs.declared.cells.CellId.{CellId}
 use Rattle.mem_axioms.specs.Events.{accesses, position_of}
 use Rattle.mem_axioms.specs.Logs.{event_at, past_of}
 use Rattle.mem_axioms.specs.Synchronizes.{heads, released}

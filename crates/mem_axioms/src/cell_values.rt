@@ -7,8 +7,7 @@ ghost use Rattle.mem_axioms.specs.Scalars.{scalars_of};
 
 use crate::event_facts::{is_same_cell, modifies_cell};
 use crate::types::{Event, Kind, Mode};
-use heap_cells::CellId;
-use mu_values::{Scalar, Value};
+use mu_values::{CellId, Scalar, Value};
 
 /// The newest position of the cell.
 pub fn newest_position(events: &[Event], cell: CellId) -> u32

@@ -1,15 +1,14 @@
 //! What an event is: the tests of the definitions, of one event. Each takes constant time and no memory.
 ghost use Rattle.std.specs.Prelude.{◌≡◌, ◌&&◌, ◌||◌, true, false, MatchOption};
 ghost use Rattle.mu_values.specs.SameScalar.{same_scalar};
-ghost use Rattle.heap_cells.specs.declared.cells.CellId.{CellId};
-ghost use Rattle.heap_cells.specs.SameCell.{same_cell};
+ghost use Rattle.mu_values.specs.declared.cells.CellId.{CellId};
+ghost use Rattle.mu_values.specs.SameCell.{same_cell};
 ghost use Rattle.mem_axioms.specs.Events.{is_atomic, is_seq_cst, loads, accesses, modifies, is_update, is_modification, order_of, position_of, position_taken, is_fence, is_seq_cst_fence, is_wake};
 ghost use Rattle.mem_axioms.specs.Synchronizes.{acquires, releases, gives_up, makes_thread};
 
 use crate::types::{Event, Kind, Mode};
-use heap_cells::CellId;
 use mu_base::Order;
-use mu_values::Scalar;
+use mu_values::{CellId, Scalar};
 
 /// Whether two cells are one.
 pub fn is_same_cell(a: CellId, b: CellId) -> bool

@@ -20,9 +20,8 @@ use crate::racing::least_race;
 use crate::read_test::may_come_next;
 use crate::rows::{Row, fill_row};
 use crate::types::{Chosen, Event, Kind, Mode, Race, Room, Rule, Wanted};
-use heap_cells::CellId;
 use mu_base::{Order, Steps};
-use mu_values::{Scalar, Value};
+use mu_values::{CellId, Scalar, Value};
 use std::alloc::{AllocError, Global};
 use std::sync::ledger::Ledger;
 

@@ -12,9 +12,8 @@ ghost use Rattle.mem_axioms.specs.Rooms.{HasRoom, one_less};
 ghost use Rattle.mem_axioms.specs.Sound.{IsSound};
 
 use crate::types::{Chosen, Event, Race, Wanted};
-use heap_cells::CellId;
 use mu_base::Steps;
-use mu_values::Value;
+use mu_values::{CellId, Value};
 use std::alloc::AllocError;
 use std::sync::ledger::Ledger;
 

@@ -11,7 +11,7 @@ use crate::event_facts::{
     taken_by, update, wake,
 };
 use crate::types::{Event, Kind, Mode, Numbered, Rule};
-use heap_cells::CellId;
+use mu_values::CellId;
 
 /// Whether a write or update goes on a release sequence whose head is by the thread.
 fn goes_on(rule: Rule, event: &Event, thread: u32) -> bool

@@ -1,7 +1,6 @@
 // The types of the memory model.
-use heap_cells::CellId;
 use mu_base::Order;
-use mu_values::Scalar;
+use mu_values::{CellId, Scalar};
 
 /// Which writes go on a release sequence after its head.
 #[derive(Clone, Copy, Debug, PartialEq, Eq)]

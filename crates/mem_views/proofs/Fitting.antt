@@ -2,8 +2,8 @@
 use Rattle.std.proofs.Common.{◌∷◌, ◌≡◌, ℕ, suc, true, List, slice_index, ap, ◌∙◌}
 use Rattle.std.proofs.lemmas.Bool.{false≢true}
 use Rattle.mu_values.specs.declared.scalars.Scalar.{Scalar}
-use Rattle.heap_cells.specs.declared.cells.CellId.{CellId}
-use Rattle.heap_cells.specs.CellLaws.{same_cell-true}
+use Rattle.mu_values.specs.declared.cells.CellId.{CellId}
+use Rattle.mu_values.specs.CellLaws.{same_cell-true}
 use Rattle.mem_axioms.specs.EventFits.{EventFits}
 use Rattle.mem_axioms.specs.Events.{accesses, is_modification, position_of}
 use Rattle.mem_axioms.specs.Logs.{newest}

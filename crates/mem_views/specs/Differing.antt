@@ -1,7 +1,7 @@
 -- The positions that a strong comparison may read, and how many values are looked at.
 use Rattle.std.specs.Prelude.{ℕ, ◌+◌, ◌*◌, min, Bool, not, ◌&&◌, nat_le, List, Option, Some, None}
 use Rattle.mu_values.specs.declared.scalars.Scalar.{Scalar}
-use Rattle.heap_cells.specs.declared.cells.CellId.{CellId}
+use Rattle.mu_values.specs.declared.cells.CellId.{CellId}
 use Rattle.mem_axioms.specs.Choices.{holds}
 use Rattle.mem_axioms.specs.Reads.{below}
 use Rattle.mem_axioms.specs.declared.types.Event.{Event}

@@ -1,11 +1,11 @@
 // The place of each cell that was touched.
 ghost use Rattle.std.specs.Prelude.{◌≡◌, ℕ, ◌+◌, ◌<◌, ◌≤◌, ◌==◌, ◌&&◌, if◌then◌else◌, length, slice_index, slice_index_or, vec_len, vec_capacity, [], OnOk, OnErr, MatchOption};
-ghost use Rattle.heap_cells.specs.declared.cells.CellId.{CellId};
-ghost use Rattle.heap_cells.specs.SameCell.{same_cell};
+ghost use Rattle.mu_values.specs.declared.cells.CellId.{CellId};
+ghost use Rattle.mu_values.specs.SameCell.{same_cell};
 ghost use Rattle.view_parts.specs.Placing.{Owned};
 ghost use Rattle.mem_views.specs.Placing.{number_at, place_in};
 
-use heap_cells::CellId;
+use mu_values::CellId;
 use std::alloc::{AllocError, Global};
 use std::marker::Model;
 use view_parts::CellPlaces;

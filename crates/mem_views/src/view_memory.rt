@@ -29,11 +29,10 @@ ghost use Rattle.mem_views.specs.Differing.{differs_from, differing, floor_bound
 
 use crate::places::Places;
 use clocks::{Clock, ClockList};
-use heap_cells::CellId;
 use mem_axioms::event_facts::{cell_of, is_same_scalar, seq_cst};
 use mem_axioms::{Chosen, Event, Kind, Memory, Race, Room, Rule, Wanted};
 use mu_base::{Order, Steps};
-use mu_values::{Scalar, Slots, Value};
+use mu_values::{CellId, Scalar, Slots, Value};
 use std::alloc::{AllocError, Global};
 use std::sync::ledger::Ledger;
 use view_parts::floors::{fences_before, found_floor, greatest_of_kinds, last_fence};

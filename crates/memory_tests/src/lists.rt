@@ -1,8 +1,7 @@
 use crate::playing::{Line, play_lists};
-use heap_cells::CellId;
 use mem_axioms::{Chosen, Event, Kind, Log, Mode, Rule, Wanted};
 use mu_base::Order;
-use mu_values::Scalar;
+use mu_values::{CellId, Scalar};
 use std::marker::Brand;
 use std::sync::ledger::Blank;
 use std::test::Fail;

@@ -2,11 +2,10 @@
 ghost use Rattle.std.specs.Prelude.{◌≡◌};
 
 use crate::runs::Run;
-use heap_cells::CellId;
 use mem_axioms::{Chosen, Event, LogMemory, Memory, Race, Rule, Wanted};
 use mem_views::ViewMemory;
 use mu_base::Steps;
-use mu_values::Scalar;
+use mu_values::{CellId, Scalar};
 use std::alloc::{AllocError, Global};
 use std::process::Abort;
 use std::sync::ledger::{Blank, Ledger};

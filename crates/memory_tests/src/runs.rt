@@ -6,11 +6,10 @@ ghost use Rattle.mem_axioms.specs.Objects.{HasCell};
 ghost use Rattle.mem_axioms.specs.Rooms.{HasRoom};
 ghost use Rattle.mem_axioms.specs.EventFits.{EventFits, is_thread, wakes_at};
 
-use heap_cells::CellId;
 use mem_axioms::event_facts::{makes, wake};
 use mem_axioms::{Chosen, Event, Kind, Memory, Mode, Race, Wanted};
 use mu_base::{Order, Steps};
-use mu_values::{Scalar, Value};
+use mu_values::{CellId, Scalar, Value};
 use std::alloc::{AllocError, Global};
 use std::process::Abort;
 use std::sync::ledger::Ledger;

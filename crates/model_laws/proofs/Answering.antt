@@ -4,7 +4,7 @@ use Rattle.std.proofs.Common.{sym, ◌∙◌, subst, inl, inr}
 use Rattle.std.proofs.lemmas.Bool.Decides.{eqb_tells}
 use Rattle.std.proofs.lemmas.List.Elements.{All-head, All-tail}
 use Rattle.check_tables.specs.Types.{stackref}
-use Rattle.type_laws.specs.declared.definition.TypeDef.{TypeDef}
+use Rattle.type_definitions.specs.declared.definition.TypeDef.{TypeDef}
 use Rattle.frames.specs.Activations.{Activation, Value}
 use Rattle.model_laws.specs.ClientsFit.{AnswerFits, ArgumentFits, ArgumentsFit, ClientFits, EntryFits, PushFits, ReplyFits, ScriptEntryFits, ViewFits, WithFits}
 use Rattle.model_laws.specs.Places.{Places}

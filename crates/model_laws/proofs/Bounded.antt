@@ -7,10 +7,10 @@ use Rattle.std.proofs.lemmas.Bool.Decides.{eqb_tells}
 use Rattle.std.proofs.lemmas.List.Elements.{All-weaker}
 use Rattle.std.proofs.lemmas.Map.Steps.{length-le_from_distinct_below}
 use Rattle.std.proofs.lemmas.Option.{slice_get_within}
-use Rattle.heap_cells.specs.declared.cells.CellId.{CellId}
+use Rattle.mu_values.specs.declared.cells.CellId.{CellId}
 use Rattle.mem_axioms.specs.declared.types.Kind.TheVariants as kinds
 use Rattle.mu_base.specs.declared.order.Order.{Order}
-use Rattle.type_laws.specs.Leaves.{times}
+use Rattle.type_definitions.specs.Leaves.{times}
 use Rattle.mu_values.specs.declared.scalars.Scalar.{Scalar}
 use Rattle.mu_model.specs.Acts as acts
 use Rattle.frames.specs.Activations.{Activation}
@@ -28,7 +28,8 @@ use Rattle.mu_model.specs.Answers.{advanced, answer_of, typed}
 use Rattle.mu_threads.specs.Picks.{pick}
 use Rattle.mu_model.specs.Changes.{frames_end, logged, stack_becomes, thread_changes}
 use Rattle.mu_model.specs.Clients.{Client}
-use Rattle.mu_model.specs.Configuration.{Active, Configuration, Dead, Ready, Stack, Thread, Waiter}
+use Rattle.futex.specs.declared.waiters.Waiter.{Waiter}
+use Rattle.mu_model.specs.Configuration.{Active, Configuration, Dead, Ready, Stack, Thread}
 use Rattle.mu_model.specs.Frames.{called, passed}
 use Rattle.mu_model.specs.Objects.{object_added, owning}
 use Rattle.mu_model.specs.Outcomes.{Asks, End, Next, Outcome, Stuck}
@@ -36,7 +37,8 @@ use Rattle.mu_model.specs.Run.{Breaks, Ends, Run, Unfinished, begins_in, behind,
 use Rattle.mu_model.specs.Step.{performed, picked, picking_thread, runnable, step, ends_or_picks, threads_from, turned, turns, with_own}
 use Rattle.mu_model.specs.Turns.{Turn, active_on, turn_at, turn_of}
 use Rattle.mu_model.specs.Types.{type_graph}
-use Rattle.mu_model.specs.Waiting.{futex_wakes, is_at, is_of, wakes_all, wakes_one, wakes_these, was_woken, without}
+use Rattle.futex.specs.Waiting.{is_at, is_of, without}
+use Rattle.mu_model.specs.Waiting.{futex_wakes, wakes_all, wakes_one, wakes_these, was_woken}
 use Rattle.mu_model.specs.declared.endings.Ending.TheVariants.{Budget}
 use Rattle.mu_model.specs.declared.lines.Line.{Line}
 use Rattle.mu_model.specs.declared.lines.Note.TheVariants.{Exited}

@@ -11,7 +11,7 @@ use Rattle.mem_axioms.specs.Choices.{choices}
 use Rattle.mem_axioms.specs.declared.types.Chosen.{Chosen}
 use Rattle.mu_base.specs.declared.order.Order.TheVariants.{Relaxed}
 use Rattle.mu_values.specs.SameScalar.{same_scalar}
-use Rattle.heap_cells.specs.declared.cells.CellId.{CellId}
+use Rattle.mu_values.specs.declared.cells.CellId.{CellId}
 use Rattle.mem_axioms.specs.Races.{race}
 use Rattle.mu_model.specs.Acts as acts
 use Rattle.mu_model.specs.Clients as clients
@@ -23,7 +23,8 @@ use Rattle.mu_model.specs.Acts.{Access, Entering, Misfits, Passes, Program, Thro
 use Rattle.mu_threads.specs.Picks.{pick}
 use Rattle.mu_model.specs.Changes.{changed, event, frames_end, logged, noted, stack_becomes, stack_dies, thread_changes}
 use Rattle.mu_model.specs.Clients.{Answer, Classed, Exit, Rebind, Reply, Resume, With}
-use Rattle.mu_model.specs.Configuration.{Active, Configuration, Dead, Ready, Stack, Waiter}
+use Rattle.futex.specs.declared.waiters.Waiter.{Waiter}
+use Rattle.mu_model.specs.Configuration.{Active, Configuration, Dead, Ready, Stack}
 use Rattle.mu_model.specs.EnteringStacks.{values_entered, entered, entering, enters, kills_stack, swaps_killing, leaving, makes_stack, most_threads, on_stack, ready, ready_at, started, starts, swaps}
 use Rattle.mu_model.specs.Exceptions.{EnteredFrames, calls, caught_by, finishes, returns, throws, unwinding}
 use Rattle.mu_model.specs.Frames.{arrived, called, caught, fresh_frame, passed}
@@ -35,7 +36,8 @@ use Rattle.model_laws.proofs.Editing.{edited_depth}
 use Rattle.mu_model.specs.Traps.{answered, edits, chooses, entering_of, enters_by, goes, is_watched, replied, taken, trap_note, trapped, meets_watchpoint}
 use Rattle.mu_model.specs.Turns.{Turn, waiting}
 use Rattle.mu_model.specs.Types.{type_graph, classes_given}
-use Rattle.mu_model.specs.Waiting.{found_another, futex_waits, times_out, waits_at, without}
+use Rattle.futex.specs.Waiting.{without}
+use Rattle.mu_model.specs.Waiting.{found_another, futex_waits, times_out, waits_at}
 use Rattle.mu_model.specs.declared.endings.Case.{Case}
 use Rattle.mu_model.specs.declared.endings.Case.TheVariants.{DivideByZero, NullAccess, StackTypes}
 use Rattle.mu_model.specs.declared.endings.Ending.{Ending}

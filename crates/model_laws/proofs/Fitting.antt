@@ -1,9 +1,9 @@
 -- Values that fit.
 use Rattle.std.specs.Prelude.{◌≡◌, ◌≤◌, ◌<◌, ℕ, true, List, [], ◌∷◌, ◌++◌, Some, IsSomeAnd, length, slice_get, ◌||◌, ◌&&◌, ◌==◌, nat_lt, drop}
 use Rattle.std.proofs.Common.{sym, ◌∙◌, subst, arith}
-use Rattle.type_laws.specs.declared.definition.TypeDef.{TypeDef}
-use Rattle.type_laws.specs.Class.{class_of}
-use Rattle.type_laws.specs.declared.definition.TypeDef.TheVariants as types
+use Rattle.type_definitions.specs.declared.definition.TypeDef.{TypeDef}
+use Rattle.type_definitions.specs.Class.{class_of}
+use Rattle.type_definitions.specs.declared.definition.TypeDef.TheVariants as types
 use Rattle.mu_values.specs.declared.scalars.Scalar.{Scalar}
 use Rattle.mu_values.specs.declared.scalars.Scalar.TheVariants.{Int, Null, Object, Place, Func, Stack, Thread}
 use Rattle.check_tables.specs.declared.tables.Tables.{Tables}

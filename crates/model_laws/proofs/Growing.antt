@@ -4,7 +4,7 @@ use Rattle.std.proofs.Common.{◌∙◌, ap}
 use Rattle.mem_axioms.specs.declared.types.Event.{Event}
 use Rattle.mem_axioms.specs.declared.types.Kind.{Kind}
 use Rattle.mem_axioms.specs.declared.types.Kind.TheVariants as kinds
-use Rattle.heap_cells.specs.declared.cells.CellId.{CellId}
+use Rattle.mu_values.specs.declared.cells.CellId.{CellId}
 use Rattle.std.specs.Prelude.{fold}
 use Rattle.frames.specs.Activations.{Activation}
 use Rattle.model_laws.proofs.Basics.{some_is, some_more, some_of}

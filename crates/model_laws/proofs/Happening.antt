@@ -5,9 +5,9 @@ use Rattle.std.proofs.lemmas.Bool.{and_parts}
 use Rattle.std.proofs.lemmas.List.Elements.{All-head, All-tail}
 use Rattle.mu_values.specs.declared.scalars.Scalar.{Scalar}
 use Rattle.mu_values.specs.declared.scalars.Scalar.TheVariants.{Null}
-use Rattle.heap_cells.specs.declared.cells.CellId.{CellId}
-use Rattle.heap_cells.specs.SameCell.{same_cell}
-use Rattle.heap_cells.specs.CellLaws.{same_cell-true}
+use Rattle.mu_values.specs.declared.cells.CellId.{CellId}
+use Rattle.mu_values.specs.SameCell.{same_cell}
+use Rattle.mu_values.specs.CellLaws.{same_cell-true}
 use Rattle.mem_axioms.specs.declared.types.Rule.{Rule}
 use Rattle.mem_axioms.specs.declared.types.Event.{Event}
 use Rattle.mem_axioms.specs.declared.types.Kind.{Kind}
@@ -20,7 +20,7 @@ use Rattle.mem_axioms.specs.Lemmas.Fitting.{others-race}
 use Rattle.mem_axioms.specs.EventFits.{is_thread, EventFits}
 use Rattle.mem_axioms.specs.Form.{value_at}
 use Rattle.mem_axioms.specs.Objects.{initial_of, HasCell}
-use Rattle.type_laws.specs.declared.definition.TypeDef.{TypeDef}
+use Rattle.type_definitions.specs.declared.definition.TypeDef.{TypeDef}
 use Rattle.model_laws.proofs.Basics.{some_at}
 use Rattle.model_laws.specs.LogFits.{KindFits, LogFits, LoggedFits, ObjectFits}
 use Rattle.model_laws.specs.Values.{leaf_at, world}

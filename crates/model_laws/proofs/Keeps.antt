@@ -26,7 +26,8 @@ use Rattle.model_laws.specs.Values.{HasGlobals, world}
 use Rattle.model_laws.specs.WellTyped.{GoesWell, Settles, WellTyped}
 use Rattle.mu_model.specs.Acts.{Program}
 use Rattle.mu_model.specs.Changes.{event, logged, logged_event, stack_becomes}
-use Rattle.mu_model.specs.Configuration.{Active, Configuration, Dead, Ready, Stack, Thread, Waiter}
+use Rattle.futex.specs.declared.waiters.Waiter.{Waiter}
+use Rattle.mu_model.specs.Configuration.{Active, Configuration, Dead, Ready, Stack, Thread}
 use Rattle.mu_model.specs.Outcomes.{Outcome, next, on}
 use Rattle.mu_model.specs.Turns.{Turn}
 use Rattle.mu_model.specs.Types.{type_graph}

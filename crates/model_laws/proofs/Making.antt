@@ -3,12 +3,12 @@ use Rattle.std.specs.Prelude.{◌≡◌, ◌≢◌, ◌⊎◌, ◌≤◌, ◌<�
 use Rattle.std.proofs.Common.{sym, ◌∙◌, ap, subst, arith}
 use Rattle.std.proofs.lemmas.Bool.{false≢true}
 use Rattle.std.proofs.lemmas.List.Elements.{All-push, All-weaker, All-head, All-tail}
-use Rattle.type_laws.specs.Leaves.{times}
-use Rattle.type_laws.specs.declared.definition.TypeDef.{TypeDef}
+use Rattle.type_definitions.specs.Leaves.{times}
+use Rattle.type_definitions.specs.declared.definition.TypeDef.{TypeDef}
 use Rattle.mu_values.specs.declared.scalars.Scalar.{Scalar}
 use Rattle.mu_values.specs.declared.scalars.Scalar.TheVariants.{Null, Object, Place}
-use Rattle.heap_cells.specs.declared.cells.CellId.{CellId}
-use Rattle.heap_cells.specs.CellLaws.{same_cell-true}
+use Rattle.mu_values.specs.declared.cells.CellId.{CellId}
+use Rattle.mu_values.specs.CellLaws.{same_cell-true}
 use Rattle.mem_axioms.specs.Events.{accesses}
 use Rattle.mem_axioms.specs.Logs.{event_at}
 use Rattle.mem_axioms.specs.Objects.{initial_of}

@@ -28,7 +28,8 @@ use Rattle.model_laws.specs.WellTyped.{GoesWell}
 use Rattle.mu_model.specs.Acts.{Program}
 use Rattle.mu_model.specs.Answers.{typed}
 use Rattle.mu_model.specs.Changes.{logged, stack_becomes, stack_dies}
-use Rattle.mu_model.specs.Configuration.{Active, Configuration, Dead, Ready, Stack, Thread, Waiter}
+use Rattle.futex.specs.declared.waiters.Waiter.{Waiter}
+use Rattle.mu_model.specs.Configuration.{Active, Configuration, Dead, Ready, Stack, Thread}
 use Rattle.mu_model.specs.EnteringStacks.{kills_stack, makes_stack}
 use Rattle.mu_model.specs.Frames.{fresh_frame}
 use Rattle.mu_model.specs.Outcomes.{has_results, has_result}

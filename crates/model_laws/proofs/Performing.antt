@@ -34,7 +34,8 @@ use Rattle.model_laws.specs.WellTyped.{GoesWell, WellTyped}
 use Rattle.mu_model.specs.Acts.{Act, Program}
 use Rattle.mu_threads.specs.Picks.{pick}
 use Rattle.mu_model.specs.Changes.{logged}
-use Rattle.mu_model.specs.Configuration.{Active, Configuration, Thread, Waiter}
+use Rattle.futex.specs.declared.waiters.Waiter.{Waiter}
+use Rattle.mu_model.specs.Configuration.{Active, Configuration, Thread}
 use Rattle.mu_model.specs.Exceptions.{returns}
 use Rattle.mu_model.specs.Objects.{cast_any}
 use Rattle.mu_model.specs.Outcomes.{End, has_result, or_case, tried}
@@ -42,7 +43,7 @@ use Rattle.mu_model.specs.Step.{is_blocked, performed, picked, picking_thread, r
 use Rattle.mu_model.specs.Traps.{chooses, goes, is_watched}
 use Rattle.mu_model.specs.Turns.{Turn, turn_of}
 use Rattle.mu_model.specs.Types.{class_definition, type_graph}
-use Rattle.mu_model.specs.Waiting.{is_of}
+use Rattle.futex.specs.Waiting.{is_of}
 use Rattle.mu_model.specs.declared.endings.Ending.TheVariants.{Budget}
 use Rattle.mu_model.specs.declared.lines.Note.TheVariants.{Exited, Returned}
 use Rattle.mu_values.specs.Slots.{TypedValues}

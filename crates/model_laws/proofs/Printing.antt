@@ -5,13 +5,13 @@ use Rattle.std.proofs.Math.ListN.{length-set}
 use Rattle.std.proofs.lemmas.Bool.Decides.{nat_tests}
 use Rattle.std.proofs.lemmas.List.Elements.{All-cons, All-nil, All-head, All-tail, All-weaker, All-push}
 use Rattle.std.proofs.lemmas.Option.{slice_get_within}
-use Rattle.type_laws.specs.Leaves.{times}
+use Rattle.type_definitions.specs.Leaves.{times}
 use Rattle.mu_base.specs.declared.order.Order.TheVariants.{Relaxed}
 use Rattle.mu_values.specs.declared.scalars.Scalar.{Scalar}
 use Rattle.mu_values.specs.declared.scalars.Scalar.TheVariants as scalars
 use Rattle.mu_values.specs.SameScalar.{same_scalar}
 use Rattle.mu_values.specs.Slots.{TypedValues}
-use Rattle.heap_cells.specs.declared.cells.CellId.{CellId}
+use Rattle.mu_values.specs.declared.cells.CellId.{CellId}
 use Rattle.typed_heap.specs.Fits.{World}
 use Rattle.typed_heap.specs.Heap.{hybrid_classes}
 use Rattle.typed_heap.specs.Objects.{HeapObject, killed, leaf_classes, run_classes, object_of}
@@ -37,7 +37,8 @@ use Rattle.mu_model.specs.Answers.{advanced, answer_of}
 use Rattle.mu_model.specs.Changes.{changed, event, frames_end, logged, noted, stack_becomes, stack_dies, thread_changes}
 use Rattle.mu_model.specs.Clients as clients
 use Rattle.mu_model.specs.Clients.{Answer, Classed, Client, Exit, Rebind, Reply, Resume, With}
-use Rattle.mu_model.specs.Configuration.{Active, Configuration, Dead, Ready, Stack, Thread, Waiter}
+use Rattle.futex.specs.declared.waiters.Waiter.{Waiter}
+use Rattle.mu_model.specs.Configuration.{Active, Configuration, Dead, Ready, Stack, Thread}
 use Rattle.mu_model.specs.EnteringStacks.{entered, entering, enters, leaving, most_threads, on_stack, ready, started}
 use Rattle.mu_model.specs.Exceptions.{EnteredFrames, returns}
 use Rattle.mu_model.specs.Frames.{fresh_frame, passed}
@@ -50,7 +51,8 @@ use Rattle.mu_model.specs.Edits.{edited}
 use Rattle.mu_model.specs.Traps.{answered, edits, entering_of, enters_by, goes, is_watched, replied, taken, trap_note, trapped}
 use Rattle.mu_model.specs.Turns.{Turn, turn_of, waiting}
 use Rattle.mu_model.specs.Types.{type_graph}
-use Rattle.mu_model.specs.Waiting.{found_another, futex_waits, is_at, is_of, wakes_all, wakes_one, wakes_these, was_woken, waits_at, without}
+use Rattle.futex.specs.Waiting.{is_at, is_of, without}
+use Rattle.mu_model.specs.Waiting.{found_another, futex_waits, wakes_all, wakes_one, wakes_these, was_woken, waits_at}
 use Rattle.model_laws.specs.ActsFit.{ActFits}
 use Rattle.model_laws.specs.Orders.{OrdersFit, IsFenceOrder}
 use Rattle.model_laws.specs.Places.{Places}

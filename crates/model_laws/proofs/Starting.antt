@@ -34,7 +34,8 @@ use Rattle.model_laws.specs.WellTyped.{GoesWell}
 use Rattle.mu_model.specs.Acts.{Entering, Program}
 use Rattle.mu_model.specs.Answers.{typed}
 use Rattle.mu_model.specs.Changes.{changed, event, logged}
-use Rattle.mu_model.specs.Configuration.{Active, Configuration, Ready, Stack, Thread, Waiter}
+use Rattle.futex.specs.declared.waiters.Waiter.{Waiter}
+use Rattle.mu_model.specs.Configuration.{Active, Configuration, Ready, Stack, Thread}
 use Rattle.mu_model.specs.EnteringStacks.{entering, most_threads, on_stack, started, starts}
 use Rattle.mu_model.specs.Exceptions.{EnteredFrames}
 use Rattle.mu_model.specs.Outcomes.{faulted, has_results, has_result}

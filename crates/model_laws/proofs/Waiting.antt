@@ -7,7 +7,7 @@ use Rattle.mu_base.specs.declared.order.Order.TheVariants.{Relaxed}
 use Rattle.mu_values.specs.declared.scalars.Scalar.{Scalar}
 use Rattle.mu_values.specs.declared.scalars.Scalar.TheVariants.{Int}
 use Rattle.mu_values.specs.SameScalar.{same_scalar}
-use Rattle.heap_cells.specs.declared.cells.CellId.{CellId}
+use Rattle.mu_values.specs.declared.cells.CellId.{CellId}
 use Rattle.check_tables.specs.Types.{int32}
 use Rattle.mem_axioms.specs.Logs.{newest}
 use Rattle.mem_axioms.specs.Choices.{chosen_at, choices}
@@ -38,13 +38,15 @@ use Rattle.mu_model.specs.Accesses.{accessed, initial, kind_of, raced, wanted}
 use Rattle.mu_model.specs.Acts.{Act, Doing, Loads, Program}
 use Rattle.mu_model.specs.Answers.{typed}
 use Rattle.mu_model.specs.Changes.{event, logged_event, noted, stack_becomes}
-use Rattle.mu_model.specs.Configuration.{Active, Configuration, Stack, Thread, Waiter}
+use Rattle.futex.specs.declared.waiters.Waiter.{Waiter}
+use Rattle.mu_model.specs.Configuration.{Active, Configuration, Stack, Thread}
 use Rattle.mu_model.specs.Frames.{passed}
 use Rattle.frames.specs.Chains.{stands}
 use Rattle.mu_model.specs.Outcomes.{on, onto}
 use Rattle.mu_model.specs.Turns.{Turn}
 use Rattle.mu_model.specs.Types.{type_graph}
-use Rattle.mu_model.specs.Waiting.{found_another, futex_waits, is_of, time_was_over, times_out, waited, waits_at, without}
+use Rattle.futex.specs.Waiting.{is_of, without}
+use Rattle.mu_model.specs.Waiting.{found_another, futex_waits, time_was_over, times_out, waited, waits_at}
 use Rattle.mu_model.specs.declared.lines.Line.{Line}
 use Rattle.mu_model.specs.declared.lines.Note.TheVariants.{TimedOut}
 use Rattle.typed_heap.specs.Fits.{ScalarFits, World}

@@ -3,7 +3,7 @@ use Rattle.std.specs.Prelude.{◌≡◌, ◌≢◌, ◌⊎◌, ◌≤◌, ◌<�
 use Rattle.std.proofs.Common.{sym, ◌∙◌, ap, subst, inl, inr, arith, cond, lit<}
 use Rattle.std.proofs.lemmas.Bool.{false≢true}
 use Rattle.std.proofs.lemmas.Bool.Decides.{eqb_tells}
-use Rattle.heap_cells.specs.declared.cells.CellId.{CellId}
+use Rattle.mu_values.specs.declared.cells.CellId.{CellId}
 use Rattle.check_tables.specs.Types.{int32}
 use Rattle.mem_axioms.specs.Lemmas.Fitting.{wake-stays, wake-numbered}
 use Rattle.mem_axioms.specs.EventFits.{is_thread, wakes_at, EventFits}
@@ -29,11 +29,13 @@ use Rattle.model_laws.specs.WellTyped.{GoesWell, WellTyped}
 use Rattle.mu_model.specs.Acts.{Doing, Program}
 use Rattle.mu_model.specs.Answers.{typed}
 use Rattle.mu_model.specs.Changes.{event, logged, stack_becomes}
-use Rattle.mu_model.specs.Configuration.{Active, Configuration, Stack, Thread, Waiter}
+use Rattle.futex.specs.declared.waiters.Waiter.{Waiter}
+use Rattle.mu_model.specs.Configuration.{Active, Configuration, Stack, Thread}
 use Rattle.mu_model.specs.Frames.{passed}
 use Rattle.mu_model.specs.Turns.{Turn, turn_of}
 use Rattle.mu_model.specs.Types.{type_graph}
-use Rattle.mu_model.specs.Waiting.{futex_wakes, is_at, wakes_all, wakes_one, wakes_these, was_woken, without}
+use Rattle.futex.specs.Waiting.{is_at, without}
+use Rattle.mu_model.specs.Waiting.{futex_wakes, wakes_all, wakes_one, wakes_these, was_woken}
 use Rattle.typed_heap.specs.Fits.{World, fits}
 use Rattle.typed_heap.specs.Objects.{HeapObject}
 

@@ -1,6 +1,6 @@
 -- Clients and answers that fit.
 use Rattle.std.specs.Prelude.{◌≡◌, ℕ, All, List, Option, Some, None, IsSome, slice_get}
-use Rattle.type_laws.specs.declared.definition.TypeDef.{TypeDef}
+use Rattle.type_definitions.specs.declared.definition.TypeDef.{TypeDef}
 use Rattle.mu_values.specs.Slots.{TypedValues}
 use Rattle.check_tables.specs.declared.tables.Tables.{Tables}
 use Rattle.check_tables.specs.Types.{stackref}

@@ -1,6 +1,6 @@
 -- Well-typed objects, and a well-typed log.
 use Rattle.std.specs.Prelude.{◌≡◌, ℕ, true, false, nat_lt, List, [], ◌∷◌, IsSomeAnd, All, length, map}
-use Rattle.type_laws.specs.declared.definition.TypeDef.{TypeDef}
+use Rattle.type_definitions.specs.declared.definition.TypeDef.{TypeDef}
 use Rattle.typed_heap.specs.Objects.{HeapObject}
 use Rattle.typed_heap.specs.Fits.{World, ScalarFits, ScalarsFit}
 use Rattle.mem_axioms.specs.EventFits.{is_thread, wakes_at}

@@ -3,7 +3,7 @@ use Rattle.std.specs.Prelude.{◌≡◌, Bool, true}
 use Rattle.mu_base.specs.declared.order.Order.{Order}
 use Rattle.mem_axioms.specs.declared.types.Mode.{Mode}
 use Rattle.mem_axioms.specs.declared.types.Mode.TheVariants.{Read, Write, Update}
-use Rattle.code_check.specs.Accesses.{may_load, may_store, may_update, may_fence}
+use Rattle.checked_code.specs.Accesses.{may_load, may_store, may_update, may_fence}
 use Rattle.mu_model.specs.Acts.{Access, Loads, Stores, Compares, Updates}
 
 -- A read has an order that a LOAD may have, a write one of a STORE, and an update one of an ATOMICRMW.

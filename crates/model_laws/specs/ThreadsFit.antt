@@ -8,8 +8,9 @@ use Rattle.frames.specs.Activations.{Activation}
 use Rattle.mu_model.specs.Types.{type_graph}
 use Rattle.mu_model.specs.Acts as acts
 use Rattle.mu_model.specs.Acts.{Act, Doing, Program}
-use Rattle.mu_model.specs.Configuration.{Stack, Ready, Active, Dead, Thread, Waiter}
-use Rattle.mu_model.specs.Waiting.{is_of}
+use Rattle.futex.specs.declared.waiters.Waiter.{Waiter}
+use Rattle.mu_model.specs.Configuration.{Stack, Ready, Active, Dead, Thread}
+use Rattle.futex.specs.Waiting.{is_of}
 
 -- ---- 4: the stack of each thread is active on it, and each stack that is active has its thread
 

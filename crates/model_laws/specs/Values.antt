@@ -1,9 +1,9 @@
 -- What there is at a moment of a run, and values that fit their types, one by one.
 use Rattle.std.specs.Prelude.{◌≡◌, ℕ, List, [], ◌∷◌, Option, Some, length, slice_get}
-use Rattle.type_laws.specs.declared.definition.TypeDef.{TypeDef}
+use Rattle.type_definitions.specs.declared.definition.TypeDef.{TypeDef}
 use Rattle.mu_values.specs.declared.scalars.Scalar.TheVariants.{Place}
 use Rattle.mu_values.specs.Slots.{TypedValues}
-use Rattle.heap_cells.specs.declared.cells.CellId.{CellId}
+use Rattle.mu_values.specs.declared.cells.CellId.{CellId}
 use Rattle.check_tables.specs.declared.tables.Tables.{Tables}
 use Rattle.typed_heap.specs.Objects.{HeapObject}
 use Rattle.typed_heap.specs.Fits.{World, ScalarFits, ValueFits, signature_classes}

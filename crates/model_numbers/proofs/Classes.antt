@@ -1,20 +1,20 @@
 -- The definition of a class says of an int type what its own definition says.
 use Rattle.std.proofs.Common.{◌≡◌, ℕ, ◌<◌, Bool, true, false, List, Option, Some, None, length, slice_get, nat_eq, nat_lt, if◌then◌else◌, refl, ap, subst, arith}
 use Rattle.std.proofs.lemmas.Option.{slice_get_within}
-use Rattle.type_laws.specs.declared.definition.TypeDef.{TypeDef}
-use Rattle.type_laws.specs.declared.definition.TypeDef.TheVariants.{Int, Struct, Array, Hybrid, Void, Ref, Iref, FuncRef, StackRef, ThreadRef, Sig}
-use Rattle.type_laws.specs.Same.{same, agree_at, IsGraph}
-use Rattle.type_laws.specs.Class.{class_of}
-use Rattle.type_laws.specs.Laws.{ClassesDecide}
-use Rattle.type_laws.proofs.Proved.{congruence, decided}
+use Rattle.type_definitions.specs.declared.definition.TypeDef.{TypeDef}
+use Rattle.type_definitions.specs.declared.definition.TypeDef.TheVariants.{Int, Struct, Array, Hybrid, Void, Ref, Iref, FuncRef, StackRef, ThreadRef, Sig}
+use Rattle.type_definitions.specs.Same.{same, agree_at, IsGraph}
+use Rattle.type_definitions.specs.Class.{class_of}
+use Rattle.type_definitions.specs.Laws.{ClassesDecide}
+use Rattle.type_definitions.proofs.Proved.{congruence, decided}
 use Rattle.mu_values.specs.Constants.{width_of}
 use Rattle.ir_lex.specs.declared.name.Name.{Name}
 use Rattle.check_tables.specs.declared.tables.Tables.{Tables}
 use Rattle.check_tables.specs.Types.{definition_in, class_in}
 use Rattle.check_tables.specs.Lookups.{or_zero, type_named, noted_class, definition_named}
 use Rattle.check_tables.specs.TypeTests.{is_int}
-use Rattle.code_check.specs.Typed.{TablesFit}
-use Rattle.code_check.proofs.TypedOperands.{nat_eq_is, both_are}
+use Rattle.bundle_laws.specs.Typed.{TablesFit}
+use Rattle.bundle_laws.proofs.TypedOperands.{nat_eq_is, both_are}
 use Rattle.mu_model.specs.Types.{class_width}
 
 agrees_with_int : (r : ℕ → ℕ → Bool) (w : ℕ) (o : Option TypeDef) → agree_at r o (Some (Int w)) ≡ true → width_of o ≡ Some w

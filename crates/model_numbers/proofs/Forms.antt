@@ -23,19 +23,19 @@ use Rattle.ir_tree.specs.declared.code.Op.TheVariants as ops
 use Rattle.ir_tree.specs.declared.code.Inst.{Inst}
 use Rattle.check_tables.specs.Types.{int1, int32, stackref, ref_void, class_in}
 use Rattle.check_tables.specs.Lookups.{ref_named, iref_named, signature_named, funcref_of, takes_of}
-use Rattle.code_check.specs.declared.scopes.Locals.{Locals}
-use Rattle.code_check.specs.Computations.{field_named, computation_demands, computation_code}
-use Rattle.code_check.specs.Accesses.{access_demands, access_code}
-use Rattle.code_check.specs.Control.{control_demands, control_code}
-use Rattle.code_check.specs.Objects.{allocation_demands, allocation_code, addressing_demands, addressing_code}
-use Rattle.code_check.specs.Stacks.{trapping_demands, trapping_code, switch_demands, switch_code}
-use Rattle.code_check.specs.Commons.{common_demands, common_code}
-use Rattle.code_check.specs.Operands.{noted_list, argument_demands, sources_of}
-use Rattle.bundle_check.specs.Functions.{body_of}
-use Rattle.code_check.specs.Instructions.{op_demands, form_of, normal_of, exceptional_of, keepalive_of, after, inst_demands, inst_code}
+use Rattle.checked_code.specs.declared.scopes.Locals.{Locals}
+use Rattle.checked_code.specs.Computations.{field_named, computation_demands, computation_code}
+use Rattle.checked_code.specs.Accesses.{access_demands, access_code}
+use Rattle.checked_code.specs.Control.{control_demands, control_code}
+use Rattle.checked_code.specs.Objects.{allocation_demands, allocation_code, addressing_demands, addressing_code}
+use Rattle.checked_code.specs.Stacks.{trapping_demands, trapping_code, switch_demands, switch_code}
+use Rattle.checked_code.specs.Commons.{common_demands, common_code}
+use Rattle.checked_code.specs.Operands.{noted_list, argument_demands, sources_of}
+use Rattle.checked_code.specs.Functions.{body_of}
+use Rattle.checked_code.specs.Instructions.{op_demands, form_of, normal_of, exceptional_of, keepalive_of, after, inst_demands, inst_code}
 use Rattle.check_tables.specs.TypeTests.{is_int}
-use Rattle.code_check.specs.Typed.{TablesFit}
-use Rattle.code_check.proofs.TypedOperands.{type_of}
+use Rattle.bundle_laws.specs.Typed.{TablesFit}
+use Rattle.bundle_laws.proofs.TypedOperands.{type_of}
 use Rattle.typed_heap.specs.Places.{with_some, Field, Element, Shift, VarPart}
 use Rattle.frames.specs.Activations.{Value}
 use Rattle.mu_model.specs.Acts.{Calls, Replaces, Throws, Casts, Finds, KillsStack, SetsOwn}

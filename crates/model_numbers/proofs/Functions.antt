@@ -3,7 +3,7 @@ use Rattle.std.proofs.Common.{◌≡◌, ℕ, zero, suc, ◌+◌, ◌<◌, Bool,
 use Rattle.std.proofs.lemmas.Slice.Eq.{bytes_eq-Decides}
 use Rattle.std.specs.Str.{bytes_eq}
 use Rattle.demands.specs.Demands.{or_else}
-use Rattle.demands.specs.Names.{Names, found, added}
+use Rattle.name_scopes.specs.Names.{Names, found, added}
 use Rattle.ir_lex.specs.declared.name.Name.{Name}
 use Rattle.ir_tree.specs.declared.items.Item.{Item}
 use Rattle.ir_tree.specs.declared.items.Item.TheVariants as items
@@ -12,11 +12,11 @@ use Rattle.bundle_names.specs.declared.globals.Sort.TheVariants as sorts
 use Rattle.bundle_names.specs.declared.globals.Globals.{Globals}
 use Rattle.bundle_names.specs.Globals.{with_function, with_item, with_items, no_globals, globals_of}
 use Rattle.check_tables.specs.declared.tables.Tables.{Tables}
-use Rattle.code_check.proofs.TypedOperands.{nat_eq_is}
-use Rattle.bundle_tables.specs.Entries.{noted_signature, defined_signatures, is_function, declared_entry, function_entries, tables_of}
-use Rattle.bundle_check.specs.declared.code.Function.{Function}
-use Rattle.bundle_check.specs.Functions.{first_blocks, first_of, function_named, functions_behind, functions_from}
-use Rattle.bundle_check.specs.Checking.{bundle_tables, bundle_functions}
+use Rattle.bundle_laws.proofs.TypedOperands.{nat_eq_is}
+use Rattle.checked_code.specs.Entries.{noted_signature, defined_signatures, is_function, declared_entry, function_entries, tables_of}
+use Rattle.checked_code.specs.declared.blocks.Function.{Function}
+use Rattle.checked_code.specs.Functions.{first_blocks, first_of, function_named, functions_behind, functions_from}
+use Rattle.checked_code.specs.Checking.{bundle_tables, bundle_functions}
 use Rattle.typed_heap.specs.Places.{with_some}
 use Rattle.model_numbers.specs.Laws.{definition_from}
 use Rattle.model_numbers.proofs.Names.{some_is, found_added, stays, or_assoc, or_none}

@@ -2,13 +2,13 @@
 use Rattle.std.proofs.Common.{◌≡◌, ℕ, suc, ◌+◌, Bool, true, false, List, [], ◌∷◌, Option, Some, None, slice_get, option_map, find, bytes_eq, cond, if◌then◌else◌, refl, sym, ◌∙◌, ap, arith}
 use Rattle.std.specs.List.{position_from}
 use Rattle.demands.specs.Demands.{or_else}
-use Rattle.demands.specs.Names.{Names, found, added}
+use Rattle.name_scopes.specs.Names.{Names, found, added}
 use Rattle.ir_lex.specs.declared.name.Name.{Name}
 use Rattle.ir_tree.specs.declared.code.Block.{Block}
 use Rattle.ir_tree.specs.declared.items.Item.{Item}
 use Rattle.check_tables.specs.declared.tables.Tables.{Tables}
-use Rattle.code_check.specs.declared.scopes.BlockEntry.{BlockEntry}
-use Rattle.bundle_check.specs.Functions.{entry_of, entries_from}
+use Rattle.checked_code.specs.declared.scopes.BlockEntry.{BlockEntry}
+use Rattle.checked_code.specs.Functions.{entry_of, entries_from}
 use Rattle.typed_heap.specs.Places.{with_some}
 use Rattle.mu_model.specs.Operands.{Scope, tables_in, target_block}
 use Rattle.mu_model.specs.Programs.{scopes_of}

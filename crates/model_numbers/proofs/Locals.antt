@@ -3,7 +3,7 @@ use Rattle.std.proofs.Common.{◌≡◌, ℕ, suc, ◌+◌, Bool, true, false, L
 use Rattle.std.specs.List.{position_from}
 use Rattle.std.proofs.lemmas.Iterator.Adapters.{position_from-zero}
 use Rattle.demands.specs.Demands.{AllMet, first_unmet, or_else}
-use Rattle.demands.specs.Names.{found}
+use Rattle.name_scopes.specs.Names.{found}
 use Rattle.demands.proofs.Meeting.{all_met}
 use Rattle.ir_lex.specs.declared.name.Name.{Name}
 use Rattle.ir_tree.specs.declared.code.Inst.{Inst}
@@ -13,13 +13,13 @@ use Rattle.bundle_names.specs.Naming.{name_demands}
 use Rattle.check_tables.specs.declared.tables.Tables.{Tables}
 use Rattle.check_tables.specs.Types.{ref_void}
 use Rattle.check_tables.specs.Lookups.{noted_class}
-use Rattle.code_check.specs.declared.scopes.Body.{Body}
-use Rattle.code_check.specs.declared.scopes.Locals.{Locals}
-use Rattle.code_check.specs.declared.scopes.Variable.{Variable}
-use Rattle.code_check.specs.Instructions.{no_locals, bound, bound_results, after, after_all, gives, inst_demands, insts_demands, is_ending}
-use Rattle.code_check.proofs.TypedOperands.{nat_eq_is}
-use Rattle.bundle_check.specs.Blocks.{bound_parameters, bound_handler, head_locals}
-use Rattle.bundle_check.specs.Checking.{check_demands}
+use Rattle.checked_code.specs.declared.scopes.Body.{Body}
+use Rattle.checked_code.specs.declared.scopes.Locals.{Locals}
+use Rattle.checked_code.specs.declared.scopes.Variable.{Variable}
+use Rattle.checked_code.specs.Instructions.{no_locals, bound, bound_results, after, after_all, gives, inst_demands, insts_demands, is_ending}
+use Rattle.bundle_laws.proofs.TypedOperands.{nat_eq_is}
+use Rattle.checked_code.specs.Blocks.{bound_parameters, bound_handler, head_locals}
+use Rattle.checked_code.specs.Checking.{check_demands}
 use Rattle.typed_heap.specs.Places.{with_some}
 use Rattle.frames.specs.Activations.{Value}
 use Rattle.mu_model.specs.Operands.{Scope, tables_in, variables, local_value}

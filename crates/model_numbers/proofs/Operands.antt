@@ -2,7 +2,7 @@
 use Rattle.std.proofs.Common.{◌≡◌, ℕ, true, List, [], ◌∷◌, Option, Some, None, map, length, slice_get, is_some, option_map, refl, sym, ◌∙◌, ap, ap₂, arith}
 use Rattle.std.specs.Option.{option_map_or}
 use Rattle.demands.specs.Demands.{AllMet, none}
-use Rattle.demands.specs.Names.{found}
+use Rattle.name_scopes.specs.Names.{found}
 use Rattle.ir_lex.specs.declared.name.Name.{Name}
 use Rattle.ir_tree.specs.declared.operands.Operand.{Operand}
 use Rattle.ir_tree.specs.declared.operands.Operand.TheVariants.{Local, Global}
@@ -17,25 +17,25 @@ use Rattle.check_tables.specs.declared.tables.Tables.{Tables}
 use Rattle.check_tables.specs.declared.fault.CheckKind.TheVariants.{OperandType}
 use Rattle.check_tables.specs.Types.{definition_in, ref_void}
 use Rattle.check_tables.specs.Lookups.{global_class, class_named}
-use Rattle.code_check.specs.declared.scopes.Variable.{Variable}
-use Rattle.code_check.specs.declared.scopes.BlockEntry.{BlockEntry}
-use Rattle.code_check.specs.declared.scopes.Locals.{Locals}
-use Rattle.code_check.specs.declared.code.Source.{Source}
-use Rattle.code_check.specs.declared.code.Source.TheVariants as sources
-use Rattle.code_check.specs.declared.scopes.Body.{Body}
-use Rattle.code_check.specs.Operands.{is_there, variable_class, operand_class, operand_demands, int64_demands, of_type, is_class, member_demands, argument_demands, variable_demands, noted_list, variable_number, global_source, source_of, sources_of, numbers_in}
-use Rattle.code_check.specs.Destinations.{entry_takes, block_number, exceptional_demands, normal_demands, target_of, optional_target, keepalive_numbers, entered_demands, entered_code}
-use Rattle.code_check.specs.Destinations.{block_named as entry_named}
-use Rattle.code_check.specs.Stacks.{threadlocal_demands, optional_source}
+use Rattle.checked_code.specs.declared.scopes.Variable.{Variable}
+use Rattle.checked_code.specs.declared.scopes.BlockEntry.{BlockEntry}
+use Rattle.checked_code.specs.declared.scopes.Locals.{Locals}
+use Rattle.checked_code.specs.declared.code.Source.{Source}
+use Rattle.checked_code.specs.declared.code.Source.TheVariants as sources
+use Rattle.checked_code.specs.declared.scopes.Body.{Body}
+use Rattle.checked_code.specs.Operands.{is_there, variable_class, operand_class, operand_demands, int64_demands, of_type, is_class, member_demands, argument_demands, variable_demands, noted_list, variable_number, global_source, source_of, sources_of, numbers_in}
+use Rattle.checked_code.specs.Destinations.{entry_takes, block_number, exceptional_demands, normal_demands, target_of, optional_target, keepalive_numbers, entered_demands, entered_code}
+use Rattle.checked_code.specs.Destinations.{block_named as entry_named}
+use Rattle.checked_code.specs.Stacks.{threadlocal_demands, optional_source}
 use Rattle.ir_tree.specs.declared.flow.Case.{Case}
 use Rattle.check_tables.specs.Lookups.{class_of_global, noted_class}
 use Rattle.check_tables.specs.TypeTests.{is_int, is_int64}
-use Rattle.code_check.specs.Control.{case_demands, constant_number, case_code, cases_code}
-use Rattle.code_check.specs.Typed.{SourceFits, SourcesFit, LocalsFit, HasType, TablesFit}
-use Rattle.code_check.proofs.TypedTables.{cell_is_no_int, function_is_no_int}
-use Rattle.code_check.proofs.TypedOperands.{nat_eq_is, noted, same_class, arguments_fit}
-use Rattle.bundle_tables.specs.Entries.{tables_of}
-use Rattle.bundle_check.specs.Functions.{body_of}
+use Rattle.checked_code.specs.Control.{case_demands, constant_number, case_code, cases_code}
+use Rattle.bundle_laws.specs.Typed.{SourceFits, SourcesFit, LocalsFit, HasType, TablesFit}
+use Rattle.bundle_laws.proofs.TypedTables.{cell_is_no_int, function_is_no_int}
+use Rattle.bundle_laws.proofs.TypedOperands.{nat_eq_is, noted, same_class, arguments_fit}
+use Rattle.checked_code.specs.Entries.{tables_of}
+use Rattle.checked_code.specs.Functions.{body_of}
 use Rattle.typed_heap.specs.Places.{with_some}
 use Rattle.frames.specs.Activations.{Value}
 use Rattle.mu_model.specs.Operands.{Scope, tables_in, variables, local_value, target_block, global_value, value_named, values_named, goal_to, goal_named, all_some}

@@ -1,7 +1,7 @@
 -- The instructions of an accepted bundle and their code, place by place.
 use Rattle.std.proofs.Common.{◌≡◌, ℕ, zero, suc, ◌+◌, Bool, false, List, [], ◌∷◌, ◌++◌, Option, Some, None, map, length, slice_get, is_some, refl, ◌∙◌, ap, subst}
 use Rattle.demands.specs.Demands.{AllMet, first_unmet}
-use Rattle.demands.specs.Names.{found}
+use Rattle.name_scopes.specs.Names.{found}
 use Rattle.demands.proofs.Meeting.{all_met}
 use Rattle.ir_lex.specs.declared.name.Name.{Name}
 use Rattle.ir_tree.specs.declared.code.Inst.{Inst}
@@ -11,15 +11,15 @@ use Rattle.ir_tree.specs.declared.items.Funcdef.{Funcdef}
 use Rattle.ir_tree.specs.declared.items.Item.{Item}
 use Rattle.ir_tree.specs.declared.items.Item.TheVariants as items
 use Rattle.bundle_names.specs.Naming.{name_demands}
-use Rattle.code_check.specs.declared.code.Code.{Code}
-use Rattle.code_check.specs.declared.scopes.Locals.{Locals}
-use Rattle.code_check.specs.Instructions.{after, after_all, gives, insts_demands, insts_code, is_ending, normal_of}
-use Rattle.code_check.specs.Typed.{LocalsFit, TablesFit}
-use Rattle.code_check.proofs.TypedVariables.{results_fit}
-use Rattle.bundle_check.specs.declared.code.BlockCode.{BlockCode}
-use Rattle.bundle_check.specs.Blocks.{head_locals, handler_number, block_demands, blocks_demands, block_code, blocks_code}
-use Rattle.bundle_check.specs.Functions.{body_of, functions_demands, all_blocks}
-use Rattle.bundle_check.specs.Checking.{bundle_tables, bundle_blocks, check_demands}
+use Rattle.checked_code.specs.declared.code.Code.{Code}
+use Rattle.checked_code.specs.declared.scopes.Locals.{Locals}
+use Rattle.checked_code.specs.Instructions.{after, after_all, gives, insts_demands, insts_code, is_ending, normal_of}
+use Rattle.bundle_laws.specs.Typed.{LocalsFit, TablesFit}
+use Rattle.bundle_laws.proofs.TypedVariables.{results_fit}
+use Rattle.checked_code.specs.declared.blocks.BlockCode.{BlockCode}
+use Rattle.checked_code.specs.Blocks.{head_locals, handler_number, block_demands, blocks_demands, block_code, blocks_code}
+use Rattle.checked_code.specs.Functions.{body_of, functions_demands, all_blocks}
+use Rattle.checked_code.specs.Checking.{bundle_tables, bundle_blocks, check_demands}
 use Rattle.bundle_laws.proofs.Heads.{head_fits}
 use Rattle.bundle_laws.proofs.Tables.{tables_fit}
 use Rattle.typed_heap.specs.Places.{with_some}

@@ -13,17 +13,17 @@ use Rattle.ir_tree.specs.declared.code.Op.TheVariants as ops
 use Rattle.ir_tree.specs.declared.code.Block.{Block}
 use Rattle.ir_tree.specs.declared.items.Item.{Item}
 use Rattle.ir_tree.specs.declared.items.Item.TheVariants as items
-use Rattle.type_laws.specs.Same.{alike}
-use Rattle.type_laws.specs.Parts.{leads}
-use Rattle.type_laws.specs.Leaves.{leaves_to}
+use Rattle.type_definitions.specs.Same.{alike}
+use Rattle.type_definitions.specs.Parts.{leads}
+use Rattle.type_definitions.specs.Leaves.{leaves_to}
 use Rattle.mu_values.specs.declared.scalars.Scalar.TheVariants.{Int}
 use Rattle.bundle_names.specs.Naming.{name_demands}
-use Rattle.bundle_constants.specs.Values.{values_to}
-use Rattle.bundle_tables.specs.Entries.{tables_of}
-use Rattle.bundle_check.specs.Functions.{body_of}
-use Rattle.bundle_check.specs.Checking.{check_demands}
-use Rattle.code_check.specs.Operands.{argument_demands}
-use Rattle.code_check.specs.Instructions.{inst_demands}
+use Rattle.checked_code.specs.ConstantValues.{values_to}
+use Rattle.checked_code.specs.Entries.{tables_of}
+use Rattle.checked_code.specs.Functions.{body_of}
+use Rattle.checked_code.specs.Checking.{check_demands}
+use Rattle.checked_code.specs.Operands.{argument_demands}
+use Rattle.checked_code.specs.Instructions.{inst_demands}
 use Rattle.mu_model.specs.Acts.{Gives, Returns}
 use Rattle.frames.specs.Chains.{nothing_kept}
 use Rattle.model_numbers.specs.Numbered.{numbered}

@@ -3,26 +3,26 @@
 use Rattle.std.specs.Prelude.{ℕ, false, List, Option, Some, map, option_map}
 use Rattle.ir_tree.specs.declared.items.Item.{Item}
 use Rattle.bundle_names.specs.declared.globals.Sort.TheVariants as sorts
-use Rattle.bundle_check.specs.Checking.{bundle_tables}
-use Rattle.code_check.specs.declared.code.ComputationForm.{ComputationForm}
-use Rattle.code_check.specs.declared.code.ComputationForm.TheVariants as computing
-use Rattle.code_check.specs.declared.code.ControlForm.{ControlForm}
-use Rattle.code_check.specs.declared.code.ControlForm.TheVariants as going
-use Rattle.code_check.specs.declared.code.CaseForm.{CaseForm}
-use Rattle.code_check.specs.declared.code.AllocationForm.{AllocationForm}
-use Rattle.code_check.specs.declared.code.AllocationForm.TheVariants as making
-use Rattle.code_check.specs.declared.code.AddressingForm.{AddressingForm}
-use Rattle.code_check.specs.declared.code.AddressingForm.TheVariants as finding
-use Rattle.code_check.specs.declared.code.AccessForm.{AccessForm}
-use Rattle.code_check.specs.declared.code.AccessForm.TheVariants as accessing
-use Rattle.code_check.specs.declared.code.TrappingForm.{TrappingForm}
-use Rattle.code_check.specs.declared.code.TrappingForm.TheVariants as asking
-use Rattle.code_check.specs.declared.code.SwitchForm.{SwitchForm}
-use Rattle.code_check.specs.declared.code.SwitchForm.TheVariants as switching
-use Rattle.code_check.specs.declared.code.CommonForm.{CommonForm}
-use Rattle.code_check.specs.declared.code.CommonForm.TheVariants as commons
-use Rattle.code_check.specs.declared.code.Form.{Form}
-use Rattle.code_check.specs.declared.code.Form.TheVariants as forms
+use Rattle.checked_code.specs.Checking.{bundle_tables}
+use Rattle.checked_code.specs.declared.code.ComputationForm.{ComputationForm}
+use Rattle.checked_code.specs.declared.code.ComputationForm.TheVariants as computing
+use Rattle.checked_code.specs.declared.code.ControlForm.{ControlForm}
+use Rattle.checked_code.specs.declared.code.ControlForm.TheVariants as going
+use Rattle.checked_code.specs.declared.code.CaseForm.{CaseForm}
+use Rattle.checked_code.specs.declared.code.AllocationForm.{AllocationForm}
+use Rattle.checked_code.specs.declared.code.AllocationForm.TheVariants as making
+use Rattle.checked_code.specs.declared.code.AddressingForm.{AddressingForm}
+use Rattle.checked_code.specs.declared.code.AddressingForm.TheVariants as finding
+use Rattle.checked_code.specs.declared.code.AccessForm.{AccessForm}
+use Rattle.checked_code.specs.declared.code.AccessForm.TheVariants as accessing
+use Rattle.checked_code.specs.declared.code.TrappingForm.{TrappingForm}
+use Rattle.checked_code.specs.declared.code.TrappingForm.TheVariants as asking
+use Rattle.checked_code.specs.declared.code.SwitchForm.{SwitchForm}
+use Rattle.checked_code.specs.declared.code.SwitchForm.TheVariants as switching
+use Rattle.checked_code.specs.declared.code.CommonForm.{CommonForm}
+use Rattle.checked_code.specs.declared.code.CommonForm.TheVariants as commons
+use Rattle.checked_code.specs.declared.code.Form.{Form}
+use Rattle.checked_code.specs.declared.code.Form.TheVariants as forms
 use Rattle.typed_heap.specs.Places.{with_some}
 use Rattle.frames.specs.Activations.{Value}
 use Rattle.mu_model.specs.Acts.{Act}

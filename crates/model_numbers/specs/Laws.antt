@@ -1,7 +1,7 @@
 -- Laws of the two readings of a bundle, by its names and by the numbers of its checked code.
 use Rattle.std.specs.Prelude.{◌≡◌, Bool, true, ℕ, ◌+◌, List, [], ◌∷◌, ◌++◌, Option, Some, None, length, map, flat_map, find, position, slice_get, bytes_eq, option_map, option_to_list, if◌then◌else◌}
 use Rattle.demands.specs.Demands.{first_unmet}
-use Rattle.demands.specs.Names.{found}
+use Rattle.name_scopes.specs.Names.{found}
 use Rattle.ir_lex.specs.declared.name.Name.{Name}
 use Rattle.ir_tree.specs.declared.code.Parameter.{Parameter}
 use Rattle.ir_tree.specs.declared.code.Inst.{Inst}
@@ -14,8 +14,8 @@ use Rattle.bundle_names.specs.Globals.{globals_of}
 use Rattle.bundle_names.specs.Naming.{name_demands}
 use Rattle.check_tables.specs.Lookups.{noted_class, definition_named}
 use Rattle.check_tables.specs.TypeTests.{is_int}
-use Rattle.bundle_tables.specs.Entries.{is_function}
-use Rattle.bundle_check.specs.Checking.{bundle_tables, check_demands}
+use Rattle.checked_code.specs.Entries.{is_function}
+use Rattle.checked_code.specs.Checking.{bundle_tables, check_demands}
 use Rattle.typed_heap.specs.Places.{with_some}
 use Rattle.frames.specs.Activations.{Value}
 use Rattle.mu_model.specs.Types.{class_width}

@@ -3,9 +3,9 @@
 use Rattle.std.specs.Prelude.{ℕ, List, Option, Some, None, map, slice_get, is_some}
 use Rattle.ir_tree.specs.declared.items.Item.{Item}
 use Rattle.mu_values.specs.Slots.{TypedValues}
-use Rattle.code_check.specs.declared.code.Target.{Target}
-use Rattle.code_check.specs.declared.code.Code.{Code}
-use Rattle.bundle_check.specs.Checking.{bundle_tables, bundle_blocks, bundle_functions}
+use Rattle.checked_code.specs.declared.code.Target.{Target}
+use Rattle.checked_code.specs.declared.code.Code.{Code}
+use Rattle.checked_code.specs.Checking.{bundle_tables, bundle_blocks, bundle_functions}
 use Rattle.typed_heap.specs.Places.{with_some}
 use Rattle.frames.specs.Activations.{Value, Goal}
 use Rattle.mu_model.specs.Acts.{Doing, Program}

@@ -5,11 +5,11 @@ use Rattle.ir_tree.specs.declared.items.Item.{Item}
 use Rattle.bundle_names.specs.declared.globals.Sort.TheVariants as sorts
 use Rattle.check_tables.specs.declared.tables.Tables.{Tables}
 use Rattle.check_tables.specs.Lookups.{global_class}
-use Rattle.code_check.specs.declared.code.Source.{Source}
-use Rattle.code_check.specs.declared.code.Source.TheVariants as sources
-use Rattle.code_check.specs.declared.code.Target.{Target}
-use Rattle.code_check.specs.declared.code.Entered.{Entered}
-use Rattle.code_check.specs.declared.code.Entered.TheVariants as entered
+use Rattle.checked_code.specs.declared.code.Source.{Source}
+use Rattle.checked_code.specs.declared.code.Source.TheVariants as sources
+use Rattle.checked_code.specs.declared.code.Target.{Target}
+use Rattle.checked_code.specs.declared.code.Entered.{Entered}
+use Rattle.checked_code.specs.declared.code.Entered.TheVariants as entered
 use Rattle.frames.specs.Activations.{Value, Goal}
 use Rattle.mu_model.specs.Acts.{Entering}
 use Rattle.mu_model.specs.Operands.{global_value, all_some, goal_to}

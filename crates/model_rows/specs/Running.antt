@@ -20,17 +20,17 @@ use Rattle.ir_tree.specs.Bodies.{results, more_results, body_rest, body}
 use Rattle.ir_tree.specs.Items.{typedef, funcsig, constant, global_cell, funcdecl, funcdef, item, bundle}
 use Rattle.ir_tree.specs.declared.items.Item.{Item}
 use Rattle.ir_text.specs.TextAnswers.{text_answer, Answer}
-use Rattle.type_laws.specs.Same.{alike}
-use Rattle.type_laws.specs.Leaves.{leaves_to}
-use Rattle.bundle_constants.specs.Values.{values_to}
-use Rattle.bundle_tables.specs.Entries.{tables_of}
+use Rattle.type_definitions.specs.Same.{alike}
+use Rattle.type_definitions.specs.Leaves.{leaves_to}
+use Rattle.checked_code.specs.ConstantValues.{values_to}
+use Rattle.checked_code.specs.Entries.{tables_of}
 use Rattle.bundle_names.specs.declared.globals.Sort.{Sort}
 use Rattle.bundle_names.specs.declared.globals.Sort.TheVariants as sorts
 use Rattle.bundle_names.specs.Globals.{globals_of}
 use Rattle.mu_values.specs.declared.scalars.Scalar.{Scalar}
 use Rattle.check_tables.specs.declared.tables.Tables.{Tables}
 use Rattle.typed_heap.specs.Objects.{HeapObject}
-use Rattle.demands.specs.Names.{found}
+use Rattle.name_scopes.specs.Names.{found}
 use Rattle.std.specs.Fmt.{digits}
 use Rattle.mem_axioms.specs.declared.types.Rule.{Rule}
 use Rattle.mem_axioms.specs.declared.types.Rule.TheVariants.{C11}

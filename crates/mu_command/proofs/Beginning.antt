@@ -6,7 +6,7 @@ use Rattle.typed_heap.specs.Places.{with_some}
 use Rattle.mu_model.specs.Acts.{Program}
 use Rattle.mu_model.specs.Configuration.{Configuration}
 use Rattle.mu_model.specs.Programs.{named}
-use Rattle.bundle_check.specs.Checking.{bundle_tables}
+use Rattle.checked_code.specs.Checking.{bundle_tables}
 use Rattle.mem_axioms.specs.declared.types.Rule.{Rule}
 use Rattle.mu_model.specs.Run.{Setting, begins_in, cells_left, first_configuration, run, run_from}
 use Rattle.mu_texts.specs.Start.{Started}

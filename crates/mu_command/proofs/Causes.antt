@@ -40,7 +40,7 @@ refused_cause seen words w0 w1 e0 e1 status a s =
 -- ---- a status of a fetch is that of a fetch
 
 -- that holds of a file of the job, and the answer is its line
-record IsLine (P : What → ℕ → Type 0) (line_of : What → Answer) (job : Job) (a : Answer) : Type 0 where
+pub record IsLine (P : What → ℕ → Type 0) (line_of : What → Answer) (job : Job) (a : Answer) : Type 0 where
   pub what : What
   pub number : ℕ
   pub names : file_of job what ≡ Some number
@@ -48,7 +48,7 @@ record IsLine (P : What → ℕ → Type 0) (line_of : What → Answer) (job : J
   pub is : a ≡ line_of what
 
 -- an early end with such a status is the line of a file that is named
-record IsCaused (seen : Seen) (words : List (List ℕ)) (job : Job) (a : Answer) : Type 0 where
+pub record IsCaused (seen : Seen) (words : List (List ℕ)) (job : Job) (a : Answer) : Type 0 where
   pub fails : a.status ≡ ReadFault → IsLine (MayFail seen words) read_fault_line job a
   pub past : a.status ≡ TooLong → IsLine (IsPast seen words) too_long_line job a
 
@@ -66,7 +66,7 @@ module _ (seen : Seen) (words : List (List ℕ)) (job : Job) where
   caused_memory : IsCaused seen words job no_answer
   caused_memory = record { fails = λ e. cc; past = λ e. cc }
 
-  caused_found : (o : Outcomes) → AllowsJob seen words (Some job) o → StopsSo (IsCaused seen words job) (found words job o)
+  pub caused_found : (o : Outcomes) → AllowsJob seen words (Some job) o → StopsSo (IsCaused seen words job) (found words job o)
   caused_found o allowed = finding_all (IsCaused seen words job) caused_refusal caused_memory words o (λ what. fetch_by what (o what) (file_of job what) refl (allowed what)) job
 
 -- what is ready ends with no such status
@@ -80,7 +80,7 @@ not_past s (inr none) e = cc
 
 module _ (seen : Seen) (words : List (List ℕ)) (w0 w1 e0 e1 : Option (List ℕ)) (status : Status) where
   -- the line that names the file is what was found and written
-  unfetched : (P : Seen → List (List ℕ) → What → ℕ → Type 0) (line_of : What → Answer) (job : Job) (o : Outcomes) → AllowsJob seen words (Some job) o → (a : Answer) → found words job o ≡ Err a →
+  pub unfetched : (P : Seen → List (List ℕ) → What → ℕ → Type 0) (line_of : What → Answer) (job : Job) (o : Outcomes) → AllowsJob seen words (Some job) o → (a : Answer) → found words job o ≡ Err a →
       Writes a w0 w1 e0 e1 status → IsLine (P seen words) line_of job a → IsUnfetched P line_of seen words w0 w1 e0 e1 status job
   unfetched P line_of job o allowed a is w l = record {
     what = l.what;

@@ -35,7 +35,7 @@ allowed_is_told files name b n failed (inl rose) same below = absurd (omega arit
 allowed_is_told files name b n failed (inr missing) same below = rw missing refl
 allowed_is_told files name b n too_long h same below = sym (past_file (file files name) h.0)
 
-named_is_told : (seen : Seen) (files : Files) (words : List (List ℕ)) (what : What) (n : Option ℕ) (o : Outcome) → seen.told ≡ Some files → IsQuiet seen (slot_of what) →
+pub named_is_told : (seen : Seen) (files : Files) (words : List (List ℕ)) (what : What) (n : Option ℕ) (o : Outcome) → seen.told ≡ Some files → IsQuiet seen (slot_of what) →
     AllowsFile seen words what n o → o ≡ outcome_named files words n
 named_is_told seen files words what None o told quiet h = h
 named_is_told seen files words what (Some n) o told quiet h = allowed_is_told files _ (seen.before (slot_of what)) (seen.now (slot_of what)) o (rw told at h) quiet.0 quiet.1

@@ -20,7 +20,7 @@ use Rattle.mu_model.specs.Programs.{named}
 use Rattle.mu_model.specs.Run.{Run, Ends, Breaks, Unfinished, behind, goes_on, run}
 use Rattle.run_texts.specs.Texts.{ending_status}
 use Rattle.run_texts.specs.Pieces.{lines_text}
-use Rattle.thread_acts.specs.Outcome.{outcome_of}
+use Rattle.run_state.specs.Outcome.{outcome_of}
 use Rattle.mu_texts.specs.Answer.{Answer, run_answer}
 use Rattle.model_laws.specs.Bounds.{HasEnding}
 use Rattle.mu_command.specs.Written.{cuts_from, AppendsEnds, Wrote, WrotePart, IsWhole, Writes}

@@ -11,7 +11,7 @@ use Rattle.verdicts.specs.declared.types.Verdict.{Verdict}
 use Rattle.verdicts.specs.Verdicts.{verdict}
 use Rattle.ir_tree.specs.declared.items.Item.{Item}
 use Rattle.ir_text.specs.TextAnswers.{AnswerIsOne}
-use Rattle.bundle_check.specs.Answers.{entry}
+use Rattle.checked_code.specs.Answers.{entry}
 use Rattle.mu_model.specs.declared.lines.Line.{Line}
 use Rattle.mu_model.specs.declared.endings.Ending.{Ending}
 use Rattle.mu_model.specs.Run.{Setting, Run as ModelRun, Ends}

@@ -14,7 +14,7 @@ use Rattle.mu_base.specs.Outcome.{Outcome, got, failed, too_long}
 use Rattle.mu_model.specs.Acts.{Program}
 use Rattle.mu_model.specs.Configuration.{Configuration}
 use Rattle.mu_model.specs.Programs.{named}
-use Rattle.bundle_check.specs.Answers.{entry}
+use Rattle.checked_code.specs.Answers.{entry}
 use Rattle.mu_model.specs.Run as runs
 use Rattle.mu_model.specs.Run.{Setting, Ends, Breaks, Unfinished, first_configuration}
 use Rattle.run_texts.specs.Texts.{ending_status}

@@ -14,7 +14,7 @@ use Rattle.mu_model.specs.Programs.{named}
 use Rattle.mu_model.specs.Run.{Run, Ends, Breaks, Unfinished, behind, run}
 use Rattle.model_laws.specs.Bounds.{HasEnding}
 use Rattle.run_texts.specs.Texts.{ending_text, ending_status}
-use Rattle.thread_acts.specs.Outcome.{outcome_of}
+use Rattle.run_state.specs.Outcome.{outcome_of}
 use Rattle.mu_texts.specs.Answer.{Answer, line, is_event, events_in, trial_line, trial_answer}
 use Rattle.mu_command.specs.declared.counting.Counted.{Counted}
 use Rattle.mu_command.specs.declared.counting.Tally.{Tally}

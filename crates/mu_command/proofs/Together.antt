@@ -103,7 +103,7 @@ with_bundle o more Schedule = more Schedule
 with_bundle o more Log = got []
 with_bundle o more (Joined k) = got []
 
-run_allowed : (seen : Seen) (words : List (List ℕ)) (r : RunJob) (o : Outcome) (more : Outcomes) → AllowsFile seen words Bundle (Some r.file) o → AllowsFile seen words Hail r.hail (more Hail) →
+pub run_allowed : (seen : Seen) (words : List (List ℕ)) (r : RunJob) (o : Outcome) (more : Outcomes) → AllowsFile seen words Bundle (Some r.file) o → AllowsFile seen words Hail r.hail (more Hail) →
     AllowsFile seen words Client r.client (more Client) → AllowsFile seen words Schedule r.schedule (more Schedule) → (what : What) → AllowsFile seen words what (file_of (Run r) what) (with_bundle o more what)
 run_allowed seen words r o more a b c d Bundle = a
 run_allowed seen words r o more a b c d Hail = b

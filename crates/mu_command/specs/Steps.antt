@@ -15,7 +15,7 @@ use Rattle.mu_model.specs.Step.{step}
 use Rattle.mu_model.specs.Run.{Run, Ends, Breaks, Unfinished, client_answers, run}
 use Rattle.run_texts.specs.Texts.{Text, ending_text}
 use Rattle.run_texts.specs.Pieces.{lines_text}
-use Rattle.thread_acts.specs.Outcome.{outcome_of}
+use Rattle.run_state.specs.Outcome.{outcome_of}
 use Rattle.mu_texts.specs.Answer.{Answer, run_answer, is_event, events_in}
 use Rattle.model_laws.specs.Bounds.{HasEnding}
 use Rattle.mu_command.specs.declared.counting.Counted.{Counted}

@@ -12,7 +12,7 @@ ghost use Rattle.mu_command.specs.Written.{Writes};
 ghost use Rattle.mu_command.specs.Steps.{answered_step, IsCounted, tally_behind};
 
 use crate::writing::put_text;
-use bundle_check::Checked;
+use checked_code::Checked;
 use client_hooks::Determined;
 use itoa::Buffer;
 use mem_axioms::Memory;

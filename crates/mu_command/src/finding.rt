@@ -13,7 +13,7 @@ use crate::joining::find_joined;
 use crate::loading::load;
 use crate::made::find_trial;
 use crate::words::read_words;
-use bundle_check::Checked;
+use checked_code::Checked;
 use client_script::RunClient;
 use mem_axioms::Rule;
 use mu_base::{Inputs, Status, Words};
@@ -84,9 +84,9 @@ fn find_verdict<I: Inputs>(
     judge_log(alloc, rule, &bytes)
 }
 
-// Fetches a bundle and judges it, for a run.
+/// Fetches a bundle and judges it, for a run. After a refusal there is only the line that names it.
 #[tactic(auto, using(crate::proofs::Files::files))]
-fn find_code<I: Inputs>(
+pub fn find_code<I: Inputs>(
     alloc: Global,
     words: &Words,
     file: usize,

@@ -4,7 +4,7 @@ ghost use Rattle.mu_texts.specs.Comes.{Comes, IsRunnable, LoadedRunsEnd, CanRun}
 ghost use Rattle.mu_command.specs.Answer.{trial_begun, trial_found};
 
 use crate::words::{USUAL_CELLS, USUAL_STEPS};
-use bundle_check::Checked;
+use checked_code::Checked;
 use mem_axioms::Rule;
 use mu_texts::{
     Ready, Start, Stop, Telling, enter, judge_client, judge_for_run, judge_heap_script,

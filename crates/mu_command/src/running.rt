@@ -15,7 +15,7 @@ ghost use Rattle.mu_command.specs.Steps.{step_pieces, last_piece, behind_pieces,
 
 use crate::counting::write_counts;
 use crate::writing::{put_line, put_whole_text};
-use bundle_check::Checked;
+use checked_code::Checked;
 use client_hooks::Determined;
 use client_script::RunClient;
 use ir_print::print_bundle;
@@ -27,9 +27,9 @@ use mu_model::{Ending, Line, StepEnd};
 use mu_step::Machine;
 use mu_texts::{Ready, Start, Telling, verdict_status, verdict_text};
 use run_print::{ending_status, ending_text, lines_text};
+use run_start::RunInputs;
 use std::alloc::{AllocError, Global};
 use std::mem;
-use thread_acts::RunInputs;
 use verdicts::Verdict;
 
 // Puts a text in one piece; a put that fails gives the status that goes with it.

@@ -49,8 +49,8 @@ fn digits_up_to(limit: u32, text: &[u8]) -> Option<u32>
     Some(number)
 }
 
-// The number that one to ten decimal digits write, where it is at most the limit.
-fn number_up_to(limit: u32, text: &[u8]) -> Option<u32>
+/// The number that one to ten decimal digits write, where it is at most the limit.
+pub fn number_up_to(limit: u32, text: &[u8]) -> Option<u32>
     ensures number { result ≡ number_up_to limit text.now }
     ensures within { IfSome result (λ n. n ≤ limit) }
 {
@@ -85,8 +85,9 @@ fn rule_named(text: &str) -> Option<Rule>
     }
 }
 
-// The options with one more, of that name; its value is the word with number n.
-fn with_option(words: &Words, options: Options, name: &str, n: usize) -> Option<Options>
+/// The options with one more, of that name; its value is the word with number n. None where there is no such option, where it was given
+/// before, and where its value is none of its values.
+pub fn with_option(words: &Words, options: Options, name: &str, n: usize) -> Option<Options>
     requires value { n < length words.now }
     requires there { OptionsAreThere (length words.now) options }
     ensures more { result ≡ with_option options name.now n (word words.now n) }

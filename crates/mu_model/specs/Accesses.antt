@@ -5,7 +5,7 @@ use Rattle.mu_values.specs.declared.scalars.Scalar.TheVariants.{Int}
 use Rattle.mu_base.specs.declared.operators.UpdateOp.{UpdateOp}
 use Rattle.mu_base.specs.declared.operators.UpdateOp.TheVariants as updates
 use Rattle.mu_values.specs.Updates.{updated_bits}
-use Rattle.heap_cells.specs.declared.cells.CellId.{CellId}
+use Rattle.mu_values.specs.declared.cells.CellId.{CellId}
 use Rattle.typed_heap.specs.Objects.{HeapObject}
 use Rattle.typed_heap.specs.Places.{with_some, cell_in}
 use Rattle.frames.specs.Activations.{Value, Activation}

@@ -4,7 +4,7 @@ use Rattle.mu_base.specs.declared.order.Order.{Order}
 use Rattle.mu_values.specs.declared.scalars.Scalar.{Scalar}
 use Rattle.mu_base.specs.declared.operators.UpdateOp.{UpdateOp}
 use Rattle.mu_values.specs.Slots.{TypedValues}
-use Rattle.heap_cells.specs.declared.cells.CellId.{CellId}
+use Rattle.mu_values.specs.declared.cells.CellId.{CellId}
 use Rattle.check_tables.specs.declared.tables.Tables.{Tables}
 use Rattle.typed_heap.specs.Places.{Way}
 use Rattle.frames.specs.Activations.{Value, Goal}

@@ -6,7 +6,7 @@ use Rattle.mu_values.specs.Slots.{TypedValues}
 use Rattle.check_tables.specs.declared.tables.Tables.{Tables}
 use Rattle.check_tables.specs.Types.{stackref}
 use Rattle.check_tables.specs.Lookups.{class_of_global}
-use Rattle.bundle_check.specs.Checking.{bundle_tables}
+use Rattle.checked_code.specs.Checking.{bundle_tables}
 use Rattle.frames.specs.Activations.{Activation}
 use Rattle.typed_heap.specs.Places.{with_some}
 use Rattle.mu_model.specs.declared.lines.Note.{Note}

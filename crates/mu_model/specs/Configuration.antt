@@ -1,9 +1,9 @@
 -- The configuration of a run: what there is between two steps.
-use Rattle.std.specs.Prelude.{ℕ, Bool, List, Option}
+use Rattle.std.specs.Prelude.{ℕ, List, Option}
 use Rattle.mu_values.specs.declared.scalars.Scalar.{Scalar}
-use Rattle.heap_cells.specs.declared.cells.CellId.{CellId}
 use Rattle.typed_heap.specs.Objects.{HeapObject}
 use Rattle.frames.specs.Activations.{Activation}
+use Rattle.futex.specs.declared.waiters.Waiter.{Waiter}
 use Rattle.mem_axioms.specs.declared.types.Rule.{Rule}
 use Rattle.mem_axioms.specs.declared.types.Event.{Event}
 use Rattle.mu_model.specs.declared.lines.Line.{Line}
@@ -20,12 +20,6 @@ pub data Stack : Type 0 where
 pub record Thread : Type 0 where
   pub stack : ℕ
   pub own : Scalar
-
--- a thread that waits at a cell, with a limit or without
-pub record Waiter : Type 0 where
-  pub thread : ℕ
-  pub cell : CellId
-  pub timed : Bool
 
 pub record Configuration : Type 0 where
   -- by number; nothing stands where a thread ended

@@ -1,8 +1,8 @@
 -- Objects that are made, references that are cast, and places that are found.
 use Rattle.std.specs.Prelude.{ℕ, ◌+◌, ◌-◌, ◌*◌, ◌==◌, nat_le, List, [], ◌∷◌, ◌++◌, Option, Some, Result, length, slice_get, option_map, if◌then◌else◌}
-use Rattle.type_laws.specs.declared.definition.TypeDef.{TypeDef}
-use Rattle.type_laws.specs.declared.definition.TypeDef.TheVariants.{FuncRef}
-use Rattle.type_laws.specs.Class.{class_of}
+use Rattle.type_definitions.specs.declared.definition.TypeDef.{TypeDef}
+use Rattle.type_definitions.specs.declared.definition.TypeDef.TheVariants.{FuncRef}
+use Rattle.type_definitions.specs.Class.{class_of}
 use Rattle.mu_values.specs.declared.scalars.Scalar.{Scalar}
 use Rattle.mu_values.specs.declared.scalars.Scalar.TheVariants.{Object, Place, Func}
 use Rattle.check_tables.specs.declared.tables.Tables.{Tables}

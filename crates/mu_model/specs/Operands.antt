@@ -1,6 +1,6 @@
 -- What the names and operands of an instruction stand for, in its block, with the values of the block's variables.
 use Rattle.std.specs.Prelude.{ℕ, ◌^◌, Bool, List, [], ◌∷◌, Option, Some, None, map, option_map, slice_get, nat_eq, nat_le, nat_lt, if◌then◌else◌, ◌&&◌}
-use Rattle.demands.specs.Names.{found}
+use Rattle.name_scopes.specs.Names.{found}
 use Rattle.ir_lex.specs.declared.name.Name.{Name}
 use Rattle.ir_tree.specs.declared.operands.Operand.{Operand}
 use Rattle.ir_tree.specs.declared.operands.Operand.TheVariants as operands
@@ -15,15 +15,15 @@ use Rattle.bundle_names.specs.declared.globals.Sort.TheVariants as sorts
 use Rattle.bundle_names.specs.Globals.{globals_of}
 use Rattle.check_tables.specs.declared.tables.Tables.{Tables}
 use Rattle.check_tables.specs.Lookups.{noted_class}
-use Rattle.bundle_constants.specs.Bundle.{constant_values}
-use Rattle.bundle_check.specs.Blocks.{head_locals}
-use Rattle.bundle_check.specs.Functions.{entries_from}
-use Rattle.bundle_check.specs.Checking.{bundle_tables}
-use Rattle.code_check.specs.declared.scopes.BlockEntry.{BlockEntry}
-use Rattle.code_check.specs.declared.scopes.Locals.{Locals}
-use Rattle.code_check.specs.declared.scopes.Variable.{Variable}
-use Rattle.code_check.specs.Instructions.{after_all}
-use Rattle.code_check.specs.Operands.{noted_list}
+use Rattle.checked_code.specs.Constants.{constant_values}
+use Rattle.checked_code.specs.Blocks.{head_locals}
+use Rattle.checked_code.specs.Functions.{entries_from}
+use Rattle.checked_code.specs.Checking.{bundle_tables}
+use Rattle.checked_code.specs.declared.scopes.BlockEntry.{BlockEntry}
+use Rattle.checked_code.specs.declared.scopes.Locals.{Locals}
+use Rattle.checked_code.specs.declared.scopes.Variable.{Variable}
+use Rattle.checked_code.specs.Instructions.{after_all}
+use Rattle.checked_code.specs.Operands.{noted_list}
 use Rattle.typed_heap.specs.Places.{with_some}
 use Rattle.frames.specs.Activations.{Value, Goal}
 

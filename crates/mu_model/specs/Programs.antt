@@ -1,6 +1,6 @@
 -- A bundle as the machine sees it, by its names.
 use Rattle.std.specs.Prelude.{ℕ, ◌+◌, List, [], ◌∷◌, ◌++◌, Option, Some, None, map, length, slice_get, is_some}
-use Rattle.demands.specs.Names.{found}
+use Rattle.name_scopes.specs.Names.{found}
 use Rattle.ir_lex.specs.declared.name.Name.{Name}
 use Rattle.ir_tree.specs.declared.operands.Destination.{Destination}
 use Rattle.ir_tree.specs.declared.code.Op.{Op}
@@ -11,9 +11,9 @@ use Rattle.ir_tree.specs.declared.items.Funcdef.{Funcdef}
 use Rattle.ir_tree.specs.declared.items.Item.{Item}
 use Rattle.ir_tree.specs.declared.items.Item.TheVariants as items
 use Rattle.mu_values.specs.Slots.{TypedValues}
-use Rattle.bundle_check.specs.Checking.{bundle_tables, bundle_functions}
-use Rattle.code_check.specs.Instructions.{normal_of, exceptional_of, keepalive_of}
-use Rattle.code_check.specs.Operands.{variable_class}
+use Rattle.checked_code.specs.Checking.{bundle_tables, bundle_functions}
+use Rattle.checked_code.specs.Instructions.{normal_of, exceptional_of, keepalive_of}
+use Rattle.checked_code.specs.Operands.{variable_class}
 use Rattle.typed_heap.specs.Places.{with_some}
 use Rattle.frames.specs.Activations.{Value, Goal}
 use Rattle.frames.specs.Chains.{nothing_kept}

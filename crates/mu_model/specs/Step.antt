@@ -7,7 +7,8 @@ use Rattle.mu_base.specs.declared.order.Order.{Order}
 use Rattle.mem_axioms.specs.declared.types.Kind.TheVariants.{Fence}
 use Rattle.mu_model.specs.declared.lines.Note.TheVariants.{Exited}
 use Rattle.mu_model.specs.declared.endings.Ending.TheVariants.{Done, AllWaiting, Budget}
-use Rattle.mu_model.specs.Configuration.{Thread, Waiter, Configuration}
+use Rattle.futex.specs.declared.waiters.Waiter.{Waiter}
+use Rattle.mu_model.specs.Configuration.{Thread, Configuration}
 use Rattle.mu_model.specs.Acts as acts
 use Rattle.mu_model.specs.Acts.{Act, Program}
 use Rattle.mu_threads.specs.Picks.{pick}
@@ -18,7 +19,8 @@ use Rattle.mu_model.specs.Exceptions.{calls, replaces, finishes, returns, throws
 use Rattle.mu_model.specs.EnteringStacks.{swaps, swaps_killing, starts, makes_stack, kills_stack}
 use Rattle.mu_model.specs.Objects.{makes, makes_hybrid, makes_own, casts, finds}
 use Rattle.mu_model.specs.Accesses.{accesses_cell}
-use Rattle.mu_model.specs.Waiting.{futex_waits, futex_wakes, is_of, times_out}
+use Rattle.futex.specs.Waiting.{is_of}
+use Rattle.mu_model.specs.Waiting.{futex_waits, futex_wakes, times_out}
 use Rattle.mu_model.specs.Traps.{trapped, goes, meets_watchpoint, chooses}
 
 -- ---- acts

@@ -1,6 +1,6 @@
 -- What the machine asks of the types and functions of a bundle.
 use Rattle.std.specs.Prelude.{ℕ, List, Option, slice_get}
-use Rattle.type_laws.specs.declared.definition.TypeDef.{TypeDef}
+use Rattle.type_definitions.specs.declared.definition.TypeDef.{TypeDef}
 use Rattle.mu_values.specs.declared.scalars.Scalar.{Scalar}
 use Rattle.mu_values.specs.Constants.{width_of}
 use Rattle.check_tables.specs.declared.tables.Tables.{Tables}

@@ -1,18 +1,18 @@
 -- Waiting at a cell, and waking.
-use Rattle.std.specs.Prelude.{ℕ, ◌-◌, ◌^◌, Bool, not, ◌==◌, List, [], ◌∷◌, ◌++◌, Option, Some, length, filter, take, slice_get, option_map, if◌then◌else◌}
-use Rattle.std.specs.List.{list_any}
+use Rattle.std.specs.Prelude.{ℕ, ◌-◌, ◌^◌, Bool, List, [], ◌∷◌, ◌++◌, Option, Some, length, slice_get, option_map, if◌then◌else◌}
 use Rattle.mu_base.specs.declared.order.Order.TheVariants.{Relaxed}
 use Rattle.mu_values.specs.declared.scalars.Scalar.{Scalar}
 use Rattle.mu_values.specs.declared.scalars.Scalar.TheVariants.{Int}
 use Rattle.mu_values.specs.SameScalar.{same_scalar}
-use Rattle.heap_cells.specs.declared.cells.CellId.{CellId}
-use Rattle.heap_cells.specs.SameCell.{same_cell}
+use Rattle.mu_values.specs.declared.cells.CellId.{CellId}
 use Rattle.typed_heap.specs.Places.{with_some, cell_in}
+use Rattle.futex.specs.declared.waiters.Waiter.{Waiter}
+use Rattle.futex.specs.Waiting.{oldest_at, without}
 use Rattle.mem_axioms.specs.Choices.{choices}
 use Rattle.mem_axioms.specs.declared.types.Kind.TheVariants.{Wake, Woken}
 use Rattle.mem_axioms.specs.declared.types.Chosen.{Chosen}
 use Rattle.mu_model.specs.declared.lines.Note.TheVariants.{TimedOut}
-use Rattle.mu_model.specs.Configuration.{Active, Waiter, Configuration}
+use Rattle.mu_model.specs.Configuration.{Active, Configuration}
 use Rattle.mu_model.specs.Acts.{Loads, Program}
 use Rattle.mu_model.specs.Frames.{passed}
 use Rattle.mu_model.specs.Changes.{noted, logged, stack_becomes}
@@ -48,15 +48,6 @@ futex_waits p c u timed v cell =
 
 -- ---- waking
 
-abbrev pub is_at : CellId → Waiter → Bool
-is_at cell w = same_cell w.cell cell
-
-abbrev pub is_of : ℕ → Waiter → Bool
-is_of i w = w.thread == i
-
-abbrev pub without : List Waiter → List Waiter → List Waiter
-without gone ws = filter (λ w. not (list_any (is_of w.thread) gone)) ws
-
 -- one that was woken goes on behind its wait
 abbrev pub wakes_one : Program → ℕ → Configuration → Turn → Option Configuration
 wakes_one p wake c u =
@@ -75,7 +66,7 @@ wakes_these p c u cell ws =
 -- the oldest that wait there, and so many at most
 abbrev pub futex_wakes : Program → Configuration → Turn → ℕ → CellId → Outcome
 futex_wakes p c u many cell =
-    tried p c u (option_map or_case (cell_in c.objects cell)) (λ there. wakes_these p c u there (take many (filter (is_at there) c.waiters)))
+    tried p c u (option_map or_case (cell_in c.objects cell)) (λ there. wakes_these p c u there (oldest_at there many c.waiters))
 
 -- ---- the end of a timed wait
 

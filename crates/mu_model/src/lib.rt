@@ -4,6 +4,8 @@
 
 mod endings;
 mod lines;
+mod shared;
 
 pub use endings::{Case, Ending, Raced, StepEnd};
 pub use lines::{Line, Lines, Note};
+pub use shared::SharedValues;

@@ -1,7 +1,7 @@
 // What a run writes.
-use heap_cells::CellId;
+use crate::shared::SharedValues;
 use mem_axioms::Event;
-use mu_values::Passed;
+use mu_values::{CellId, Passed};
 use text_forms::Listing;
 
 /// A record of something that happened in a run. Threads, blocks and watchpoints stand by number. A place is that of an instruction in
@@ -36,10 +36,10 @@ pub enum Note {
         block: u32,
         at: u32,
     },
-    /// The client asked what this frame of the trapped stack keeps.
+    /// The client asked what this frame of the trapped stack keeps. Records of one frame may share the values.
     Kept {
         frame: u32,
-        values: Passed,
+        values: SharedValues,
     },
     /// The thread waited at the cell with a limit, and its wait is over.
     TimedOut {

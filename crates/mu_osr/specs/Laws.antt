@@ -1,7 +1,7 @@
 -- What edits keep, and that they are those of the abstract machine: each law is the contract of a function that does nothing.
 use Rattle.std.specs.Prelude.{◌≡◌, ℕ, ◌<◌, ◌≤◌, List, Some, None, IsSomeAnd, Ok, Err, IfOk, length, take, drop}
 use Rattle.ir_tree.specs.declared.items.Item.{Item}
-use Rattle.bundle_check.specs.Checking.{bundle_functions}
+use Rattle.checked_code.specs.Checking.{bundle_functions}
 use Rattle.typed_heap.specs.Fits.{World}
 use Rattle.frames.specs.Activations.{Activation}
 use Rattle.frames.specs.Chains.{frames_in}

@@ -1,8 +1,8 @@
 -- A frame that is pushed, and why none is.
 use Rattle.std.specs.Prelude.{◌≡◌, ◌≢◌, ℕ, true, List, [], ◌∷◌, Option, Some, None, IsSome, IsSomeAnd, slice_get}
 use Rattle.ir_tree.specs.declared.items.Item.{Item}
-use Rattle.bundle_check.specs.declared.code.Function.{Function}
-use Rattle.bundle_check.specs.Checking.{bundle_functions, bundle_tables}
+use Rattle.checked_code.specs.declared.blocks.Function.{Function}
+use Rattle.checked_code.specs.Checking.{bundle_functions, bundle_tables}
 use Rattle.typed_heap.specs.Places.{with_some}
 use Rattle.frames.specs.Activations.{Activation}
 use Rattle.frames.specs.Chains.{frames_in, nothing_kept}

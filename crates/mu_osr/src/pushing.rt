@@ -1,6 +1,6 @@
 // A frame that is pushed.
 ghost use Rattle.std.specs.Prelude.{◌≡◌, ◌≢◌, ◌≤◌, ◌<◌, ◌+◌, ◌∷◌, length, IfOk, IfErr, OnErr, true, false};
-ghost use Rattle.bundle_check.specs.Checking.{bundle_functions, bundle_tables};
+ghost use Rattle.checked_code.specs.Checking.{bundle_functions, bundle_tables};
 ghost use Rattle.frames.specs.Chains.{frames_in};
 ghost use Rattle.frames.specs.FrameOf.{frame_of};
 ghost use Rattle.mu_model.specs.Types.{classes_given, classes_taken};
@@ -8,7 +8,7 @@ ghost use Rattle.mu_osr.specs.Pushing.{before_parameters, Pushes, WhyNot};
 
 use crate::editing::append;
 use crate::room::EditRoom;
-use bundle_check::Checked;
+use checked_code::Checked;
 use frames::{Frame, Frames};
 use mu_base::{Ids, Types};
 use mu_values::{Passed, Slots};

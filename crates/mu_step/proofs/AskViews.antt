@@ -1,9 +1,9 @@
 -- Lemmas of what an instruction asks, over the view of a state and its parts.
 use Rattle.std.proofs.Common.{◌≡◌, ◌≢◌, ℕ, ◌<◌, List, None, Some, IsSome, Result, Ok, Err, IfOk, length, slice_get, slice_index_or, sym, ◌∙◌, ap, subst}
 use Rattle.ir_tree.specs.declared.items.Item.{Item}
-use Rattle.code_check.specs.declared.code.Code.{Code}
-use Rattle.bundle_check.specs.declared.code.BlockCode.{BlockCode}
-use Rattle.bundle_check.specs.Checking.{bundle_tables, bundle_blocks, check_demands}
+use Rattle.checked_code.specs.declared.code.Code.{Code}
+use Rattle.checked_code.specs.declared.blocks.BlockCode.{BlockCode}
+use Rattle.checked_code.specs.Checking.{bundle_tables, bundle_blocks, check_demands}
 use Rattle.bundle_names.specs.Naming.{name_demands}
 use Rattle.demands.specs.Demands.{first_unmet}
 use Rattle.frames.specs.Activations.{Value, Activation}
@@ -12,11 +12,11 @@ use Rattle.mu_model.specs.Acts.{Act, Doing}
 use Rattle.mu_model.specs.Outcomes.{Stuck}
 use Rattle.model_numbers.specs.Forms.{act_at}
 use Rattle.step_forms.specs.Classes.{FormIsThere, FormsAreThere}
-use Rattle.thread_acts.specs.Held.{Held}
-use Rattle.thread_acts.specs.Acting.{acting, stepping}
-use Rattle.thread_acts.specs.Counting.{act_of}
-use Rattle.thread_acts.specs.StepLaws.{GoesOn, step_stands, step_acts, doing_is}
-use Rattle.thread_acts.proofs.ActViews.{there_by}
+use Rattle.run_state.specs.Held.{Held}
+use Rattle.run_state.specs.Acting.{acting, stepping}
+use Rattle.memory_acts.specs.Counting.{act_of}
+use Rattle.run_state.specs.StepLaws.{GoesOn, step_stands, step_acts, doing_is}
+use Rattle.run_state.specs.ActViews.{there_by}
 
 -- ---- what an instruction asks
 

@@ -1,22 +1,22 @@
 -- Lemmas of steps that are made at once.
 use Rattle.std.proofs.Common.{◌≡◌, ◌≢◌, ℕ, List, [], Option, Some, None, IfSome, slice_get, sym, ◌∙◌, ap}
 use Rattle.ir_tree.specs.declared.items.Item.{Item}
-use Rattle.code_check.specs.declared.code.Code.{Code}
-use Rattle.bundle_check.specs.declared.code.BlockCode.{BlockCode}
-use Rattle.bundle_check.specs.Checking.{bundle_blocks}
+use Rattle.checked_code.specs.declared.code.Code.{Code}
+use Rattle.checked_code.specs.declared.blocks.BlockCode.{BlockCode}
+use Rattle.checked_code.specs.Checking.{bundle_blocks}
 use Rattle.frames.specs.Activations.{Value, Activation}
 use Rattle.mu_model.specs.declared.endings.StepEnd.TheVariants.{Went}
 use Rattle.mu_model.specs.Acts.{Act}
 use Rattle.mu_model.specs.Clients.{Client}
-use Rattle.mu_model.specs.Outcomes.{Outcome, Stuck}
+use Rattle.mu_model.specs.Outcomes.{Stuck}
 use Rattle.mu_model.specs.Step.{step}
 use Rattle.model_numbers.specs.Forms.{act_at}
 use Rattle.model_numbers.specs.Numbered.{numbered}
 use Rattle.step_forms.specs.CaseRows.{cases_of, cases_in, cases_at}
-use Rattle.thread_acts.specs.Held.{Held, configuration}
-use Rattle.thread_acts.specs.Outcome.{outcome_of}
-use Rattle.thread_acts.specs.Acting.{answers, acting, stepping, told}
-use Rattle.thread_acts.specs.StepLaws.{code_is}
+use Rattle.run_state.specs.Held.{Held, configuration}
+use Rattle.run_state.specs.Outcome.{outcome_of}
+use Rattle.run_state.specs.Acting.{answers, acting, stepping, told}
+use Rattle.run_state.specs.StepLaws.{code_is}
 use Rattle.mu_step.proofs.AskViews.{AsksAt}
 
 -- what is decided at once is what the instruction asks

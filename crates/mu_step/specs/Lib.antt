@@ -1,12 +1,3 @@
-pub mod Editing
-pub mod Entering
-pub mod EnteringLaws
 pub mod Machines
 pub mod Rare
 pub mod Running
-pub mod StartLaws
-pub mod SwapLaws
-pub mod TrapLaws
-pub mod Trapping
-pub mod WakeLaws
-pub mod Waking

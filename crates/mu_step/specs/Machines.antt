@@ -4,7 +4,7 @@ use Rattle.std.proofs.Common.{sym, ◌∙◌, ap}
 use Rattle.demands.specs.Demands.{first_unmet}
 use Rattle.ir_tree.specs.declared.items.Item.{Item}
 use Rattle.bundle_names.specs.Naming.{name_demands}
-use Rattle.bundle_check.specs.Checking.{check_demands}
+use Rattle.checked_code.specs.Checking.{check_demands}
 use Rattle.mu_model.specs.declared.endings.StepEnd.{StepEnd}
 use Rattle.mu_model.specs.declared.endings.StepEnd.TheVariants.{Went, Ended}
 use Rattle.mu_model.specs.declared.endings.Ending.{Ending}
@@ -16,10 +16,10 @@ use Rattle.mu_model.specs.Step.{step}
 use Rattle.model_numbers.specs.Laws.{ProgramsAreSame}
 use Rattle.model_numbers.specs.Numbered.{numbered}
 use Rattle.mu_model.specs.Run.{client_answers}
-use Rattle.thread_acts.specs.Outcome.{outcome_of}
-use Rattle.thread_acts.specs.Held.{Held, configuration}
-use Rattle.thread_acts.specs.Acting.{told}
-use Rattle.thread_acts.specs.Options.{step_options}
+use Rattle.run_state.specs.Outcome.{outcome_of}
+use Rattle.run_state.specs.Held.{Held, configuration}
+use Rattle.run_state.specs.Acting.{told}
+use Rattle.run_state.specs.Options.{step_options}
 use Rattle.mu_step.specs.Running.{without_lines}
 
 -- a step by numbers is one by names

@@ -5,31 +5,31 @@ ghost use Rattle.mu_model.specs.Outcomes.{Stuck};
 ghost use Rattle.mu_model.specs.Acts as acts;
 ghost use Rattle.step_forms.specs.Asked.{asked, lists_of};
 ghost use Rattle.step_forms.specs.Classes.{ActIsThere};
-ghost use Rattle.thread_acts.specs.Outcome.{Stays};
-ghost use Rattle.thread_acts.specs.Acting.{answers, acting, stepping, told};
-ghost use Rattle.thread_acts.specs.Counting.{act_of};
-ghost use Rattle.thread_acts.specs.Making.{graph_of};
-ghost use Rattle.thread_acts.specs.StepLaws.{GoesOn};
+ghost use Rattle.run_state.specs.Outcome.{Stays};
+ghost use Rattle.run_state.specs.Acting.{answers, acting, stepping, told};
+ghost use Rattle.memory_acts.specs.Counting.{act_of};
+ghost use Rattle.object_acts.specs.Making.{graph_of};
+ghost use Rattle.run_state.specs.StepLaws.{GoesOn};
 ghost use Rattle.mu_step.specs.Rare.{is_rare, may_ask};
 
-use crate::entering::{leave_stack, swap};
-use crate::starting::start_thread;
-use crate::step::Lists;
-use crate::trapping::{choose, meet, trap};
-use crate::wakes::wake;
-use bundle_check::Checked;
 use bundle_facts::widths_are_narrow;
+use checked_code::Checked;
 use client_hooks::Determined;
 use mem_axioms::Memory;
+use memory_acts::futexes::CellWait;
 use mu_model::StepEnd;
+use object_acts::making::Making;
+use stack_moves::lists::Lists;
 use std::alloc::AllocError;
 use step_forms::{Act, Room, Variables, decide, forms_are_there};
-use thread_acts::futexes::CellWait;
-use thread_acts::making::Making;
+use swap_acts::entering::{leave_stack, swap};
+use swap_acts::starting::start_thread;
 use thread_acts::state::State;
+use trap_acts::asking::{choose, meet, trap};
+use wake_acts::wakes::wake;
 
 /// The thread does an act, whose values and classes stand in the room, and by which the client is not asked.
-#[tactic(auto, using(thread_acts::specs::ActLaws::goes_is))]
+#[tactic(auto, using(run_state::specs::ActLaws::goes_is))]
 fn perform<M: Memory, C: Determined>(
     state: &mut State<M, C>,
     code: &Checked,
@@ -137,7 +137,7 @@ fn perform_rare<M: Memory, C: Determined>(
 }
 
 /// What the thread's next instruction asks, with values and classes in the room.
-#[tactic(auto, using(thread_acts::specs::StepLaws::running))]
+#[tactic(auto, using(run_state::specs::StepLaws::running))]
 pub(crate) fn asks<M: Memory, C: Determined>(
     state: &State<M, C>,
     code: &Checked,
@@ -164,7 +164,7 @@ pub(crate) fn asks<M: Memory, C: Determined>(
 }
 
 /// The thread does its next instruction.
-#[tactic(auto, using(thread_acts::specs::StepLaws::told_plain, thread_acts::specs::Hand::told_there, crate::specs::TrapLaws::trapped_asks, crate::specs::TrapLaws::trap_asks))]
+#[tactic(auto, using(run_state::specs::StepLaws::told_plain, run_state::specs::Hand::told_there, trap_acts::specs::TrapLaws::trapped_asks, trap_acts::specs::TrapLaws::trap_asks))]
 pub(crate) fn run<M: Memory, C: Determined>(
     state: &mut State<M, C>,
     code: &Checked,

@@ -7,20 +7,21 @@ ghost use Rattle.mu_model.specs.Step.{step};
 ghost use Rattle.model_numbers.specs.Numbered.{numbered};
 ghost use Rattle.step_forms.specs.Asked.{lists_of};
 ghost use Rattle.step_forms.specs.AtOnce.{decided};
-ghost use Rattle.thread_acts.specs.Held.{configuration};
-ghost use Rattle.thread_acts.specs.Outcome.{outcome_of};
-ghost use Rattle.thread_acts.specs.Acting.{answers, acting, stepping, told};
-ghost use Rattle.thread_acts.specs.StepLaws.{GoesOn};
+ghost use Rattle.run_state.specs.Held.{configuration};
+ghost use Rattle.run_state.specs.Outcome.{outcome_of};
+ghost use Rattle.run_state.specs.Acting.{answers, acting, stepping, told};
+ghost use Rattle.run_state.specs.StepLaws.{GoesOn};
 
-use crate::step::{Lists, pick_thread, settle};
-use bundle_check::Checked;
+use crate::step::{pick_thread, settle};
+use checked_code::Checked;
 use client_hooks::Determined;
 use mem_axioms::Memory;
+use stack_moves::lists::Lists;
 use step_forms::{AtOnce, CaseRows, FrameView, Room, Variables, decide_at_once};
 use thread_acts::state::State;
 
 /// What the thread's next instruction asks, where that is decided at once, with values and classes in the room.
-#[tactic(auto, using(thread_acts::specs::StepLaws::running))]
+#[tactic(auto, using(run_state::specs::StepLaws::running))]
 fn asks_at_once<M: Memory, C: Determined>(
     state: &State<M, C>,
     code: &Checked,
@@ -47,7 +48,7 @@ fn asks_at_once<M: Memory, C: Determined>(
 }
 
 /// The thread does its next instruction at once, or nothing changes.
-#[tactic(auto, using(crate::proofs::AtOnce::acting_at_once, thread_acts::specs::ActLaws::goes_is))]
+#[tactic(auto, using(crate::proofs::AtOnce::acting_at_once, run_state::specs::ActLaws::goes_is))]
 fn run_at_once<M: Memory, C: Determined>(
     state: &mut State<M, C>,
     code: &Checked,
@@ -76,7 +77,7 @@ fn run_at_once<M: Memory, C: Determined>(
 }
 
 /// The step of the thread in hand is made at once, or nothing changes. A thread that waits makes none so.
-#[tactic(auto, using(thread_acts::specs::Hand::waiting_hand, thread_acts::specs::Hand::told_there, thread_acts::specs::StepLaws::told_so))]
+#[tactic(auto, using(run_state::specs::Hand::waiting_hand, run_state::specs::Hand::told_there, run_state::specs::StepLaws::told_so))]
 fn turn_at_once<M: Memory, C: Determined>(
     state: &mut State<M, C>,
     code: &Checked,

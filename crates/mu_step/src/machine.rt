@@ -1,31 +1,32 @@
 // The machine.
 ghost use Rattle.std.specs.Prelude.{◌≡◌, ◌≢◌, ℕ, ◌≤◌, ◌==◌, [], IsSome, IsSomeAnd, Some, IfOk, OnErr, length, true, false, ◌||◌};
-ghost use Rattle.bundle_check.specs.Checking.{bundle_tables};
+ghost use Rattle.checked_code.specs.Checking.{bundle_tables};
 ghost use Rattle.mu_model.specs.declared.endings.StepEnd.TheVariants.{Went, Ended};
 ghost use Rattle.mu_model.specs.Programs.{named};
 ghost use Rattle.mu_model.specs.Outcomes.{Stuck};
 ghost use Rattle.mu_model.specs.Step.{runnable, step};
 ghost use Rattle.mu_model.specs.Run.{cells_left, first_configuration, client_answers};
 ghost use Rattle.mu_step.specs.Running.{gives_ending, without_lines};
-ghost use Rattle.thread_acts.specs.Outcome.{outcome_of, Stays};
-ghost use Rattle.thread_acts.specs.Options.{step_options};
+ghost use Rattle.run_state.specs.Outcome.{outcome_of, Stays};
+ghost use Rattle.run_state.specs.Options.{step_options};
 
 use crate::at_once::step_at_once;
 use crate::options::options;
-use crate::step::{Lists, step};
-use bundle_check::Checked;
+use crate::step::step;
+use checked_code::Checked;
 use client_hooks::Determined;
 use mem_axioms::Memory;
 use model_numbers::programs_are_same;
 use mu_model::{Ending, Lines, StepEnd};
+use run_start::RunInputs;
+use stack_moves::lists::Lists;
 use std::alloc::{AllocError, Global};
 use std::marker::Model;
 use step_forms::CaseRows;
-use thread_acts::RunInputs;
 use thread_acts::state::State;
 
-/// A machine that runs checked code, over any memory and any client whose answers are a function of what it is shown. Contracts see the
-/// bundle, the configuration that its run has come to, and whether the run's ending was told.
+/// A machine that runs checked code, over any memory, and with any client that answers as a list of script entries does, and then stops the
+/// run or passes zero and NULL. Contracts see the bundle, the configuration that its run has come to, and whether the run's ending was told.
 #[derive(Drop)]
 pub struct Machine<'a, M: Memory, C: Determined> {
     code: &'a Checked,
@@ -38,7 +39,7 @@ pub struct Machine<'a, M: Memory, C: Determined> {
 impl<'a, M: Memory, C: Determined> Model for Machine<'a, M, C> {
     ghost use Rattle.std.specs.Prelude.{◌≡◌};
     ghost use Rattle.mu_step.specs.Running.{Running};
-    ghost use Rattle.thread_acts.specs.Held.{configuration};
+    ghost use Rattle.run_state.specs.Held.{configuration};
 
     ghost Value = { Running };
 
@@ -51,7 +52,7 @@ impl<'a, M: Memory + Drop, C: Determined + Drop> Machine<'a, M, C> {
     /// A machine at the beginning of the run of a function: thread 0 stands on stack 0, where the function's first block begins. The
     /// run has the objects of the heap, which are to be those of the globals and then those that were loaded, and as many cells as the
     /// heap has left. The memory knows nothing yet, and brings the rule of release sequences. The budget is 1,000,000 steps at most.
-    #[tactic(auto, using(thread_acts::specs::Starting::begins))]
+    #[tactic(auto, using(run_start::specs::Starting::begins))]
     pub fn new(
         alloc: Global,
         code: &'a Checked,

@@ -3,15 +3,15 @@ ghost use Rattle.std.specs.Prelude.{◌≡◌, ◌≢◌, IfOk, true};
 ghost use Rattle.mu_model.specs.Outcomes.{Stuck};
 ghost use Rattle.mu_model.specs.Step.{step};
 ghost use Rattle.model_numbers.specs.Numbered.{numbered};
-ghost use Rattle.thread_acts.specs.Held.{configuration};
-ghost use Rattle.thread_acts.specs.Acting.{stepping, told};
-ghost use Rattle.thread_acts.specs.StepLaws.{GoesOn};
-ghost use Rattle.thread_acts.specs.Options.{access_in, step_options};
-ghost use Rattle.thread_acts.specs.Counting.{act_of, access_count, stepping_count};
+ghost use Rattle.run_state.specs.Held.{configuration};
+ghost use Rattle.run_state.specs.Acting.{stepping, told};
+ghost use Rattle.run_state.specs.StepLaws.{GoesOn};
+ghost use Rattle.run_state.specs.Options.{access_in, step_options};
+ghost use Rattle.memory_acts.specs.Counting.{act_of, access_count, stepping_count};
 
 use crate::acts::asks;
 use crate::step::{pick_thread, settle};
-use bundle_check::Checked;
+use checked_code::Checked;
 use client_hooks::Determined;
 use mem_axioms::Memory;
 use std::alloc::AllocError;
@@ -19,7 +19,7 @@ use step_forms::{Act, Room};
 use thread_acts::state::State;
 
 /// How many options the next instruction of the thread in hand has to pick from.
-#[tactic(auto, using(thread_acts::specs::AccessLaws::cell_there))]
+#[tactic(auto, using(memory_acts::specs::AccessLaws::cell_there))]
 fn instruction_options<M: Memory, C: Determined>(
     state: &State<M, C>,
     code: &Checked,
@@ -37,7 +37,7 @@ fn instruction_options<M: Memory, C: Determined>(
 }
 
 /// The same of the thread's turn. A thread that waits does no instruction.
-#[tactic(auto, using(thread_acts::specs::Hand::waiting_hand, thread_acts::specs::Hand::told_there))]
+#[tactic(auto, using(run_state::specs::Hand::waiting_hand, run_state::specs::Hand::told_there))]
 fn turn_options<M: Memory, C: Determined>(
     state: &State<M, C>,
     code: &Checked,
@@ -54,7 +54,7 @@ fn turn_options<M: Memory, C: Determined>(
 }
 
 /// How many options the next step has to pick from, once its thread is picked. The configuration stays.
-#[tactic(auto, using(thread_acts::specs::Counting::over_count, thread_acts::specs::Counting::none_count))]
+#[tactic(auto, using(memory_acts::specs::Counting::over_count, memory_acts::specs::Counting::none_count))]
 pub(crate) fn options<M: Memory, C: Determined>(
     state: &mut State<M, C>,
     code: &Checked,

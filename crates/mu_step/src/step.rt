@@ -1,47 +1,26 @@
 // The step of a run: which thread makes it.
-ghost use Rattle.std.specs.Prelude.{◌≡◌, ◌≢◌, ◌<◌, ◌≤◌, [], IsSome, Some, IfOk, OnErr, length, slice_get, true, false, List};
+ghost use Rattle.std.specs.Prelude.{◌≡◌, ◌≢◌, ◌<◌, IsSome, IfOk, OnErr, length, true, false, List};
 ghost use Rattle.ir_tree.specs.declared.items.Item.{Item};
 ghost use Rattle.mu_model.specs.Clients.{Client};
-ghost use Rattle.mu_threads.specs.Picks.{pick};
 ghost use Rattle.mu_model.specs.Outcomes.{Stuck};
 ghost use Rattle.mu_model.specs.Step.{step};
 ghost use Rattle.model_numbers.specs.Numbered.{numbered};
 ghost use Rattle.seats.specs.Seats.{seat_of, runnable_of};
-ghost use Rattle.thread_acts.specs.Held.{Held, ahead, configuration};
-ghost use Rattle.thread_acts.specs.Hand.{IsTakenUp, is_went};
-ghost use Rattle.thread_acts.specs.Outcome.{outcome_of, Stays};
-ghost use Rattle.thread_acts.specs.Acting.{answers, stepping, told};
-ghost use Rattle.thread_acts.specs.Options.{step_options};
-ghost use Rattle.thread_acts.specs.Counting.{stepping_count};
+ghost use Rattle.run_state.specs.Held.{configuration};
+ghost use Rattle.run_state.specs.Hand.{IsTakenUp, is_went};
+ghost use Rattle.run_state.specs.Outcome.{outcome_of, Stays};
+ghost use Rattle.run_state.specs.Acting.{answers, stepping, told};
+ghost use Rattle.run_state.specs.Options.{step_options};
+ghost use Rattle.memory_acts.specs.Counting.{stepping_count};
 
 use crate::acts::run;
-use bundle_check::Checked;
+use checked_code::Checked;
 use client_hooks::Determined;
 use mem_axioms::Memory;
 use mu_model::{Ending, StepEnd};
-use mu_values::Slots;
-use std::alloc::{AllocError, Global};
-use step_forms::Room;
+use stack_moves::lists::Lists;
+use std::alloc::AllocError;
 use thread_acts::state::{State, ended};
-
-/// The lists that a step works in. What they hold between steps means nothing.
-#[derive(Drop)]
-pub(crate) struct Lists {
-    /// Operands, and what is handed on of them.
-    pub(crate) room: Room,
-    /// What the variables of a frame become that goes on elsewhere.
-    pub(crate) out: Slots,
-}
-
-impl Lists {
-    /// Empty lists. They take no memory yet.
-    pub(crate) fn new(alloc: Global) -> Lists {
-        Lists {
-            room: Room::new(alloc),
-            out: Slots::new(alloc),
-        }
-    }
-}
 
 /// Whether the step was made, and gave no ending.
 fn is_made(end: &Result<StepEnd, AllocError>) -> bool
@@ -51,7 +30,7 @@ fn is_made(end: &Result<StepEnd, AllocError>) -> bool
 }
 
 /// The frames of a thread that is left come into the hand, where none are.
-#[tactic(auto, using(thread_acts::specs::Hand::lifted_up, thread_acts::specs::Hand::lifted_sound))]
+#[tactic(auto, using(run_state::specs::Hand::lifted_up, run_state::specs::Hand::lifted_sound))]
 fn lift<M: Memory, C: Determined>(state: &mut State<M, C>, thread: u32)
     requires empty { state.old.left ≡ false }
     requires there { IsSome (seat_of state.old.seats thread) }
@@ -65,7 +44,7 @@ fn lift<M: Memory, C: Determined>(state: &mut State<M, C>, thread: u32)
 }
 
 /// The frames of a thread that is left come into the hand.
-#[tactic(auto, using(thread_acts::specs::Hand::taken_already, thread_acts::specs::Hand::taken_then))]
+#[tactic(auto, using(run_state::specs::Hand::taken_already, run_state::specs::Hand::taken_then))]
 fn take_up<M: Memory, C: Determined>(state: &mut State<M, C>, thread: u32)
     requires { IsSome (seat_of state.old.seats thread) }
     ensures { IsTakenUp state.old state.new thread }
@@ -80,7 +59,7 @@ fn take_up<M: Memory, C: Determined>(state: &mut State<M, C>, thread: u32)
 }
 
 /// Picks one of so many threads, and takes it up. The pick is looked at, and not taken yet.
-#[tactic(auto, using(thread_acts::specs::Hand::picks_thread, thread_acts::specs::Counting::options_so))]
+#[tactic(auto, using(run_state::specs::Hand::picks_thread, memory_acts::specs::Counting::options_so))]
 pub(crate) fn pick_thread<M: Memory, C: Determined>(state: &mut State<M, C>, many: u32)
     requires many { many ≡ length (runnable_of state.old.seats) }
     requires some { 0 < many }
@@ -112,7 +91,7 @@ pub(crate) fn settle<M: Memory, C: Determined>(state: &mut State<M, C>, made: bo
 }
 
 /// No thread may make a step.
-#[tactic(auto, using(thread_acts::specs::Hand::done_so, thread_acts::specs::Hand::waits_so))]
+#[tactic(auto, using(run_state::specs::Hand::done_so, run_state::specs::Hand::waits_so))]
 fn none_runs<M: Memory, C: Determined>(state: &State<M, C>) -> Result<StepEnd, AllocError>
     requires none { length (runnable_of state.now.seats) ≡ 0 }
     ensures ok { (bundle : List Item) (k : Client) → IfOk result (λ end. outcome_of end (configuration state.now) ≡ told bundle k (step (numbered bundle) (configuration state.now))) }
@@ -127,7 +106,7 @@ fn none_runs<M: Memory, C: Determined>(state: &State<M, C>) -> Result<StepEnd, A
 }
 
 /// The step of the thread in hand. Where that waits, it does so with a limit, and the wait is over.
-#[tactic(auto, using(thread_acts::specs::Hand::waiting_hand, thread_acts::specs::Hand::told_there, thread_acts::specs::StepLaws::told_plain))]
+#[tactic(auto, using(run_state::specs::Hand::waiting_hand, run_state::specs::Hand::told_there, run_state::specs::StepLaws::told_plain))]
 fn turn<M: Memory, C: Determined>(
     state: &mut State<M, C>,
     code: &Checked,
@@ -170,7 +149,7 @@ fn make_step<M: Memory, C: Determined>(
 }
 
 /// One step of the run.
-#[tactic(auto, using(thread_acts::specs::Hand::over_so))]
+#[tactic(auto, using(run_state::specs::Hand::over_so))]
 pub(crate) fn step<M: Memory, C: Determined>(
     state: &mut State<M, C>,
     code: &Checked,

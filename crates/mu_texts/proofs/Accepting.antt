@@ -10,9 +10,9 @@ use Rattle.ir_text.specs.declared.fault.TextFault.{TextFault}
 use Rattle.ir_text.specs.declared.fault.TextFault.TheVariants as text_faults
 use Rattle.ir_text.specs.TextAnswers.{text_answer}
 use Rattle.bundle_names.specs.Naming.{name_demands}
-use Rattle.bundle_check.specs.declared.fault.EntryFault.{EntryFault}
-use Rattle.bundle_check.specs.Checking.{check_demands}
-use Rattle.bundle_check.specs.Answers.{entry}
+use Rattle.checked_code.specs.declared.fault.EntryFault.{EntryFault}
+use Rattle.checked_code.specs.Checking.{check_demands}
+use Rattle.checked_code.specs.Answers.{entry}
 use Rattle.hail_load.specs.declared.tree.Command.{Command}
 use Rattle.hail_load.specs.Code.{code_of}
 use Rattle.hail_load.specs.Texts.{hail_demands, hail_commands}

@@ -4,7 +4,7 @@ use Rattle.std.specs.Prelude.{Result, Ok, Err}
 use Rattle.demands.specs.declared.fault.Fault.{Fault}
 use Rattle.demands.specs.declared.fault.Fault.TheVariants.{At, Memory as NoMemory}
 use Rattle.ir_tree.specs.declared.items.Item.{Item}
-use Rattle.bundle_check.specs.Checking.{bundle_tables}
+use Rattle.checked_code.specs.Checking.{bundle_tables}
 use Rattle.typed_heap.specs.Heap.{HeapContents}
 use Rattle.hail_load.specs.declared.tree.Command.{Command}
 use Rattle.hail_load.specs.declared.fault.LoadKind.{LoadKind}

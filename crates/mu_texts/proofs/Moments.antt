@@ -7,7 +7,7 @@ use Rattle.mu_model.specs.Programs.{named as program}
 use Rattle.mu_model.specs.Run.{Setting}
 use Rattle.text_programs.specs.Moments.{MomentsAreSound, EnteredRunsAreSound, MomentsOfTextsAreSound}
 use Rattle.loaded_programs.specs.Laws.{LoadedSettingFits, LoadedSettingsFit}
-use Rattle.bundle_check.specs.Answers.{entry}
+use Rattle.checked_code.specs.Answers.{entry}
 use Rattle.mu_texts.specs.Answer.{accepted, entered}
 use Rattle.mu_texts.specs.Comes.{IsLoaded}
 use Rattle.mu_texts.proofs.Runnable.{fitting, of_accepted, was_entered}

@@ -9,9 +9,9 @@ use Rattle.ir_text.specs.declared.fault.TextFault.{TextFault}
 use Rattle.ir_text.specs.declared.fault.TextFault.TheVariants as text_faults
 use Rattle.ir_text.specs.TextAnswers.{IsAnswer, AnswerIsOne, text_answer}
 use Rattle.bundle_names.specs.Naming.{name_demands}
-use Rattle.bundle_check.specs.Checking.{check_demands}
-use Rattle.bundle_check.specs.declared.fault.EntryFault.{EntryFault}
-use Rattle.bundle_check.specs.Answers.{entry}
+use Rattle.checked_code.specs.Checking.{check_demands}
+use Rattle.checked_code.specs.declared.fault.EntryFault.{EntryFault}
+use Rattle.checked_code.specs.Answers.{entry}
 use Rattle.typed_heap.specs.Places.{with_some}
 use Rattle.mu_model.specs.Configuration.{Configuration}
 use Rattle.mu_model.specs.Programs.{named as program}

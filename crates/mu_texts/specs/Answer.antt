@@ -13,9 +13,9 @@ use Rattle.demands.specs.declared.fault.Fault.{Fault}
 use Rattle.demands.specs.declared.fault.Fault.TheVariants as faults
 use Rattle.demands.specs.Demands.{first_unmet}
 use Rattle.bundle_names.specs.Naming.{name_demands}
-use Rattle.bundle_check.specs.declared.fault.EntryFault.{EntryFault}
-use Rattle.bundle_check.specs.Checking.{bundle_tables, check_demands}
-use Rattle.bundle_check.specs.Answers.{entry}
+use Rattle.checked_code.specs.declared.fault.EntryFault.{EntryFault}
+use Rattle.checked_code.specs.Checking.{bundle_tables, check_demands}
+use Rattle.checked_code.specs.Answers.{entry}
 use Rattle.mu_model.specs.Programs.{named as program}
 use Rattle.typed_heap.specs.Objects.{HeapObject}
 use Rattle.hail_load.specs.declared.tree.Command.{Command}

@@ -8,8 +8,8 @@ use Rattle.mu_texts.specs.declared.ready.Ready.TheVariants as ready
 use Rattle.typed_heap.specs.Objects.{HeapObject}
 use Rattle.typed_heap.specs.Heap.{HeapContents}
 use Rattle.hail_load.specs.declared.tree.Command.{Command}
-use Rattle.bundle_check.specs.Checking.{bundle_tables}
-use Rattle.bundle_check.specs.Answers.{entry}
+use Rattle.checked_code.specs.Checking.{bundle_tables}
+use Rattle.checked_code.specs.Answers.{entry}
 use Rattle.mu_model.specs.Programs.{named as program}
 use Rattle.mu_model.specs.Run.{Setting, cells_left, first_configuration}
 use Rattle.model_laws.specs.Bounds.{HasEnding}

@@ -10,8 +10,8 @@ use Rattle.bundle_names.specs.declared.fault.NameKind.{NameKind}
 use Rattle.bundle_names.specs.declared.fault.NameKind.TheVariants as name_kinds
 use Rattle.check_tables.specs.declared.fault.CheckKind.{CheckKind}
 use Rattle.check_tables.specs.declared.fault.CheckKind.TheVariants as check_kinds
-use Rattle.bundle_check.specs.declared.fault.EntryFault.{EntryFault}
-use Rattle.bundle_check.specs.declared.fault.EntryFault.TheVariants as entry_faults
+use Rattle.checked_code.specs.declared.fault.EntryFault.{EntryFault}
+use Rattle.checked_code.specs.declared.fault.EntryFault.TheVariants as entry_faults
 use Rattle.hail_load.specs.declared.fault.HailKind.{HailKind}
 use Rattle.hail_load.specs.declared.fault.HailKind.TheVariants as hail_kinds
 use Rattle.hail_load.specs.declared.fault.LoadKind.{LoadKind}

@@ -7,12 +7,12 @@ use crate::judging::{read_heap_script, refused};
 use crate::refusals::load_fault_name;
 use crate::stop::Stop;
 use crate::what::What;
-use bundle_check::Checked;
+use checked_code::Checked;
 use demands::Fault;
 use hail_load::{Hail, load_hail};
 use loaded_programs::{cells_are_counted, scripts_begin_with_globals};
+use run_start::first_heap;
 use std::alloc::Global;
-use thread_acts::first_heap;
 use typed_heap::Heap;
 
 // What a script makes, behind the objects of the globals.

@@ -12,8 +12,9 @@ use crate::refusals::{
 };
 use crate::stop::Stop;
 use crate::what::What;
-use bundle_check::{Checked, check, judge};
+use bundle_check::{check, judge};
 use bundle_names::{Resolved, resolve};
+use checked_code::Checked;
 use client_script::{RunClient, read_script};
 use demands::Fault;
 use hail_load::{Hail, read_hail};

@@ -1,6 +1,6 @@
 // What is to be written.
 use crate::start::Start;
-use bundle_check::Checked;
+use checked_code::Checked;
 use ir_tree::Bundle;
 use verdicts::Verdict;
 

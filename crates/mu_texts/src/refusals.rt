@@ -4,10 +4,10 @@ ghost use Rattle.mu_texts.specs.What.{name_of};
 ghost use Rattle.mu_texts.specs.Refusals.{text_fault_name, name_fault_name, type_fault_name, const_fault_name, check_fault_name, entry_fault_name, hail_fault_name, load_fault_name, script_fault_name, schedule_fault_name, log_fault_name, join_fault_name};
 
 use crate::what::What;
-use bundle_check::EntryFault;
 use bundle_join::JoinKind;
 use bundle_names::NameKind;
 use check_tables::CheckKind;
+use checked_code::EntryFault;
 use client_script::ScriptKind;
 use hail_load::{HailKind, LoadKind};
 use itoa::Buffer;

@@ -1,10 +1,10 @@
 -- Worked examples, to read beside the definitions: first faults, and the implied types of a small graph.
-use Rattle.std.specs.Prelude.{◌≡◌, ℕ, List, [], ◌∷◌, Some, None, length, slice_get, refl}
+use Rattle.std.specs.Prelude.{◌≡◌, [], ◌∷◌, Some, None, length, slice_get, refl}
 use Rattle.demands.specs.declared.fault.Fault.TheVariants.{At}
 use Rattle.demands.specs.Demands.{first_unmet}
-use Rattle.type_laws.specs.declared.definition.TypeDef.TheVariants.{Int, Struct, Void, Ref, FuncRef, Sig}
-use Rattle.type_laws.specs.Parts.{leads}
-use Rattle.type_laws.specs.Leaves.{leaves_to}
+use Rattle.type_definitions.specs.declared.definition.TypeDef.TheVariants.{Int, Struct, Void, Ref, FuncRef, Sig}
+use Rattle.type_definitions.specs.Parts.{leads}
+use Rattle.type_definitions.specs.Leaves.{leaves_to}
 use Rattle.mu_types.specs.declared.faults.TypeKind.TheVariants.{EndlessType, WrongArgument}
 use Rattle.mu_types.specs.Implied.{complete}
 use Rattle.mu_types.specs.TypeDemands.{written_demands}

@@ -1,6 +1,6 @@
 -- The graph of written types and signatures, and the whole graph, as public contracts see them.
 use Rattle.std.specs.Prelude.{ℕ, List}
-use Rattle.type_laws.specs.declared.definition.TypeDef.{TypeDef}
+use Rattle.type_definitions.specs.declared.definition.TypeDef.{TypeDef}
 
 -- the definitions by id, and by id the places: that of the name, then that of each argument
 pub record Written : Type 0 where

@@ -1,12 +1,12 @@
 -- What a finished graph keeps true of its private fields.
--- Contracts inside the crate cite this; no public one does, so no reader of those needs it.
+-- The contract of `Classes::held` cites this, and no other public one.
 use Rattle.std.proofs.Common.{◌≡◌, ℕ, ◌+◌, ◌^◌, ◌<◌, List, [], length, map}
 use Rattle.std.specs.Prelude.{slice_index, slice_index_or}
-use Rattle.type_laws.specs.declared.definition.TypeDef.{TypeDef}
-use Rattle.type_laws.specs.Same.{IsGraph}
-use Rattle.type_laws.specs.Class.{class_of}
-use Rattle.type_laws.specs.Leaves.{leaves}
-use Rattle.type_laws.specs.Partition.{IsLeast}
+use Rattle.type_definitions.specs.declared.definition.TypeDef.{TypeDef}
+use Rattle.type_definitions.specs.Same.{IsGraph}
+use Rattle.type_definitions.specs.Class.{class_of}
+use Rattle.type_definitions.specs.Leaves.{leaves}
+use Rattle.type_definitions.specs.Partition.{IsLeast}
 use Rattle.mu_types.specs.References.{Referred, IsHeaded}
 
 -- the row with the number that the class of a type is has the classes of its leaves

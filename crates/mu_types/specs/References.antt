@@ -1,9 +1,9 @@
 -- Where the references to a definition stand.
--- Contracts inside the crate cite this; no public one does, so no reader of those needs it.
+-- The contract of `Classes::held` cites this, and no other public one.
 use Rattle.std.proofs.Common.{◌≡◌, ℕ, ◌+◌, ◌<◌, true, false, List, Some, slice_get, get_or}
 use Rattle.std.specs.Prelude.{slice_index}
-use Rattle.type_laws.specs.declared.definition.TypeDef.{TypeDef}
-use Rattle.type_laws.specs.declared.definition.TypeDef.TheVariants.{Int, Void, Ref, Iref, FuncRef, StackRef, ThreadRef}
+use Rattle.type_definitions.specs.declared.definition.TypeDef.{TypeDef}
+use Rattle.type_definitions.specs.declared.definition.TypeDef.TheVariants.{Int, Void, Ref, Iref, FuncRef, StackRef, ThreadRef}
 use Rattle.mu_types.specs.Implied.{is_signature}
 
 -- from id i on stand the references to t

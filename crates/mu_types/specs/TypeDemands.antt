@@ -2,10 +2,10 @@
 use Rattle.std.specs.Prelude.{ℕ, zero, suc, ◌+◌, Bool, true, false, not, ◌&&◌, ◌==◌, nat_le, List, [], length, Option, Some, None, slice_get, slice_index, slice_index_or}
 use Rattle.std.specs.List.{list_any}
 use Rattle.demands.specs.Demands.{Demands, none, demand, ◌⨾◌}
-use Rattle.type_laws.specs.declared.definition.TypeDef.{TypeDef}
-use Rattle.type_laws.specs.declared.definition.TypeDef.TheVariants.{Int, Struct, Array, Hybrid, Void}
-use Rattle.type_laws.specs.Parts.{contains_itself}
-use Rattle.type_laws.specs.Leaves.{leaves}
+use Rattle.type_definitions.specs.declared.definition.TypeDef.{TypeDef}
+use Rattle.type_definitions.specs.declared.definition.TypeDef.TheVariants.{Int, Struct, Array, Hybrid, Void}
+use Rattle.type_definitions.specs.Parts.{contains_itself}
+use Rattle.type_definitions.specs.Leaves.{leaves}
 use Rattle.mu_types.specs.declared.limits.TheConstants.{WIDTHS, LONGEST_ARRAY, MOST_LEAVES}
 use Rattle.mu_types.specs.declared.faults.TypeKind.{TypeKind}
 use Rattle.mu_types.specs.declared.faults.TypeKind.TheVariants.{EndlessType, WrongArgument, TooManyLeaves}

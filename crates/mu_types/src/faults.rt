@@ -17,5 +17,5 @@ pub enum TypeKind {
 }
 
 /// Why a graph of types is refused: the first demand that is not met, or out of memory. The place, as it was given to
-/// `TypeGraph::add`, is that of an argument for `WrongArgument`, and of the type's name for the others.
+/// `TypeGraph::add` of `type_classes`, is that of an argument for `WrongArgument`, and of the type's name for the others.
 pub type TypeFault = Fault<TypeKind>;

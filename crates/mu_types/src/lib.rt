@@ -1,32 +1,14 @@
-//! The types of a bundle: which definitions are refused, which mean the same type, and what their leaves are.
+//! The types of a bundle as they are known once they are judged: their definitions, which of them are the same, and their leaves.
+//! The crate `type_classes` finds all this; here is what crates above ask for, and what they may believe of it.
 #![tactic(auto)]
 
-mod arguments;
-mod blocks;
-mod counting;
-mod deciding;
-mod edges;
-mod endless;
 mod faults;
-mod gather;
-mod graph;
 mod implied;
-mod judging;
 mod limits;
-mod listing;
-mod moves;
-mod naming;
-mod plain;
-mod preds;
-mod ranking;
-mod refine;
-mod rows;
-mod stable;
 mod table;
 
-pub use deciding::classes;
 pub use faults::{TypeFault, TypeKind};
-pub use graph::TypeGraph;
-pub use implied::Implied;
+pub use implied::{Implied, Whole};
+pub use limits::{LONGEST_ARRAY, MOST_LEAVES, WIDTHS};
 pub use table::Classes;
-pub use type_laws::TypeDef;
+pub use type_definitions::TypeDef;

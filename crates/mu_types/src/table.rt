@@ -1,15 +1,15 @@
 // The graph with all that is asked of it.
 ghost use Rattle.std.specs.Prelude.{◌≡◌, ℕ, ◌+◌, ◌-◌, ◌*◌, ◌^◌, ◌<◌, ◌≤◌, Some, None, length, map, slice_get, slice_index, IfOk, IfErr};
-ghost use Rattle.type_laws.specs.Same.{same, IsGraph};
-ghost use Rattle.type_laws.specs.Class.{class_of};
-ghost use Rattle.type_laws.specs.Leaves.{leaves};
+ghost use Rattle.type_definitions.specs.Same.{same, IsGraph};
+ghost use Rattle.type_definitions.specs.Class.{class_of};
+ghost use Rattle.type_definitions.specs.Leaves.{leaves};
 ghost use Rattle.mu_types.specs.Implied.{complete, definition_of, IsThere};
 ghost use Rattle.mu_types.specs.Rows.{lists};
 ghost use Rattle.mu_types.specs.Held.{IsLawful};
 
 use super::implied::{Implied, Whole};
 use std::marker::Model;
-use type_laws::TypeDef;
+use type_definitions::TypeDef;
 
 /// The types and signatures of a graph, the implied ones among them, and which of them are the same.
 /// Contracts see the definitions by id and how many of them, which come first, are written. It holds a number for each definition
@@ -36,7 +36,9 @@ impl Model for Classes {
 }
 
 impl Classes {
-    pub(crate) fn held(written: usize, whole: Whole, class: Vec<usize>, rows: Vec<Vec<u32>>) -> Self
+    /// The finished graph of these parts. `class` has by id the least id that is the same type or signature, and `rows` by the id of
+    /// a class the classes of its leaves, from left to right. The parts are taken as they are, in constant time and without memory.
+    pub fn held(written: usize, whole: Whole, class: Vec<usize>, rows: Vec<Vec<u32>>) -> Self
         requires { IsLawful written whole.all.items whole.first.items class.items (lists rows.items) }
         ensures definitions { result.definitions ≡ whole.all.items }
         ensures written { result.written ≡ written }
@@ -62,7 +64,7 @@ impl Classes {
     }
 
     /// The least id that is the same type or signature. It is looked up; this takes no memory.
-    #[tactic(auto, using(type_laws::proofs::Classes::class_is))]
+    #[tactic(auto, using(type_definitions::proofs::Classes::class_is))]
     pub fn class(&self, t: u32) -> u32
         requires { t < length self.now.definitions }
         ensures { result ≡ class_of self.now.definitions t }

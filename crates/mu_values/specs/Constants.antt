@@ -6,10 +6,10 @@ use Rattle.std.specs.Ordering.{nat_cmp}
 use Rattle.mu_base.specs.Lists.{Roomy}
 use Rattle.demands.specs.Demands.{Demands, none, demand, ◌⨾◌, first_unmet}
 use Rattle.demands.specs.declared.fault.Fault.TheVariants.{At}
-use Rattle.type_laws.specs.declared.definition.TypeDef.{TypeDef}
-use Rattle.type_laws.specs.declared.definition.TypeDef.TheVariants.{Struct, Array, Ref, Iref, FuncRef, StackRef, ThreadRef}
-use Rattle.type_laws.specs.declared.definition.TypeDef.TheVariants as types
-use Rattle.type_laws.specs.Same.{same}
+use Rattle.type_definitions.specs.declared.definition.TypeDef.{TypeDef}
+use Rattle.type_definitions.specs.declared.definition.TypeDef.TheVariants.{Struct, Array, Ref, Iref, FuncRef, StackRef, ThreadRef}
+use Rattle.type_definitions.specs.declared.definition.TypeDef.TheVariants as types
+use Rattle.type_definitions.specs.Same.{same}
 use Rattle.mu_values.specs.declared.scalars.Scalar.{Scalar}
 use Rattle.mu_values.specs.declared.scalars.Scalar.TheVariants.{Int, Null}
 use Rattle.mu_values.specs.declared.literals.Literal.{Literal}

@@ -10,3 +10,5 @@ pub mod IntegerExamples
 pub mod UpdateExamples
 pub mod ComparisonExamples
 pub mod ConstantExamples
+pub mod SameCell
+pub mod CellLaws

@@ -1,7 +1,7 @@
 // Judging constants by their types.
 ghost use Rattle.std.specs.Prelude.{◌≡◌, ◌^◌, ◌<◌, ◌≤◌, None, Some, length, slice_get, slice_index, nat_lt, IsSomeAnd};
 ghost use Rattle.std.specs.List.{All};
-ghost use Rattle.type_laws.specs.Same.{same, IsGraph};
+ghost use Rattle.type_definitions.specs.Same.{same, IsGraph};
 ghost use Rattle.mu_values.specs.Constants.{fits, is_reference, is_count, member_count, member_type, member_demands, width_of, constant_demands, HasMembers, Judged};
 
 use crate::literals::{ConstFault, ConstKind, Literal, LiteralKind};

@@ -1,6 +1,8 @@
 // Laws of the definitions, each the contract of a function that does nothing.
 ghost use Rattle.std.specs.Prelude.{◌≡◌, ◌↔◌, ◌<◌, ◌^◌, ℕ, true, Some};
+ghost use Rattle.mu_values.specs.SameCell.{same_cell};
 ghost use Rattle.mu_values.specs.SameScalar.{same_scalar};
+ghost use Rattle.mu_values.specs.declared.cells.CellId.{CellId};
 ghost use Rattle.mu_values.specs.Integers.{binary_value, converted, IsConversion};
 ghost use Rattle.mu_values.specs.Updates.{updated_bits};
 ghost use Rattle.mu_values.specs.declared.scalars.Scalar.{Scalar};
@@ -26,4 +28,9 @@ pub fn conversions_keep_the_width()
 /// What an update makes of two integers of a width is an integer of that width.
 pub fn updates_keep_the_width()
     ensures { (op : UpdateOp) (w a b : ℕ) → a < 2 ^ w → b < 2 ^ w → updated_bits op w a b < 2 ^ w }
+{}
+
+/// The test of two cells holds exactly where they are equal.
+pub fn same_cell_is_equality()
+    ensures { (a b : CellId) → (same_cell a b ≡ true) ↔ (a ≡ b) }
 {}

@@ -31,18 +31,18 @@ use Rattle.ir_tree.specs.declared.code.Op.TheVariants as ops
 use Rattle.check_tables.specs.declared.fault.CheckKind.TheVariants.{OperandType}
 use Rattle.check_tables.specs.declared.tables.Tables.{Tables}
 use Rattle.check_tables.specs.Lookups.{signature_named, takes_of, noted_classes}
-use Rattle.code_check.specs.declared.scopes.Locals.{Locals}
-use Rattle.code_check.specs.declared.scopes.Body.{Body}
-use Rattle.code_check.specs.Operands.{operand_demands, int64_demands, member_demands, argument_demands, noted_list}
-use Rattle.code_check.specs.Destinations.{block_named, entry_takes, exceptional_demands, normal_demands, entered_demands}
-use Rattle.code_check.specs.Computations.{computation_demands}
-use Rattle.code_check.specs.Control.{case_demands, control_demands}
-use Rattle.code_check.specs.Objects.{allocation_demands, addressing_demands}
-use Rattle.code_check.specs.Accesses.{access_demands}
-use Rattle.code_check.specs.Stacks.{trapping_demands, threadlocal_demands, switch_demands}
-use Rattle.code_check.specs.Commons.{common_demands}
-use Rattle.code_check.specs.Instructions.{op_demands}
-use Rattle.code_check.proofs.TypedOperands.{nat_eq_is}
+use Rattle.checked_code.specs.declared.scopes.Locals.{Locals}
+use Rattle.checked_code.specs.declared.scopes.Body.{Body}
+use Rattle.checked_code.specs.Operands.{operand_demands, int64_demands, member_demands, argument_demands, noted_list}
+use Rattle.checked_code.specs.Destinations.{block_named, entry_takes, exceptional_demands, normal_demands, entered_demands}
+use Rattle.checked_code.specs.Computations.{computation_demands}
+use Rattle.checked_code.specs.Control.{case_demands, control_demands}
+use Rattle.checked_code.specs.Objects.{allocation_demands, addressing_demands}
+use Rattle.checked_code.specs.Accesses.{access_demands}
+use Rattle.checked_code.specs.Stacks.{trapping_demands, threadlocal_demands, switch_demands}
+use Rattle.checked_code.specs.Commons.{common_demands}
+use Rattle.checked_code.specs.Instructions.{op_demands}
+use Rattle.bundle_laws.proofs.TypedOperands.{nat_eq_is}
 use Rattle.operand_laws.specs.Asked.{Asked, Wanted, OfClass, Int64, arguments, destination_operands, computation_operands, case_operands, control_operands, allocation_operands, addressing_operands, access_operands, trapping_operands, entered_operands, threadlocal_operands, switch_operands, common_operands, form_operands, optional_operands}
 
 -- ---- lists

@@ -4,13 +4,13 @@ use Rattle.std.proofs.lemmas.Bool.Decides.{nat_tests}
 use Rattle.demands.specs.Demands.{first_unmet}
 use Rattle.ir_tree.specs.declared.items.Item.{Item}
 use Rattle.bundle_names.specs.Naming.{name_demands}
-use Rattle.bundle_check.specs.Blocks.{head_locals}
-use Rattle.bundle_check.specs.Checking.{bundle_tables, check_demands}
+use Rattle.checked_code.specs.Blocks.{head_locals}
+use Rattle.checked_code.specs.Checking.{bundle_tables, check_demands}
 use Rattle.bundle_laws.specs.Accepted.{head_classes}
 use Rattle.bundle_laws.proofs.Bodies.{some_is as some_same}
 use Rattle.bundle_laws.proofs.Heads.{head_fits, head_has}
-use Rattle.code_check.specs.Typed.{joined}
-use Rattle.code_check.specs.TypedLaws.{all_gives}
+use Rattle.bundle_laws.specs.Typed.{joined}
+use Rattle.bundle_laws.specs.TypedLaws.{all_gives}
 use Rattle.typed_heap.specs.Fits.{World}
 use Rattle.typed_heap.specs.Places.{with_some}
 use Rattle.frames.specs.Activations.{Activation}

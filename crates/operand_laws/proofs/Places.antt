@@ -3,32 +3,32 @@ use Rattle.std.proofs.Common.{◌≡◌, ◌<◌, nat_lt, ℕ, zero, suc, Bool, 
 use Rattle.std.proofs.lemmas.Bool.Decides.{nat_tests}
 use Rattle.std.specs.Option.{option_map_or}
 use Rattle.demands.specs.Demands.{AllMet, none}
-use Rattle.demands.specs.Names.{found}
+use Rattle.name_scopes.specs.Names.{found}
 use Rattle.ir_lex.specs.declared.name.Name.{Name}
 use Rattle.ir_tree.specs.declared.operands.Operand.TheVariants.{Local}
 use Rattle.ir_tree.specs.declared.code.Block.{Block}
 use Rattle.ir_tree.specs.declared.code.Inst.{Inst}
 use Rattle.ir_tree.specs.declared.items.Funcdef.{Funcdef}
 use Rattle.ir_tree.specs.declared.items.Item.{Item}
-use Rattle.type_laws.specs.declared.definition.TypeDef.{TypeDef}
-use Rattle.type_laws.specs.declared.definition.TypeDef.TheVariants as types
-use Rattle.type_laws.specs.Class.{class_of}
+use Rattle.type_definitions.specs.declared.definition.TypeDef.{TypeDef}
+use Rattle.type_definitions.specs.declared.definition.TypeDef.TheVariants as types
+use Rattle.type_definitions.specs.Class.{class_of}
 use Rattle.mu_values.specs.declared.scalars.Scalar.TheVariants.{Int}
 use Rattle.check_tables.specs.declared.fault.CheckKind.TheVariants.{OperandType}
 use Rattle.check_tables.specs.declared.tables.Tables.{Tables}
 use Rattle.check_tables.specs.Types.{class_at, definition_at}
 use Rattle.check_tables.specs.TypeTests.{is_int64}
-use Rattle.code_check.specs.declared.scopes.Variable.{Variable}
-use Rattle.code_check.specs.declared.scopes.Locals.{Locals}
-use Rattle.code_check.specs.declared.scopes.Body.{Body}
-use Rattle.code_check.specs.declared.code.Source.{Source}
-use Rattle.code_check.specs.Operands.{is_class, variable_class, variable_demands, source_of}
-use Rattle.code_check.specs.Instructions.{after, after_all, gives, is_ending, inst_demands, insts_demands, keepalive_of, exceptional_of, normal_of}
-use Rattle.code_check.specs.Typed.{joined, SourceFits, Int64Fits, LocalsFit}
-use Rattle.code_check.specs.TypedLaws.{all_gives}
-use Rattle.code_check.proofs.TypedOperands.{operand_fits, int64_fits}
-use Rattle.code_check.proofs.TypedInstructions.{after_fits, after_classes}
-use Rattle.bundle_check.specs.Checking.{bundle_tables}
+use Rattle.checked_code.specs.declared.scopes.Variable.{Variable}
+use Rattle.checked_code.specs.declared.scopes.Locals.{Locals}
+use Rattle.checked_code.specs.declared.scopes.Body.{Body}
+use Rattle.checked_code.specs.declared.code.Source.{Source}
+use Rattle.checked_code.specs.Operands.{is_class, variable_class, variable_demands, source_of}
+use Rattle.checked_code.specs.Instructions.{after, after_all, gives, is_ending, inst_demands, insts_demands, keepalive_of, exceptional_of, normal_of}
+use Rattle.bundle_laws.specs.Typed.{joined, SourceFits, Int64Fits, LocalsFit}
+use Rattle.bundle_laws.specs.TypedLaws.{all_gives}
+use Rattle.bundle_laws.proofs.TypedOperands.{operand_fits, int64_fits}
+use Rattle.bundle_laws.proofs.TypedInstructions.{after_fits, after_classes}
+use Rattle.checked_code.specs.Checking.{bundle_tables}
 use Rattle.typed_heap.specs.Fits.{World, DefinitionFits}
 use Rattle.frames.specs.Activations.{Value}
 use Rattle.mu_model.specs.Types.{type_graph}

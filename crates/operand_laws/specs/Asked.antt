@@ -29,11 +29,11 @@ use Rattle.ir_tree.specs.declared.code.Op.TheVariants as ops
 use Rattle.check_tables.specs.declared.tables.Tables.{Tables}
 use Rattle.check_tables.specs.Types.{class_in, int1, int32, stackref, ref_void}
 use Rattle.check_tables.specs.Lookups.{class_named, ref_named, iref_named, signature_named, funcref_of, takes_of, noted_classes}
-use Rattle.code_check.specs.declared.scopes.Body.{Body}
-use Rattle.code_check.specs.Operands.{noted_list}
-use Rattle.code_check.specs.Destinations.{block_named, entry_takes}
-use Rattle.code_check.specs.Computations.{field_named}
-use Rattle.code_check.specs.Instructions.{normal_of, exceptional_of}
+use Rattle.checked_code.specs.declared.scopes.Body.{Body}
+use Rattle.checked_code.specs.Operands.{noted_list}
+use Rattle.checked_code.specs.Destinations.{block_named, entry_takes}
+use Rattle.checked_code.specs.Computations.{field_named}
+use Rattle.checked_code.specs.Instructions.{normal_of, exceptional_of}
 
 -- ---- what is asked
 

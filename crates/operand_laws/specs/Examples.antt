@@ -11,7 +11,7 @@ use Rattle.ir_tree.specs.declared.common.CommonInst.TheVariants.{FutexWaitTimeou
 use Rattle.ir_tree.specs.declared.code.Op.{Op}
 use Rattle.ir_tree.specs.declared.code.Op.TheVariants as ops
 use Rattle.check_tables.specs.declared.tables.Tables.{Tables}
-use Rattle.code_check.specs.declared.scopes.Body.{Body}
+use Rattle.checked_code.specs.declared.scopes.Body.{Body}
 use Rattle.operand_laws.specs.Asked.{Int64, of_class, of_type, place_of, operands_before, operands_after}
 
 abbrev name : List ℕ → Name

@@ -9,10 +9,10 @@ use Rattle.ir_tree.specs.declared.code.Inst.{Inst}
 use Rattle.ir_tree.specs.declared.items.Item.{Item}
 use Rattle.mu_values.specs.declared.scalars.Scalar.TheVariants.{Int}
 use Rattle.check_tables.specs.declared.tables.Tables.{Tables}
-use Rattle.code_check.specs.declared.scopes.Body.{Body}
-use Rattle.code_check.specs.Instructions.{gives, keepalive_of}
-use Rattle.bundle_check.specs.Functions.{body_of}
-use Rattle.bundle_check.specs.Checking.{bundle_tables}
+use Rattle.checked_code.specs.declared.scopes.Body.{Body}
+use Rattle.checked_code.specs.Instructions.{gives, keepalive_of}
+use Rattle.checked_code.specs.Functions.{body_of}
+use Rattle.checked_code.specs.Checking.{bundle_tables}
 use Rattle.typed_heap.specs.Fits.{World, ValueFits}
 use Rattle.frames.specs.Activations.{Value, Activation}
 use Rattle.mu_model.specs.Types.{type_graph}

@@ -6,14 +6,14 @@ use Rattle.std.proofs.lemmas.Bool.{eqb-true}
 use Rattle.std.proofs.lemmas.Bool.Decides.{nat_tests}
 use Rattle.std.proofs.lemmas.List.Elements.{All-cons, All-nil, All-head, All-tail}
 use Rattle.std.proofs.lemmas.Option.{slice_get_within}
-use Rattle.type_laws.specs.declared.definition.TypeDef.{TypeDef}
-use Rattle.type_laws.specs.declared.definition.TypeDef.TheVariants as types
+use Rattle.type_definitions.specs.declared.definition.TypeDef.{TypeDef}
+use Rattle.type_definitions.specs.declared.definition.TypeDef.TheVariants as types
 use Rattle.mu_base.specs.declared.order.Order.{Order}
 use Rattle.mu_base.specs.declared.order.Order.TheVariants as orders
 use Rattle.mu_values.specs.declared.scalars.Scalar.{Scalar}
 use Rattle.mu_values.specs.declared.scalars.Scalar.TheVariants as scalars
-use Rattle.heap_cells.specs.declared.cells.CellId.{CellId}
-use Rattle.heap_cells.specs.CellLaws.{same_cell-refl}
+use Rattle.mu_values.specs.declared.cells.CellId.{CellId}
+use Rattle.mu_values.specs.CellLaws.{same_cell-refl}
 use Rattle.typed_heap.specs.Objects.{HeapObject}
 use Rattle.typed_heap.specs.Fits.{World, DefinitionFits, ScalarFits, place_fits, fits}
 use Rattle.mem_axioms.specs.Events.{is_wake}
@@ -28,7 +28,7 @@ use Rattle.mem_axioms.specs.declared.types.Kind.{Kind}
 use Rattle.mem_axioms.specs.declared.types.Kind.TheVariants as kinds
 use Rattle.mem_axioms.specs.declared.types.Event.{Event}
 use Rattle.model_laws.specs.LogFits.{EachFollows, KindFits, KindFollows, LoggedFits}
-use Rattle.code_check.specs.Accesses.{may_fence}
+use Rattle.checked_code.specs.Accesses.{may_fence}
 use Rattle.model_laws.specs.Orders as model
 use Rattle.model_laws.specs.Printable.{EventIsPrintable, KindIsPrintable}
 use Rattle.model_laws.specs.Values.{leaf_at}

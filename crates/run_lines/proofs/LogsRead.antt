@@ -9,7 +9,7 @@ use Rattle.std.proofs.lemmas.Option.{slice_get_within}
 use Rattle.mu_values.specs.Constants.{width_of}
 use Rattle.check_tables.specs.declared.tables.Tables.{Tables}
 use Rattle.check_tables.specs.Lookups.{noted_signature}
-use Rattle.bundle_check.specs.Checking.{bundle_tables}
+use Rattle.checked_code.specs.Checking.{bundle_tables}
 use Rattle.bundle_facts.proofs.Accepted as facts
 use Rattle.typed_heap.specs.Objects.{HeapObject}
 use Rattle.typed_heap.specs.Fits.{signature_classes}
@@ -19,7 +19,7 @@ use Rattle.mem_axioms.specs.Form.{has_form}
 use Rattle.mem_axioms.specs.declared.types.Event.{Event}
 use Rattle.mem_axioms.specs.declared.types.Kind.TheVariants as kinds
 use Rattle.mem_axioms.specs.declared.types.Rule.{Rule}
-use Rattle.heap_cells.specs.declared.cells.CellId.{CellId}
+use Rattle.mu_values.specs.declared.cells.CellId.{CellId}
 use Rattle.mu_values.specs.declared.scalars.Scalar.{Scalar}
 use Rattle.mu_model.specs.Accesses.{initial}
 use Rattle.mu_model.specs.Acts.{Program}

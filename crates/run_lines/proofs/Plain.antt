@@ -11,7 +11,7 @@ use Rattle.mu_values.specs.declared.scalars.Scalar.{Scalar}
 use Rattle.mu_values.specs.declared.scalars.Scalar.TheVariants as scalars
 use Rattle.mu_values.specs.Slots.{TypedValues}
 use Rattle.mu_values.specs.Constants.{member_count}
-use Rattle.heap_cells.specs.declared.cells.CellId.{CellId}
+use Rattle.mu_values.specs.declared.cells.CellId.{CellId}
 use Rattle.mem_axioms.specs.declared.types.Mode.{Mode}
 use Rattle.mem_axioms.specs.declared.types.Mode.TheVariants as modes
 use Rattle.mem_axioms.specs.declared.types.Kind.{Kind}
@@ -23,11 +23,11 @@ use Rattle.ir_tree.specs.declared.code.Block.{Block}
 use Rattle.ir_tree.specs.declared.items.Funcdef.{Funcdef}
 use Rattle.ir_tree.specs.declared.items.Item.{Item}
 use Rattle.ir_tree.specs.declared.items.Item.TheVariants as items
-use Rattle.demands.specs.Names.{found}
+use Rattle.name_scopes.specs.Names.{found}
 use Rattle.bundle_names.specs.declared.globals.Sort.{Sort}
 use Rattle.bundle_names.specs.Globals.{globals_of}
-use Rattle.bundle_tables.specs.Entries.{declared_entry, defined_signatures, function_entries, is_function, noted_signature, tables_of}
-use Rattle.bundle_check.specs.Checking.{bundle_tables}
+use Rattle.checked_code.specs.Entries.{declared_entry, defined_signatures, function_entries, is_function, noted_signature, tables_of}
+use Rattle.checked_code.specs.Checking.{bundle_tables}
 use Rattle.mu_model.specs.Clients.{Classed}
 use Rattle.mu_model.specs.Operands.{Scope}
 use Rattle.mu_model.specs.Programs.{scopes_from, scopes_in, scopes_of}

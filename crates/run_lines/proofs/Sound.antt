@@ -3,7 +3,7 @@ use Rattle.std.proofs.Common.{◌≡◌, ℕ, suc, ◌+◌, ◌<◌, ◌^◌, Bo
 use Rattle.std.specs.Prelude.{flat_map, Option, Some}
 use Rattle.std.proofs.lemmas.Bool.{and_parts}
 use Rattle.mu_values.specs.declared.scalars.Scalar.{Scalar}
-use Rattle.heap_cells.specs.declared.cells.CellId.{CellId}
+use Rattle.mu_values.specs.declared.cells.CellId.{CellId}
 use Rattle.mem_axioms.specs.Events.{value_of}
 use Rattle.mem_axioms.specs.Logs.{event_at}
 use Rattle.mem_axioms.specs.Form.{has_form}

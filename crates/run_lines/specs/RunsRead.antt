@@ -1,13 +1,13 @@
 -- What a run of an accepted text prints is read as its log, and the verdict on it is Yes.
 use Rattle.std.specs.Prelude.{◌≡◌, ◌≤◌, ◌<◌, ℕ, true, List, All, Ok, length}
 use Rattle.ir_tree.specs.declared.items.Item.{Item}
-use Rattle.bundle_check.specs.Checking.{bundle_tables}
+use Rattle.checked_code.specs.Checking.{bundle_tables}
 use Rattle.mem_axioms.specs.declared.types.Event.{Event}
 use Rattle.mu_model.specs.declared.lines.Line.{Line}
 use Rattle.mu_model.specs.declared.endings.Ending.{Ending}
 use Rattle.mu_model.specs.Programs.{named}
 use Rattle.mu_model.specs.Run.{Setting, Ends, program_run}
-use Rattle.bundle_check.specs.Answers.{entry}
+use Rattle.checked_code.specs.Answers.{entry}
 use Rattle.hail_load.specs.Texts.{hail_commands}
 use Rattle.loaded_programs.specs.Laws.{IsScripted, loaded_objects}
 use Rattle.text_programs.specs.Printable.{IsModest}

@@ -5,12 +5,12 @@ use Rattle.ir_tree.specs.declared.items.Funcdef.{Funcdef}
 use Rattle.ir_tree.specs.declared.items.Item.{Item}
 use Rattle.ir_tree.specs.declared.items.Item.TheVariants as items
 use Rattle.check_tables.specs.declared.tables.Tables.{Tables}
-use Rattle.code_check.specs.declared.scopes.Body.{Body}
-use Rattle.bundle_check.specs.declared.code.BlockCode.{BlockCode}
-use Rattle.bundle_check.specs.Blocks.{blocks_code}
-use Rattle.bundle_check.specs.Functions.{body_of, all_blocks}
-use Rattle.bundle_check.specs.Checking.{bundle_tables, bundle_blocks}
-use Rattle.bundle_check.specs.Answers.{full_name as code_full_name, full_name_at, name_in, name_of_block, block_name}
+use Rattle.checked_code.specs.declared.scopes.Body.{Body}
+use Rattle.checked_code.specs.declared.blocks.BlockCode.{BlockCode}
+use Rattle.checked_code.specs.Blocks.{blocks_code}
+use Rattle.checked_code.specs.Functions.{body_of, all_blocks}
+use Rattle.checked_code.specs.Checking.{bundle_tables, bundle_blocks}
+use Rattle.checked_code.specs.Answers.{full_name as code_full_name, full_name_at, name_in, name_of_block, block_name}
 use Rattle.mu_model.specs.Operands.{Scope}
 use Rattle.mu_model.specs.Programs.{scopes_from, scopes_of}
 use Rattle.run_texts.specs.EventTexts.{full_name}

@@ -2,7 +2,7 @@
 use Rattle.std.proofs.Common.{◌≡◌, ℕ, zero, suc, ◌+◌, ◌<◌, ◌≤◌, Bool, true, false, List, [], ◌∷◌, ◌++◌, inl, inr, Option, Some, None, length, slice_get, nat_eq, is_some, if◌then◌else◌, refl, sym, ◌∙◌, ap, subst, arith}
 use Rattle.std.specs.Str.{bytes_eq}
 use Rattle.std.proofs.lemmas.Slice.Eq.{bytes_eq-Decides}
-use Rattle.demands.specs.Names.{Names, found, added}
+use Rattle.name_scopes.specs.Names.{Names, found, added}
 use Rattle.ir_lex.specs.declared.name.Name.{Name}
 use Rattle.ir_tree.specs.declared.items.Item.{Item}
 use Rattle.ir_tree.specs.declared.items.Item.TheVariants as items
@@ -12,11 +12,11 @@ use Rattle.bundle_names.specs.declared.globals.Globals.{Globals}
 use Rattle.bundle_names.specs.Globals.{with_item, with_items, no_globals, globals_of}
 use Rattle.check_tables.specs.declared.tables.Tables.{Tables}
 use Rattle.bundle_laws.proofs.Bodies.{found_added}
-use Rattle.bundle_tables.specs.Entries.{is_function, tables_of}
-use Rattle.bundle_check.specs.declared.code.Function.{Function}
-use Rattle.bundle_check.specs.Functions.{first_blocks, function_named, functions_behind, functions_from}
-use Rattle.bundle_check.specs.Checking.{bundle_tables, bundle_functions}
-use Rattle.bundle_check.specs.Answers.{item_name, name_of_function_at, function_name}
+use Rattle.checked_code.specs.Entries.{is_function, tables_of}
+use Rattle.checked_code.specs.declared.blocks.Function.{Function}
+use Rattle.checked_code.specs.Functions.{first_blocks, function_named, functions_behind, functions_from}
+use Rattle.checked_code.specs.Checking.{bundle_tables, bundle_functions}
+use Rattle.checked_code.specs.Answers.{item_name, name_of_function_at, function_name}
 use Rattle.run_texts.specs.EventTexts.{function_text}
 use Rattle.run_print.proofs.BlockNames.{StandBehind, all_stand, next, here, none_behind}
 

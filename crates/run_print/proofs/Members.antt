@@ -1,15 +1,15 @@
 -- Structs and arrays are written: none of the types that every bundle has besides is one.
 use Rattle.std.proofs.Common.{◌≡◌, ℕ, zero, suc, ◌≤◌, Bool, true, false, List, [], ◌∷◌, ◌++◌, Some, None, length, slice_get, nat_lt, if◌then◌else◌, refl, sym, ◌∙◌, ap, append_assoc, arith}
 use Rattle.ir_tree.specs.declared.items.Item.{Item}
-use Rattle.type_laws.specs.declared.definition.TypeDef.{TypeDef}
-use Rattle.type_laws.specs.declared.definition.TypeDef.TheVariants.{Int, Void, Ref, Iref, FuncRef, StackRef, ThreadRef}
+use Rattle.type_definitions.specs.declared.definition.TypeDef.{TypeDef}
+use Rattle.type_definitions.specs.declared.definition.TypeDef.TheVariants.{Int, Void, Ref, Iref, FuncRef, StackRef, ThreadRef}
 use Rattle.mu_types.specs.Implied.{is_signature, references, references_from, complete}
 use Rattle.mu_values.specs.Constants.{member_count}
 use Rattle.check_tables.specs.Types.{definition_at}
 use Rattle.bundle_names.specs.Globals.{globals_of}
-use Rattle.bundle_tables.specs.Graph.{graph_of}
-use Rattle.bundle_tables.specs.Entries.{tables_of}
-use Rattle.bundle_check.specs.Checking.{bundle_tables}
+use Rattle.checked_code.specs.Graph.{graph_of}
+use Rattle.checked_code.specs.Entries.{tables_of}
+use Rattle.checked_code.specs.Checking.{bundle_tables}
 use Rattle.mu_model.specs.Types.{class_definition}
 
 -- no type of the list has members

@@ -7,7 +7,7 @@ ghost use Rattle.run_texts.specs.Texts.{case_text, race_text, ending_text, endin
 use crate::events::spaced_kind;
 use crate::numbers::{numbered, wide_numbered, worded_threads};
 use crate::records::placed;
-use bundle_check::Checked;
+use checked_code::Checked;
 use mu_base::Status;
 use mu_model::{Case, Ending, Raced};
 use std::alloc::AllocError;
@@ -33,7 +33,7 @@ fn case_name(case: Case) -> &'static str
 }
 
 // Appends the two events of a data race, where there is one. Where no memory is found a part of it may have been appended.
-#[tactic(auto, using(bundle_check::proofs::Prefixes::prefix_self, bundle_check::proofs::Prefixes::prefix_longer, bundle_check::proofs::Prefixes::prefix_again))]
+#[tactic(auto, using(mu_base::specs::Prefixes::prefix_self, mu_base::specs::Prefixes::prefix_longer, mu_base::specs::Prefixes::prefix_again))]
 fn race_text(code: &Checked, race: Option<Raced>, out: &mut Vec<u8>) -> Result<(), AllocError>
     ensures appended { OnOk result (out.new.items ≡ out.old.items ++ race_text code.now race) }
     ensures begins { OnErr result (IsPrefix out.old.items out.new.items) }
@@ -48,7 +48,7 @@ fn race_text(code: &Checked, race: Option<Raced>, out: &mut Vec<u8>) -> Result<(
 }
 
 // Appends the name of an undefined case. Where no memory is found a part of it may have been appended.
-#[tactic(auto, using(bundle_check::proofs::Prefixes::prefix_self, bundle_check::proofs::Prefixes::prefix_longer, bundle_check::proofs::Prefixes::prefix_again))]
+#[tactic(auto, using(mu_base::specs::Prefixes::prefix_self, mu_base::specs::Prefixes::prefix_longer, mu_base::specs::Prefixes::prefix_again))]
 fn case_words(case: Case, out: &mut Vec<u8>) -> Result<(), AllocError>
     ensures appended { OnOk result (out.new.items ≡ out.old.items ++ (codes "undefined " ++ case_text case)) }
     ensures begins { OnErr result (IsPrefix out.old.items out.new.items) }
@@ -58,7 +58,7 @@ fn case_words(case: Case, out: &mut Vec<u8>) -> Result<(), AllocError>
 }
 
 // Appends an undefined case of a thread at a place. Where no memory is found a part of it may have been appended.
-#[tactic(auto, using(bundle_check::proofs::Prefixes::prefix_self, bundle_check::proofs::Prefixes::prefix_longer, bundle_check::proofs::Prefixes::prefix_again))]
+#[tactic(auto, using(mu_base::specs::Prefixes::prefix_self, mu_base::specs::Prefixes::prefix_longer, mu_base::specs::Prefixes::prefix_again))]
 fn undefined_case(
     code: &Checked,
     case: Case,
@@ -75,7 +75,7 @@ fn undefined_case(
 }
 
 // Appends what was asked for and what is left. Where no memory is found a part of it may have been appended.
-#[tactic(auto, using(bundle_check::proofs::Prefixes::prefix_self, bundle_check::proofs::Prefixes::prefix_longer, bundle_check::proofs::Prefixes::prefix_again))]
+#[tactic(auto, using(mu_base::specs::Prefixes::prefix_self, mu_base::specs::Prefixes::prefix_longer, mu_base::specs::Prefixes::prefix_again))]
 fn asked_and_left(asked: u128, left: u32, out: &mut Vec<u8>) -> Result<(), AllocError>
     ensures appended { OnOk result (out.new.items ≡ out.old.items ++ (codes " asked " ++ decimal asked ++ codes " left " ++ decimal left)) }
     ensures begins { OnErr result (IsPrefix out.old.items out.new.items) }
@@ -85,7 +85,7 @@ fn asked_and_left(asked: u128, left: u32, out: &mut Vec<u8>) -> Result<(), Alloc
 }
 
 // Appends that the heap is full. Where no memory is found a part of it may have been appended.
-#[tactic(auto, using(bundle_check::proofs::Prefixes::prefix_self, bundle_check::proofs::Prefixes::prefix_longer, bundle_check::proofs::Prefixes::prefix_again))]
+#[tactic(auto, using(mu_base::specs::Prefixes::prefix_self, mu_base::specs::Prefixes::prefix_longer, mu_base::specs::Prefixes::prefix_again))]
 fn heap_full(thread: u32, asked: u128, left: u32, out: &mut Vec<u8>) -> Result<(), AllocError>
     ensures appended { OnOk result (out.new.items ≡ out.old.items ++ (codes "heap full t" ++ decimal thread ++ (codes " asked " ++ decimal asked ++ codes " left " ++ decimal left))) }
     ensures begins { OnErr result (IsPrefix out.old.items out.new.items) }
@@ -95,7 +95,7 @@ fn heap_full(thread: u32, asked: u128, left: u32, out: &mut Vec<u8>) -> Result<(
 }
 
 /// Appends an ending, without its line feed. Where no memory is found a part of it may have been appended.
-#[tactic(auto, using(bundle_check::proofs::Prefixes::prefix_self, bundle_check::proofs::Prefixes::prefix_longer, bundle_check::proofs::Prefixes::prefix_again))]
+#[tactic(auto, using(mu_base::specs::Prefixes::prefix_self, mu_base::specs::Prefixes::prefix_longer, mu_base::specs::Prefixes::prefix_again))]
 pub fn ending_words(code: &Checked, ending: &Ending, out: &mut Vec<u8>) -> Result<(), AllocError>
     ensures appended { OnOk result (out.new.items ≡ out.old.items ++ ending_text code.now ending.now) }
     ensures begins { OnErr result (IsPrefix out.old.items out.new.items) }
@@ -125,7 +125,7 @@ pub fn ending_words(code: &Checked, ending: &Ending, out: &mut Vec<u8>) -> Resul
 }
 
 // Appends the line of an ending. Where no memory is found a part of it may have been appended.
-#[tactic(auto, using(bundle_check::proofs::Prefixes::prefix_self, bundle_check::proofs::Prefixes::prefix_longer, bundle_check::proofs::Prefixes::prefix_again))]
+#[tactic(auto, using(mu_base::specs::Prefixes::prefix_self, mu_base::specs::Prefixes::prefix_longer, mu_base::specs::Prefixes::prefix_again))]
 fn whole_ending(code: &Checked, ending: &Ending, out: &mut Vec<u8>) -> Result<(), AllocError>
     ensures appended { OnOk result (out.new.items ≡ out.old.items ++ ending_text code.now ending.now ++ codes "\n") }
     ensures begins { OnErr result (IsPrefix out.old.items out.new.items) }

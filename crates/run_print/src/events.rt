@@ -6,11 +6,10 @@ ghost use Rattle.run_texts.specs.EventTexts.{order_text, mode_text, kind_text, c
 
 use crate::numbers::{number_text, numbered, worded_cell};
 use crate::values::spaced_scalar;
-use bundle_check::Checked;
-use heap_cells::CellId;
+use checked_code::Checked;
 use mem_axioms::{Event, Kind, Mode};
 use mu_base::Order;
-use mu_values::Scalar;
+use mu_values::{CellId, Scalar};
 use std::alloc::AllocError;
 
 // The name of a memory order.
@@ -40,7 +39,7 @@ fn mode_name(mode: Mode) -> &'static str
 }
 
 // Appends words, and a memory order behind them. Where no memory is found a part of it may have been appended.
-#[tactic(auto, using(bundle_check::proofs::Prefixes::prefix_self, bundle_check::proofs::Prefixes::prefix_longer))]
+#[tactic(auto, using(mu_base::specs::Prefixes::prefix_self, mu_base::specs::Prefixes::prefix_longer))]
 fn ordered(words: &[u8], order: Order, out: &mut Vec<u8>) -> Result<(), AllocError>
     ensures appended { OnOk result (out.new.items ≡ out.old.items ++ (words.now ++ order_text order)) }
     ensures begins { OnErr result (IsPrefix out.old.items out.new.items) }
@@ -50,7 +49,7 @@ fn ordered(words: &[u8], order: Order, out: &mut Vec<u8>) -> Result<(), AllocErr
 }
 
 // Appends words, a cell and a number. Where no memory is found a part of it may have been appended.
-#[tactic(auto, using(bundle_check::proofs::Prefixes::prefix_self, bundle_check::proofs::Prefixes::prefix_longer, bundle_check::proofs::Prefixes::prefix_again))]
+#[tactic(auto, using(mu_base::specs::Prefixes::prefix_self, mu_base::specs::Prefixes::prefix_longer, mu_base::specs::Prefixes::prefix_again))]
 fn counted_cell(words: &[u8], cell: CellId, n: u32, out: &mut Vec<u8>) -> Result<(), AllocError>
     ensures appended { OnOk result (out.new.items ≡ out.old.items ++ (words.now ++ cell_text cell ++ codes " " ++ decimal n)) }
     ensures begins { OnErr result (IsPrefix out.old.items out.new.items) }
@@ -60,7 +59,7 @@ fn counted_cell(words: &[u8], cell: CellId, n: u32, out: &mut Vec<u8>) -> Result
 }
 
 // Appends the part of an access behind its order. Where no memory is found a part of it may have been appended.
-#[tactic(auto, using(bundle_check::proofs::Prefixes::prefix_self, bundle_check::proofs::Prefixes::prefix_longer, bundle_check::proofs::Prefixes::prefix_again))]
+#[tactic(auto, using(mu_base::specs::Prefixes::prefix_self, mu_base::specs::Prefixes::prefix_longer, mu_base::specs::Prefixes::prefix_again))]
 fn accessed(
     code: &Checked,
     cell: CellId,
@@ -76,7 +75,7 @@ fn accessed(
 }
 
 // Appends what happened. Where no memory is found a part of it may have been appended.
-#[tactic(auto, using(bundle_check::proofs::Prefixes::prefix_self, bundle_check::proofs::Prefixes::prefix_longer, bundle_check::proofs::Prefixes::prefix_again))]
+#[tactic(auto, using(mu_base::specs::Prefixes::prefix_self, mu_base::specs::Prefixes::prefix_longer, mu_base::specs::Prefixes::prefix_again))]
 fn kind_text(code: &Checked, kind: &Kind, out: &mut Vec<u8>) -> Result<(), AllocError>
     ensures appended { OnOk result (out.new.items ≡ out.old.items ++ kind_text code.now kind.now) }
     ensures begins { OnErr result (IsPrefix out.old.items out.new.items) }
@@ -103,7 +102,7 @@ fn kind_text(code: &Checked, kind: &Kind, out: &mut Vec<u8>) -> Result<(), Alloc
 }
 
 /// Appends what happened behind a space. Where no memory is found a part of it may have been appended.
-#[tactic(auto, using(bundle_check::proofs::Prefixes::prefix_self, bundle_check::proofs::Prefixes::prefix_longer, bundle_check::proofs::Prefixes::prefix_again))]
+#[tactic(auto, using(mu_base::specs::Prefixes::prefix_self, mu_base::specs::Prefixes::prefix_longer, mu_base::specs::Prefixes::prefix_again))]
 pub fn spaced_kind(code: &Checked, kind: &Kind, out: &mut Vec<u8>) -> Result<(), AllocError>
     ensures appended { OnOk result (out.new.items ≡ out.old.items ++ (codes " " ++ kind_text code.now kind.now)) }
     ensures begins { OnErr result (IsPrefix out.old.items out.new.items) }
@@ -113,7 +112,7 @@ pub fn spaced_kind(code: &Checked, kind: &Kind, out: &mut Vec<u8>) -> Result<(),
 }
 
 // Appends the number of an event and its thread. Where no memory is found a part of it may have been appended.
-#[tactic(auto, using(bundle_check::proofs::Prefixes::prefix_self, bundle_check::proofs::Prefixes::prefix_longer, bundle_check::proofs::Prefixes::prefix_again))]
+#[tactic(auto, using(mu_base::specs::Prefixes::prefix_self, mu_base::specs::Prefixes::prefix_longer, mu_base::specs::Prefixes::prefix_again))]
 fn event_head(number: u32, thread: u32, out: &mut Vec<u8>) -> Result<(), AllocError>
     ensures appended { OnOk result (out.new.items ≡ out.old.items ++ (decimal number ++ codes " " ++ thread_text thread)) }
     ensures begins { OnErr result (IsPrefix out.old.items out.new.items) }
@@ -123,7 +122,7 @@ fn event_head(number: u32, thread: u32, out: &mut Vec<u8>) -> Result<(), AllocEr
 }
 
 /// Appends an event behind its number, without its line feed. Where no memory is found a part of it may have been appended.
-#[tactic(auto, using(bundle_check::proofs::Prefixes::prefix_self, bundle_check::proofs::Prefixes::prefix_longer, bundle_check::proofs::Prefixes::prefix_again))]
+#[tactic(auto, using(mu_base::specs::Prefixes::prefix_self, mu_base::specs::Prefixes::prefix_longer, mu_base::specs::Prefixes::prefix_again))]
 pub fn event_text(
     code: &Checked,
     number: u32,

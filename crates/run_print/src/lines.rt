@@ -6,12 +6,12 @@ ghost use Rattle.run_texts.specs.Pieces.{lines_text};
 
 use crate::events::event_text;
 use crate::records::record_text;
-use bundle_check::Checked;
+use checked_code::Checked;
 use mu_model::Line;
 use std::alloc::AllocError;
 
 // Appends a line. Where no memory is found a part of it may have been appended.
-#[tactic(auto, using(bundle_check::proofs::Prefixes::prefix_self, bundle_check::proofs::Prefixes::prefix_longer, bundle_check::proofs::Prefixes::prefix_again))]
+#[tactic(auto, using(mu_base::specs::Prefixes::prefix_self, mu_base::specs::Prefixes::prefix_longer, mu_base::specs::Prefixes::prefix_again))]
 fn whole_line(code: &Checked, line: &Line, out: &mut Vec<u8>) -> Result<(), AllocError>
     ensures appended { OnOk result (out.new.items ≡ out.old.items ++ line_text code.now line.now) }
     ensures begins { OnErr result (IsPrefix out.old.items out.new.items) }
@@ -24,7 +24,7 @@ fn whole_line(code: &Checked, line: &Line, out: &mut Vec<u8>) -> Result<(), Allo
 }
 
 // Appends lines. Where no memory is found some of them may have been appended.
-#[tactic(auto, using(bundle_check::proofs::Prefixes::prefix_self, bundle_check::proofs::Prefixes::prefix_longer, bundle_check::proofs::Prefixes::prefix_again))]
+#[tactic(auto, using(mu_base::specs::Prefixes::prefix_self, mu_base::specs::Prefixes::prefix_longer, mu_base::specs::Prefixes::prefix_again))]
 fn whole_lines(code: &Checked, lines: &[Line], out: &mut Vec<u8>) -> Result<(), AllocError>
     ensures appended { OnOk result (out.new.items ≡ out.old.items ++ lines_text code.now lines.now) }
     ensures begins { OnErr result (IsPrefix out.old.items out.new.items) }

@@ -5,7 +5,7 @@ ghost use Rattle.mu_model.specs.Programs.{scopes_of};
 ghost use Rattle.run_texts.specs.EventTexts.{function_text, full_name, place_text};
 
 use crate::numbers::numbered;
-use bundle_check::Checked;
+use checked_code::Checked;
 use std::alloc::AllocError;
 
 /// Appends the name of a function, or nothing where it is not there.
@@ -35,7 +35,7 @@ fn block_text(code: &Checked, block: u32, out: &mut Vec<u8>) -> Result<(), Alloc
 }
 
 // Appends the place of an instruction. Where no memory is found a part of it may have been appended.
-#[tactic(auto, using(bundle_check::proofs::Prefixes::prefix_self, bundle_check::proofs::Prefixes::prefix_longer, bundle_check::proofs::Prefixes::prefix_again))]
+#[tactic(auto, using(mu_base::specs::Prefixes::prefix_self, mu_base::specs::Prefixes::prefix_longer, mu_base::specs::Prefixes::prefix_again))]
 fn place_text(code: &Checked, block: u32, at: u32, out: &mut Vec<u8>) -> Result<(), AllocError>
     ensures appended { OnOk result (out.new.items ≡ out.old.items ++ place_text code.now block at) }
     ensures begins { OnErr result (IsPrefix out.old.items out.new.items) }
@@ -45,7 +45,7 @@ fn place_text(code: &Checked, block: u32, at: u32, out: &mut Vec<u8>) -> Result<
 }
 
 /// Appends the place of an instruction behind a space. Where no memory is found a part of it may have been appended.
-#[tactic(auto, using(bundle_check::proofs::Prefixes::prefix_self, bundle_check::proofs::Prefixes::prefix_longer, bundle_check::proofs::Prefixes::prefix_again))]
+#[tactic(auto, using(mu_base::specs::Prefixes::prefix_self, mu_base::specs::Prefixes::prefix_longer, mu_base::specs::Prefixes::prefix_again))]
 pub fn spaced_place(
     code: &Checked,
     block: u32,

@@ -3,8 +3,8 @@ ghost use Rattle.std.specs.Prelude.{◌≡◌, ◌++◌, OnOk, OnErr, codes, dec
 ghost use Rattle.mu_base.specs.Files.{IsPrefix};
 ghost use Rattle.run_texts.specs.EventTexts.{cell_text, thread_text, spaced};
 
-use heap_cells::CellId;
 use itoa::Buffer;
+use mu_values::CellId;
 use std::alloc::AllocError;
 
 /// Appends a number.
@@ -26,7 +26,7 @@ pub fn wide_text(n: u128, out: &mut Vec<u8>) -> Result<(), AllocError>
 }
 
 /// Appends words, and a number behind them. Where no memory is found a part of it may have been appended.
-#[tactic(auto, using(bundle_check::proofs::Prefixes::prefix_self, bundle_check::proofs::Prefixes::prefix_longer))]
+#[tactic(auto, using(mu_base::specs::Prefixes::prefix_self, mu_base::specs::Prefixes::prefix_longer))]
 pub fn numbered(words: &[u8], n: u32, out: &mut Vec<u8>) -> Result<(), AllocError>
     ensures appended { OnOk result (out.new.items ≡ out.old.items ++ (words.now ++ decimal n)) }
     ensures begins { OnErr result (IsPrefix out.old.items out.new.items) }
@@ -36,7 +36,7 @@ pub fn numbered(words: &[u8], n: u32, out: &mut Vec<u8>) -> Result<(), AllocErro
 }
 
 /// Appends words, and a number of up to 128 bits behind them. Where no memory is found a part of it may have been appended.
-#[tactic(auto, using(bundle_check::proofs::Prefixes::prefix_self, bundle_check::proofs::Prefixes::prefix_longer))]
+#[tactic(auto, using(mu_base::specs::Prefixes::prefix_self, mu_base::specs::Prefixes::prefix_longer))]
 pub fn wide_numbered(words: &[u8], n: u128, out: &mut Vec<u8>) -> Result<(), AllocError>
     ensures appended { OnOk result (out.new.items ≡ out.old.items ++ (words.now ++ decimal n)) }
     ensures begins { OnErr result (IsPrefix out.old.items out.new.items) }
@@ -46,7 +46,7 @@ pub fn wide_numbered(words: &[u8], n: u128, out: &mut Vec<u8>) -> Result<(), All
 }
 
 /// Appends a cell. Where no memory is found a part of it may have been appended.
-#[tactic(auto, using(bundle_check::proofs::Prefixes::prefix_longer, bundle_check::proofs::Prefixes::prefix_again))]
+#[tactic(auto, using(mu_base::specs::Prefixes::prefix_longer, mu_base::specs::Prefixes::prefix_again))]
 pub fn cell_text(cell: CellId, out: &mut Vec<u8>) -> Result<(), AllocError>
     ensures appended { OnOk result (out.new.items ≡ out.old.items ++ cell_text cell) }
     ensures begins { OnErr result (IsPrefix out.old.items out.new.items) }
@@ -56,7 +56,7 @@ pub fn cell_text(cell: CellId, out: &mut Vec<u8>) -> Result<(), AllocError>
 }
 
 /// Appends a cell behind words. Where no memory is found a part of it may have been appended.
-#[tactic(auto, using(bundle_check::proofs::Prefixes::prefix_self, bundle_check::proofs::Prefixes::prefix_longer, bundle_check::proofs::Prefixes::prefix_again))]
+#[tactic(auto, using(mu_base::specs::Prefixes::prefix_self, mu_base::specs::Prefixes::prefix_longer, mu_base::specs::Prefixes::prefix_again))]
 pub fn worded_cell(words: &[u8], cell: CellId, out: &mut Vec<u8>) -> Result<(), AllocError>
     ensures appended { OnOk result (out.new.items ≡ out.old.items ++ (words.now ++ cell_text cell)) }
     ensures begins { OnErr result (IsPrefix out.old.items out.new.items) }
@@ -74,7 +74,7 @@ pub fn thread_text(thread: u32, out: &mut Vec<u8>) -> Result<(), AllocError>
 }
 
 // Appends threads, each behind a space. Where no memory is found some of them may have been appended.
-#[tactic(auto, using(bundle_check::proofs::Prefixes::prefix_self, bundle_check::proofs::Prefixes::prefix_longer, bundle_check::proofs::Prefixes::prefix_again, crate::proofs::Spaces::spaced_is))]
+#[tactic(auto, using(mu_base::specs::Prefixes::prefix_self, mu_base::specs::Prefixes::prefix_longer, mu_base::specs::Prefixes::prefix_again, crate::proofs::Spaces::spaced_is))]
 fn threads_text(threads: &[u32], out: &mut Vec<u8>) -> Result<(), AllocError>
     ensures appended { OnOk result (out.new.items ≡ out.old.items ++ spaced thread_text threads.now) }
     ensures begins { OnErr result (IsPrefix out.old.items out.new.items) }
@@ -86,7 +86,7 @@ fn threads_text(threads: &[u32], out: &mut Vec<u8>) -> Result<(), AllocError>
 }
 
 /// Appends words, and threads behind them, each behind a space. Where no memory is found a part of it may have been appended.
-#[tactic(auto, using(bundle_check::proofs::Prefixes::prefix_self, bundle_check::proofs::Prefixes::prefix_longer, bundle_check::proofs::Prefixes::prefix_again))]
+#[tactic(auto, using(mu_base::specs::Prefixes::prefix_self, mu_base::specs::Prefixes::prefix_longer, mu_base::specs::Prefixes::prefix_again))]
 pub fn worded_threads(words: &[u8], threads: &[u32], out: &mut Vec<u8>) -> Result<(), AllocError>
     ensures appended { OnOk result (out.new.items ≡ out.old.items ++ (words.now ++ spaced thread_text threads.now)) }
     ensures begins { OnErr result (IsPrefix out.old.items out.new.items) }

@@ -7,14 +7,13 @@ ghost use Rattle.run_texts.specs.Texts.{note_text};
 use crate::names::spaced_place;
 use crate::numbers::{numbered, worded_cell};
 use crate::values::values_text;
-use bundle_check::Checked;
-use heap_cells::CellId;
+use checked_code::Checked;
 use mu_model::Note;
-use mu_values::Passed;
+use mu_values::{CellId, Passed};
 use std::alloc::AllocError;
 
 /// Appends words, a number, and behind a space a place. Where no memory is found a part of it may have been appended.
-#[tactic(auto, using(bundle_check::proofs::Prefixes::prefix_self, bundle_check::proofs::Prefixes::prefix_longer, bundle_check::proofs::Prefixes::prefix_again))]
+#[tactic(auto, using(mu_base::specs::Prefixes::prefix_self, mu_base::specs::Prefixes::prefix_longer, mu_base::specs::Prefixes::prefix_again))]
 pub fn placed(
     code: &Checked,
     words: &[u8],
@@ -31,7 +30,7 @@ pub fn placed(
 }
 
 // Appends words, a number, and values each behind a space. Where no memory is found a part of it may have been appended.
-#[tactic(auto, using(bundle_check::proofs::Prefixes::prefix_longer, bundle_check::proofs::Prefixes::prefix_again))]
+#[tactic(auto, using(mu_base::specs::Prefixes::prefix_longer, mu_base::specs::Prefixes::prefix_again))]
 fn valued(
     code: &Checked,
     words: &[u8],
@@ -58,7 +57,7 @@ struct ThreadPlace {
 }
 
 // Appends words, a thread, its place and a number. Where no memory is found a part of it may have been appended.
-#[tactic(auto, using(bundle_check::proofs::Prefixes::prefix_longer, bundle_check::proofs::Prefixes::prefix_again))]
+#[tactic(auto, using(mu_base::specs::Prefixes::prefix_longer, mu_base::specs::Prefixes::prefix_again))]
 fn counted_place(
     code: &Checked,
     words: &[u8],
@@ -74,7 +73,7 @@ fn counted_place(
 }
 
 // Appends the end of a wait. Where no memory is found a part of it may have been appended.
-#[tactic(auto, using(bundle_check::proofs::Prefixes::prefix_self, bundle_check::proofs::Prefixes::prefix_longer, bundle_check::proofs::Prefixes::prefix_again))]
+#[tactic(auto, using(mu_base::specs::Prefixes::prefix_self, mu_base::specs::Prefixes::prefix_longer, mu_base::specs::Prefixes::prefix_again))]
 fn timed_out(thread: u32, cell: CellId, out: &mut Vec<u8>) -> Result<(), AllocError>
     ensures appended { OnOk result (out.new.items ≡ out.old.items ++ (codes "timed out t" ++ decimal thread ++ codes " " ++ cell_text cell)) }
     ensures begins { OnErr result (IsPrefix out.old.items out.new.items) }
@@ -106,7 +105,7 @@ pub fn record_text(code: &Checked, note: &Note, out: &mut Vec<u8>) -> Result<(),
             counted_place(code, b"watchpoint t", of, *watchpoint, out)
         }
         Note::Frame { frame, block, at } => placed(code, b"frame ", *frame, *block, *at, out),
-        Note::Kept { frame, values } => valued(code, b"kept ", *frame, values, out),
+        Note::Kept { frame, values } => valued(code, b"kept ", *frame, values.get(), out),
         Note::TimedOut { thread, cell } => timed_out(*thread, *cell, out),
     }
 }

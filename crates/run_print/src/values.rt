@@ -2,20 +2,19 @@
 ghost use Rattle.std.specs.Prelude.{◌≡◌, ◌++◌, OnOk, OnErr, codes, drop, is_some};
 ghost use Rattle.mu_base.specs.Files.{IsPrefix};
 ghost use Rattle.mu_values.specs.Constants.{member_count};
-ghost use Rattle.bundle_check.specs.Checking.{bundle_tables};
+ghost use Rattle.checked_code.specs.Checking.{bundle_tables};
 ghost use Rattle.mu_model.specs.Types.{class_definition};
 ghost use Rattle.run_texts.specs.EventTexts.{scalar_text, spaced, value_text, values_text};
 
 use crate::names::function_text;
 use crate::numbers::{cell_text, numbered, thread_text, wide_text};
-use bundle_check::Checked;
-use heap_cells::CellId;
+use checked_code::Checked;
 use mu_types::TypeDef;
-use mu_values::{Passed, Scalar};
+use mu_values::{CellId, Passed, Scalar};
 use std::alloc::AllocError;
 
 // Appends a scalar. Where no memory is found a part of it may have been appended.
-#[tactic(auto, using(bundle_check::proofs::Prefixes::prefix_self))]
+#[tactic(auto, using(mu_base::specs::Prefixes::prefix_self))]
 fn scalar_text(code: &Checked, scalar: &Scalar, out: &mut Vec<u8>) -> Result<(), AllocError>
     ensures appended { OnOk result (out.new.items ≡ out.old.items ++ scalar_text code.now scalar.now) }
     ensures begins { OnErr result (IsPrefix out.old.items out.new.items) }
@@ -32,7 +31,7 @@ fn scalar_text(code: &Checked, scalar: &Scalar, out: &mut Vec<u8>) -> Result<(),
 }
 
 /// Appends a scalar behind a space. Where no memory is found a part of it may have been appended.
-#[tactic(auto, using(bundle_check::proofs::Prefixes::prefix_self, bundle_check::proofs::Prefixes::prefix_longer, bundle_check::proofs::Prefixes::prefix_again))]
+#[tactic(auto, using(mu_base::specs::Prefixes::prefix_self, mu_base::specs::Prefixes::prefix_longer, mu_base::specs::Prefixes::prefix_again))]
 pub fn spaced_scalar(code: &Checked, scalar: &Scalar, out: &mut Vec<u8>) -> Result<(), AllocError>
     ensures appended { OnOk result (out.new.items ≡ out.old.items ++ (codes " " ++ scalar_text code.now scalar.now)) }
     ensures begins { OnErr result (IsPrefix out.old.items out.new.items) }
@@ -42,7 +41,7 @@ pub fn spaced_scalar(code: &Checked, scalar: &Scalar, out: &mut Vec<u8>) -> Resu
 }
 
 // Appends scalars, each behind a space. Where no memory is found some of them may have been appended.
-#[tactic(auto, using(bundle_check::proofs::Prefixes::prefix_self, bundle_check::proofs::Prefixes::prefix_longer, bundle_check::proofs::Prefixes::prefix_again, crate::proofs::Spaces::spaced_is))]
+#[tactic(auto, using(mu_base::specs::Prefixes::prefix_self, mu_base::specs::Prefixes::prefix_longer, mu_base::specs::Prefixes::prefix_again, crate::proofs::Spaces::spaced_is))]
 fn more_scalars(code: &Checked, scalars: &[Scalar], out: &mut Vec<u8>) -> Result<(), AllocError>
     ensures appended { OnOk result (out.new.items ≡ out.old.items ++ spaced (scalar_text code.now) scalars.now) }
     ensures begins { OnErr result (IsPrefix out.old.items out.new.items) }
@@ -54,7 +53,7 @@ fn more_scalars(code: &Checked, scalars: &[Scalar], out: &mut Vec<u8>) -> Result
 }
 
 // Appends scalars with spaces between them. Where no memory is found some of them may have been appended.
-#[tactic(auto, using(bundle_check::proofs::Prefixes::prefix_self, bundle_check::proofs::Prefixes::prefix_longer, bundle_check::proofs::Prefixes::prefix_again))]
+#[tactic(auto, using(mu_base::specs::Prefixes::prefix_self, mu_base::specs::Prefixes::prefix_longer, mu_base::specs::Prefixes::prefix_again))]
 fn scalars_text(code: &Checked, scalars: &[Scalar], out: &mut Vec<u8>) -> Result<(), AllocError>
     ensures appended { OnOk result (out.new.items ≡ out.old.items ++ drop 1 (spaced (scalar_text code.now) scalars.now)) }
     ensures begins { OnErr result (IsPrefix out.old.items out.new.items) }
@@ -80,7 +79,7 @@ fn has_members(code: &Checked, class: u32) -> bool
 }
 
 // Appends scalars in braces. Where no memory is found a part of it may have been appended.
-#[tactic(auto, using(bundle_check::proofs::Prefixes::prefix_self, bundle_check::proofs::Prefixes::prefix_longer, bundle_check::proofs::Prefixes::prefix_again))]
+#[tactic(auto, using(mu_base::specs::Prefixes::prefix_self, mu_base::specs::Prefixes::prefix_longer, mu_base::specs::Prefixes::prefix_again))]
 fn braced(code: &Checked, scalars: &[Scalar], out: &mut Vec<u8>) -> Result<(), AllocError>
     ensures appended { OnOk result (out.new.items ≡ out.old.items ++ codes "{" ++ drop 1 (spaced (scalar_text code.now) scalars.now) ++ codes "}") }
     ensures begins { OnErr result (IsPrefix out.old.items out.new.items) }
@@ -108,7 +107,7 @@ fn value_text(
 }
 
 // Appends a value of a class behind a space. Where no memory is found a part of it may have been appended.
-#[tactic(auto, using(bundle_check::proofs::Prefixes::prefix_self, bundle_check::proofs::Prefixes::prefix_longer, bundle_check::proofs::Prefixes::prefix_again))]
+#[tactic(auto, using(mu_base::specs::Prefixes::prefix_self, mu_base::specs::Prefixes::prefix_longer, mu_base::specs::Prefixes::prefix_again))]
 fn spaced_value(
     code: &Checked,
     class: u32,
@@ -123,7 +122,7 @@ fn spaced_value(
 }
 
 /// Appends values, each behind a space. Where no memory is found some of them may have been appended.
-#[tactic(auto, using(bundle_check::proofs::Prefixes::prefix_self, bundle_check::proofs::Prefixes::prefix_longer, bundle_check::proofs::Prefixes::prefix_again))]
+#[tactic(auto, using(mu_base::specs::Prefixes::prefix_self, mu_base::specs::Prefixes::prefix_longer, mu_base::specs::Prefixes::prefix_again))]
 pub fn values_text(code: &Checked, values: &Passed, out: &mut Vec<u8>) -> Result<(), AllocError>
     ensures appended { OnOk result (out.new.items ≡ out.old.items ++ values_text code.now values.now) }
     ensures begins { OnErr result (IsPrefix out.old.items out.new.items) }

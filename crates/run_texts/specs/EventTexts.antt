@@ -1,6 +1,6 @@
 -- The texts of names, values and events of a run: those of a log, with the names of the bundle's functions.
 use Rattle.std.specs.Prelude.{ℕ, List, [], ◌∷◌, ◌++◌, Option, Some, None, drop, slice_get, is_some, codes, decimal, zip, if◌then◌else◌}
-use Rattle.demands.specs.Names.{found}
+use Rattle.name_scopes.specs.Names.{found}
 use Rattle.ir_tree.specs.declared.items.Item.{Item}
 use Rattle.ir_tree.specs.declared.items.Item.TheVariants as items
 use Rattle.mu_values.specs.declared.scalars.Scalar.{Scalar}
@@ -10,8 +10,8 @@ use Rattle.mem_axioms.specs.declared.types.Kind.{Kind}
 pub use Rattle.log_lines.specs.EventTexts.{Text, cell_text, thread_text, order_text, mode_text}
 use Rattle.log_lines.specs.EventTexts.{scalar_text as named_scalar, kind_text as named_kind}
 use Rattle.bundle_names.specs.Globals.{globals_of}
-use Rattle.bundle_tables.specs.Entries.{is_function}
-use Rattle.bundle_check.specs.Checking.{bundle_tables}
+use Rattle.checked_code.specs.Entries.{is_function}
+use Rattle.checked_code.specs.Checking.{bundle_tables}
 use Rattle.mu_model.specs.Types.{class_definition}
 use Rattle.mu_model.specs.Clients.{Classed}
 use Rattle.mu_model.specs.Operands.{Scope}

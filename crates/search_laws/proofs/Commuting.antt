@@ -1,7 +1,7 @@
 -- What other threads do is the same before and after a local step.
 use Rattle.std.proofs.lemmas.Bool.{false≢true}
 use Rattle.std.proofs.Math.Path.{fun_ext}
-use Rattle.heap_cells.specs.declared.cells.CellId.{CellId}
+use Rattle.mu_values.specs.declared.cells.CellId.{CellId}
 use Rattle.mu_base.specs.declared.order.Order.TheVariants.{Relaxed}
 use Rattle.mu_values.specs.declared.scalars.Scalar.{Scalar}
 use Rattle.mu_values.specs.declared.scalars.Scalar.TheVariants as scalars
@@ -23,7 +23,8 @@ use Rattle.mu_model.specs.declared.endings.Case.TheVariants.{DivideByZero, NullA
 use Rattle.mu_model.specs.declared.endings.Ending.{Ending}
 use Rattle.mu_model.specs.declared.endings.Ending.TheVariants as endings
 use Rattle.mu_model.specs.Types.{type_graph, classes_given}
-use Rattle.mu_model.specs.Configuration.{Stack, Ready, Active, Dead, Thread, Waiter, Configuration}
+use Rattle.futex.specs.declared.waiters.Waiter.{Waiter}
+use Rattle.mu_model.specs.Configuration.{Stack, Ready, Active, Dead, Thread, Configuration}
 use Rattle.mu_model.specs.Clients.{Classed, With, Pass, Throw, Reply, Resume, Rebind, Exit, Stop, Client, Answer}
 use Rattle.mu_model.specs.Answers.{answer_of, advanced}
 use Rattle.mu_model.specs.Operands.{scalar_in}
@@ -38,7 +39,8 @@ use Rattle.std.proofs.lemmas.Option.{slice_get_within}
 use Rattle.mu_model.specs.EnteringStacks.{ready, entering, enters, leaving, most_threads, started}
 use Rattle.mu_model.specs.Objects.{object_added, asks_cells}
 use Rattle.mu_model.specs.Accesses.{initial, wanted, kind_of, access_results, raced, accessed, takes_option}
-use Rattle.mu_model.specs.Waiting.{is_of, is_at, without, was_woken, found_another, waits_at, waited, wakes_one, wakes_all, wakes_these, times_out}
+use Rattle.futex.specs.Waiting.{is_of, is_at, without}
+use Rattle.mu_model.specs.Waiting.{was_woken, found_another, waits_at, waited, wakes_one, wakes_all, wakes_these, times_out}
 use Rattle.mu_model.specs.Edits.{edited}
 use Rattle.mu_model.specs.Traps.{trapped, trap_note, answered, edits, replied, taken, enters_by, entering_of, is_watched, goes}
 use Rattle.mu_model.specs.Step.{performed, turned, turns, threads_from, runnable, picked, picking_thread, ends_or_picks, step, with_own}

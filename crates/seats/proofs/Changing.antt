@@ -20,7 +20,7 @@ use Rattle.mu_model.specs.Changes.{changed}
 use Rattle.mu_model.specs.EnteringStacks.{on_stack}
 use Rattle.mu_model.specs.Step.{is_blocked}
 use Rattle.seats.specs.Seats.{Seats, Takes, IsReadyFor, WaitsFor, IsReady, IsActiveOrDead, left_ready, bound_to}
-use Rattle.seats.specs.Kept.{threads_seen, stacks_seen, stack_seen, waiters_seen, seats_seen, bound_from, ready_at, dead_at, TakesThere, IsTakenBy, Agree, AreBelow, IsSound}
+use Rattle.seats.specs.Kept.{threads_seen, stacks_seen, stack_seen, seats_seen, bound_from, ready_at, dead_at, TakesThere, IsTakenBy, Agree, AreBelow, IsSound}
 use Rattle.seats.proofs.Lists.{changed_at, set_twice}
 use Rattle.seats.proofs.Agreeing.{IsPair, alone_free, agree_written, stacks_written, agree_more}
 use Rattle.seats.proofs.Threads.{bound_elsewhere, unbound, one_more, many_states, many_seen, is_left, states_bound, states_unbound, states_more}
@@ -46,7 +46,7 @@ first_sound ss bs b es owns room ws c own s t u e o enough w = rw (s, t ∙ ap (
 -- ---- looking
 
 pub even_states : (ss : List ThreadState) (bs : List (Option Bound)) (es : List Entry) (owns : List Scalar) (room : ℕ) (ws : List Waiter) → IsSound ss bs es owns room ws → length bs ≡ length ss
-even_states ss bs es owns room ws sound = sym (ap length sound.states_fit ∙ many_states (is_blocked (waiters_seen ws)) 0 bs)
+even_states ss bs es owns room ws sound = sym (ap length sound.states_fit ∙ many_states (is_blocked ws) 0 bs)
 
 pub even_threads : (ss : List ThreadState) (bs : List (Option Bound)) (es : List Entry) (owns : List Scalar) (room : ℕ) (ws : List Waiter) (s : Seats) → seats_seen bs owns es ws ≡ s → IsSound ss bs es owns room ws → length s.threads ≡ length ss
 even_threads ss bs es owns room ws s v sound = ap (λ (w : Seats). length w.threads) (sym v) ∙ many_seen bs owns sound.even ∙ even_states ss bs es owns room ws sound
@@ -92,7 +92,7 @@ made_number bs owns es ws s (Err e) v h = tt
 pub made_seen : {E : Type 0} (bs : List (Option Bound)) (owns : List Scalar) (es new : List Entry) (ws : List Waiter) (s : Seats) (c : StoredChain) (waits : List ℕ) (r : Result ℕ E) → seats_seen bs owns es ws ≡ s → OnOk r (new ≡ es ++ Ready c waits ∷ []) → OnOk r (seats_seen bs owns new ws ≡ record s { stacks = s.stacks ++ seen.Ready (frames_in c) ∷ [] })
 made_seen bs owns es new ws s c waits (Err e) v h = tt
 made_seen bs owns es new ws s c waits (Ok n) v h =
-    ap (λ ss. record { threads = threads_seen bs owns; stacks = ss; waiters = waiters_seen ws }) (ap (stacks_seen bs) h ∙ map_pushed (stack_seen bs) (stack_seen bs) es (Ready c waits) (λ m x at. refl))
+    ap (λ ss. record { threads = threads_seen bs owns; stacks = ss; waiters = ws }) (ap (stacks_seen bs) h ∙ map_pushed (stack_seen bs) (stack_seen bs) es (Ready c waits) (λ m x at. refl))
     ∙ ap (λ (w : Seats). record w { stacks = w.stacks ++ seen.Ready (frames_in c) ∷ [] }) v
 
 pub same_seen : {E : Type 0} (bs : List (Option Bound)) (owns : List Scalar) (es new : List Entry) (ws : List Waiter) (s : Seats) (r : Result ℕ E) → seats_seen bs owns es ws ≡ s → OnErr r (new ≡ es) → OnErr r (seats_seen bs owns new ws ≡ s)
@@ -149,7 +149,7 @@ killed_sound ss bs es new owns room ws n c sound h e =
 pub killed_seen : (ss : List ThreadState) (bs : List (Option Bound)) (es new : List Entry) (owns : List Scalar) (room : ℕ) (ws : List Waiter) (s : Seats) (n : ℕ) (c : StoredChain) → seats_seen bs owns es ws ≡ s → IsSound ss bs es owns room ws → ready_frames (slice_get es n) ≡ Some c → new ≡ set es n Dead → seats_seen bs owns new ws ≡ record s { stacks = set s.stacks n seen.Dead }
 killed_seen ss bs es new owns room ws s n c v sound h e =
     let alone = alone_free bs es (length bs) n sound.agree (no_more_there bs) (never_active (slice_get es n) c h) in
-    ap (λ ks. record { threads = threads_seen bs owns; stacks = ks; waiters = waiters_seen ws }) (ap (stacks_seen bs) e ∙ stacks_written bs bs es (length bs) n Dead alone (λ j apart. refl))
+    ap (λ ks. record { threads = threads_seen bs owns; stacks = ks; waiters = ws }) (ap (stacks_seen bs) e ∙ stacks_written bs bs es (length bs) n Dead alone (λ j apart. refl))
     ∙ ap (λ (w : Seats). record w { stacks = set w.stacks n seen.Dead }) v
 
 -- ---- leaving
@@ -162,7 +162,7 @@ taken_by ss bs es owns room ws s i sound h =
 pub left_after : (t u : Threads) (es : List Entry) (owns : List Scalar) (room : ℕ) (ws : List Waiter) (s : Seats) (i : ℕ) → IsSound t.states t.stacks es owns room ws → IsSeated t.stacks owns s i → u ≡ with_stack t i None → IsLeft (slice_get u.states i)
 left_after t u es owns room ws s i sound h e =
     subst (λ (ss : List ThreadState). IsLeft (slice_get ss i)) (sym (ap (λ (w : Threads). w.states) e ∙ sound.states_fit))
-    (is_left (is_blocked (waiters_seen ws)) 0 t.stacks i h.stack h.listed)
+    (is_left (is_blocked ws) 0 t.stacks i h.stack h.listed)
 
 pub none_after : (t u : Threads) (owns : List Scalar) (s : Seats) (i : ℕ) → IsSeated t.stacks owns s i → u ≡ with_stack t i None → slice_get u.stacks i ≡ Some None
 none_after t u owns s i h e = ap (λ (w : Threads). slice_get w.stacks i) e ∙ get_written t.stacks i None (slice_get_within t.stacks i (Some h.stack) h.listed)
@@ -174,7 +174,7 @@ ended_sound t u v es new owns room ws s i sound h e f g =
     let dead : new ≡ set es h.stack.number Dead = f ∙ ap (λ o. dead_at (there o) es) h.listed in
     rw (now, dead)
     (record {
-      states_fit = ap (λ ss. set ss i Ended) sound.states_fit ∙ sym (states_unbound (is_blocked (waiters_seen ws)) 0 t.stacks i);
+      states_fit = ap (λ ss. set ss i Ended) sound.states_fit ∙ sym (states_unbound (is_blocked ws) 0 t.stacks i);
       agree = agree_dead t.stacks es i h.stack sound.agree h.listed;
       even = sound.even ∙ sym (length-set t.stacks i None);
       few = rw (length-set t.stacks i None) sound.few;
@@ -188,8 +188,8 @@ ended_seen t u v es new owns room ws s i k view sound h number e f g =
     let dead : new ≡ set es h.stack.number Dead = f ∙ ap (λ o. dead_at (there o) es) h.listed in
     ap (λ (w : Threads). seats_seen w.stacks owns new ws) now
     ∙ ap (λ all. seats_seen (set t.stacks i None) owns all ws) dead
-    ∙ ap (λ ts. record { threads = ts; stacks = stacks_seen (set t.stacks i None) (set es h.stack.number Dead); waiters = waiters_seen ws }) (unbound t.stacks owns i)
-    ∙ ap (λ ks. record { threads = set (threads_seen t.stacks owns) i None; stacks = ks; waiters = waiters_seen ws }) (seen_dead t.stacks es i h.stack sound.agree h.listed ∙ ap (λ n. set (stacks_seen t.stacks es) n seen.Dead) number)
+    ∙ ap (λ ts. record { threads = ts; stacks = stacks_seen (set t.stacks i None) (set es h.stack.number Dead); waiters = ws }) (unbound t.stacks owns i)
+    ∙ ap (λ ks. record { threads = set (threads_seen t.stacks owns) i None; stacks = ks; waiters = ws }) (seen_dead t.stacks es i h.stack sound.agree h.listed ∙ ap (λ n. set (stacks_seen t.stacks es) n seen.Dead) number)
     ∙ ap (λ (w : Seats). record w { threads = set w.threads i None; stacks = set w.stacks k seen.Dead }) view
 
 -- ---- entering
@@ -278,7 +278,7 @@ sat_sound t u v es left new owns room ws s i n e sound h a o f g k =
     ∙ ap (λ bs. record { states = t.states; stacks = bs }) (set_twice t.stacks i None (Some b)) in
     rw (now, k)
     (record {
-      states_fit = sound.states_fit ∙ sym (states_bound (is_blocked (waiters_seen ws)) 0 t.stacks i h.stack b h.listed);
+      states_fit = sound.states_fit ∙ sym (states_bound (is_blocked ws) 0 t.stacks i h.stack b h.listed);
       agree = agree_entered (set t.stacks i None) (set t.stacks i (Some b)) left i n o.frames o.waits a (none_there t.stacks i within) (back_elsewhere t.stacks i b) (back_there t.stacks i b within) o.there;
       even = sound.even ∙ sym (length-set t.stacks i (Some b));
       few = rw (length-set t.stacks i (Some b)) sound.few;
@@ -286,7 +286,7 @@ sat_sound t u v es left new owns room ws s i n e sound h a o f g k =
       below = rw (length-set t.stacks i (Some b)) sound.below;
     })
 
-pub sat_seen : (t u v : Threads) (left new : List Entry) (owns : List Scalar) (ws : List Waiter) (s : Seats) (i n : ℕ) (e : Entered) → IsSeated t.stacks owns s i → Agree (set t.stacks i None) left → (o : IsOpen left n e) → u ≡ with_stack t i None → v ≡ with_stack u i (bound_from n i (slice_get left n)) → new ≡ set left n (Active i) → seats_seen v.stacks owns new ws ≡ record { threads = changed (option_map (on_stack n)) i (threads_seen t.stacks owns); stacks = changed (bound_to i) n (stacks_seen (set t.stacks i None) left); waiters = waiters_seen ws }
+pub sat_seen : (t u v : Threads) (left new : List Entry) (owns : List Scalar) (ws : List Waiter) (s : Seats) (i n : ℕ) (e : Entered) → IsSeated t.stacks owns s i → Agree (set t.stacks i None) left → (o : IsOpen left n e) → u ≡ with_stack t i None → v ≡ with_stack u i (bound_from n i (slice_get left n)) → new ≡ set left n (Active i) → seats_seen v.stacks owns new ws ≡ record { threads = changed (option_map (on_stack n)) i (threads_seen t.stacks owns); stacks = changed (bound_to i) n (stacks_seen (set t.stacks i None) left); waiters = ws }
 sat_seen t u v left new owns ws s i n e h a o f g k =
     let b = entered_by n i o.frames in
     let within = slice_get_within t.stacks i (Some h.stack) h.listed in
@@ -295,21 +295,21 @@ sat_seen t u v left new owns ws s i n e h a o f g k =
     ∙ ap (λ bs. record { states = t.states; stacks = bs }) (set_twice t.stacks i None (Some b)) in
     ap (λ (w : Threads). seats_seen w.stacks owns new ws) now
     ∙ ap (λ all. seats_seen (set t.stacks i (Some b)) owns all ws) k
-    ∙ ap (λ ts. record { threads = ts; stacks = stacks_seen (set t.stacks i (Some b)) (set left n (Active i)); waiters = waiters_seen ws }) (bound_elsewhere t.stacks owns i h.stack b h.listed)
-    ∙ ap (λ ks. record { threads = changed (option_map (on_stack n)) i (threads_seen t.stacks owns); stacks = ks; waiters = waiters_seen ws })
+    ∙ ap (λ ts. record { threads = ts; stacks = stacks_seen (set t.stacks i (Some b)) (set left n (Active i)); waiters = ws }) (bound_elsewhere t.stacks owns i h.stack b h.listed)
+    ∙ ap (λ ks. record { threads = changed (option_map (on_stack n)) i (threads_seen t.stacks owns); stacks = ks; waiters = ws })
     (seen_entered (set t.stacks i None) (set t.stacks i (Some b)) left i n o.frames o.waits a (none_there t.stacks i within) (back_elsewhere t.stacks i b) (back_there t.stacks i b within) o.there
     ∙ sym (changed_at (bound_to i) (stacks_seen (set t.stacks i None) left) n (seen.Ready (frames_in o.frames)) (stack_here (set t.stacks i None) left n (Ready o.frames o.waits) o.there)))
 
 pub sat_after_ready : (t u v : Threads) (es left new : List Entry) (owns : List Scalar) (room : ℕ) (ws : List Waiter) (s : Seats) (i k n : ℕ) (cs : List ℕ) (e : Entered) → seats_seen t.stacks owns es ws ≡ s → IsSound t.states t.stacks es owns room ws → (h : IsSeated t.stacks owns s i) → h.stack.number ≡ k → cs ≡ h.stack.frames.top.waits → left ≡ ready_at (stack_of t i) cs es → IsOpen left n e → u ≡ with_stack t i None → v ≡ with_stack u i (bound_from n i (slice_get left n)) → new ≡ set left n (Active i) → seats_seen v.stacks owns new ws ≡ record s { threads = changed (option_map (on_stack n)) i s.threads; stacks = changed (bound_to i) n (changed left_ready k s.stacks) }
 sat_after_ready t u v es left new owns room ws s i k n cs e view sound h number top l o f g m =
     sat_seen t u v left new owns ws s i n e h (agree_after_ready t es left owns room ws s i cs sound h top l) o f g m
-    ∙ ap (λ ks. record { threads = changed (option_map (on_stack n)) i (threads_seen t.stacks owns); stacks = changed (bound_to i) n ks; waiters = waiters_seen ws }) (stacks_after_ready t es left owns room ws s i k cs sound h number l)
+    ∙ ap (λ ks. record { threads = changed (option_map (on_stack n)) i (threads_seen t.stacks owns); stacks = changed (bound_to i) n ks; waiters = ws }) (stacks_after_ready t es left owns room ws s i k cs sound h number l)
     ∙ ap (λ (w : Seats). record w { threads = changed (option_map (on_stack n)) i w.threads; stacks = changed (bound_to i) n (changed left_ready k w.stacks) }) view
 
 pub sat_after_dead : (t u v : Threads) (es left new : List Entry) (owns : List Scalar) (room : ℕ) (ws : List Waiter) (s : Seats) (i k n : ℕ) (e : Entered) → seats_seen t.stacks owns es ws ≡ s → IsSound t.states t.stacks es owns room ws → (h : IsSeated t.stacks owns s i) → h.stack.number ≡ k → left ≡ dead_at (stack_of t i) es → IsOpen left n e → u ≡ with_stack t i None → v ≡ with_stack u i (bound_from n i (slice_get left n)) → new ≡ set left n (Active i) → seats_seen v.stacks owns new ws ≡ record s { threads = changed (option_map (on_stack n)) i s.threads; stacks = changed (bound_to i) n (set s.stacks k seen.Dead) }
 sat_after_dead t u v es left new owns room ws s i k n e view sound h number l o f g m =
     sat_seen t u v left new owns ws s i n e h (agree_after_dead t es left owns room ws s i sound h l) o f g m
-    ∙ ap (λ ks. record { threads = changed (option_map (on_stack n)) i (threads_seen t.stacks owns); stacks = changed (bound_to i) n ks; waiters = waiters_seen ws }) (stacks_after_dead t es left owns room ws s i k sound h number l)
+    ∙ ap (λ ks. record { threads = changed (option_map (on_stack n)) i (threads_seen t.stacks owns); stacks = changed (bound_to i) n ks; waiters = ws }) (stacks_after_dead t es left owns room ws s i k sound h number l)
     ∙ ap (λ (w : Seats). record w { threads = changed (option_map (on_stack n)) i w.threads; stacks = changed (bound_to i) n (set w.stacks k seen.Dead) }) view
 
 -- ---- a new thread sits on a stack
@@ -318,7 +318,7 @@ below_more : (n : ℕ) (ws : List Waiter) → AreBelow n ws → AreBelow (n + 1)
 below_more n [] h = tt
 below_more n (w ∷ ws) (one, rest) = (omega (arith, one), below_more n ws rest)
 
-never_blocked : (n i : ℕ) (ws : List Waiter) → AreBelow n ws → n ≤ i → is_blocked (waiters_seen ws) i ≡ false
+never_blocked : (n i : ℕ) (ws : List Waiter) → AreBelow n ws → n ≤ i → is_blocked ws i ≡ false
 never_blocked n i [] h le = refl
 never_blocked n i (w ∷ ws) (one, rest) le = let apart : (w.thread == i) ≡ false = grind (arith, one, le) in rw apart (never_blocked n i ws rest le)
 
@@ -332,7 +332,7 @@ started_sound t u es new owns more room wide ws n own e sound o few f g k m w =
     let free = never_blocked (length t.stacks) (0 + length t.stacks) ws sound.below (omega arith) in
     rw (f, now, entry, m, w)
     (record {
-      states_fit = ap (λ ss. ss ++ Runs ∷ []) sound.states_fit ∙ sym (states_more (is_blocked (waiters_seen ws)) 0 t.stacks b free);
+      states_fit = ap (λ ss. ss ++ Runs ∷ []) sound.states_fit ∙ sym (states_more (is_blocked ws) 0 t.stacks b free);
       agree = agree_entered t.stacks (t.stacks ++ Some b ∷ []) es (length t.stacks) n o.frames o.waits sound.agree (no_more_there t.stacks) (last_elsewhere t.stacks b) (last_there t.stacks b) o.there;
       even = length_push owns own ∙ ap (λ j. j + 1) sound.even ∙ sym long;
       few = omega (arith, long, same, few);
@@ -350,8 +350,8 @@ started_seen t u es new owns more room ws s n own e view sound o g k m =
     ap (λ bs. seats_seen bs more new ws) now
     ∙ ap (λ os. seats_seen (t.stacks ++ Some b ∷ []) os new ws) m
     ∙ ap (λ all. seats_seen (t.stacks ++ Some b ∷ []) (owns ++ own ∷ []) all ws) entry
-    ∙ ap (λ ts. record { threads = ts; stacks = stacks_seen (t.stacks ++ Some b ∷ []) (set es n (Active (length t.stacks))); waiters = waiters_seen ws }) (one_more t.stacks owns b own sound.even)
-    ∙ ap (λ ks. record { threads = threads_seen t.stacks owns ++ Some (record { stack = n; own = own }) ∷ []; stacks = ks; waiters = waiters_seen ws })
+    ∙ ap (λ ts. record { threads = ts; stacks = stacks_seen (t.stacks ++ Some b ∷ []) (set es n (Active (length t.stacks))); waiters = ws }) (one_more t.stacks owns b own sound.even)
+    ∙ ap (λ ks. record { threads = threads_seen t.stacks owns ++ Some (record { stack = n; own = own }) ∷ []; stacks = ks; waiters = ws })
     (seen_entered t.stacks (t.stacks ++ Some b ∷ []) es (length t.stacks) n o.frames o.waits sound.agree (no_more_there t.stacks) (last_elsewhere t.stacks b) (last_there t.stacks b) o.there
     ∙ sym (changed_at (bound_to (length t.stacks)) (stacks_seen t.stacks es) n (seen.Ready (frames_in o.frames)) (stack_here t.stacks es n (Ready o.frames o.waits) o.there))
     ∙ ap (λ j. changed (bound_to j) n (stacks_seen t.stacks es)) (sym many))

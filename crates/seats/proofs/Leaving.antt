@@ -10,7 +10,7 @@ use Rattle.futex.specs.declared.waiters.Waiter.{Waiter}
 use Rattle.mu_model.specs.Changes.{changed}
 use Rattle.mu_model.specs.Step.{is_blocked}
 use Rattle.seats.specs.Seats.{Seats, left_ready}
-use Rattle.seats.specs.Kept.{threads_seen, stacks_seen, waiters_seen, seats_seen, ready_at, IsSound}
+use Rattle.seats.specs.Kept.{threads_seen, stacks_seen, seats_seen, ready_at, IsSound}
 use Rattle.seats.proofs.Threads.{unbound, states_unbound}
 use Rattle.seats.proofs.Seen.{IsSeated}
 use Rattle.seats.proofs.Changing.{agree_after_ready, stacks_after_ready}
@@ -20,7 +20,7 @@ exited_sound t u v es new owns room ws s i cs sound h top e f g =
     let now : v ≡ with_state (with_stack t i None) i Ended = g ∙ ap (λ (w : Threads). with_state w i Ended) e in
     rw now
     (record {
-      states_fit = ap (λ ss. set ss i Ended) sound.states_fit ∙ sym (states_unbound (is_blocked (waiters_seen ws)) 0 t.stacks i);
+      states_fit = ap (λ ss. set ss i Ended) sound.states_fit ∙ sym (states_unbound (is_blocked ws) 0 t.stacks i);
       agree = agree_after_ready t es new owns room ws s i cs sound h top f;
       even = sound.even ∙ sym (length-set t.stacks i None);
       few = rw (length-set t.stacks i None) sound.few;
@@ -32,6 +32,6 @@ pub exited_seen : (t u v : Threads) (es new : List Entry) (owns : List Scalar) (
 exited_seen t u v es new owns room ws s i k cs view sound h number e f g =
     let now : v ≡ with_state (with_stack t i None) i Ended = g ∙ ap (λ (w : Threads). with_state w i Ended) e in
     ap (λ (w : Threads). seats_seen w.stacks owns new ws) now
-    ∙ ap (λ ts. record { threads = ts; stacks = stacks_seen (set t.stacks i None) new; waiters = waiters_seen ws }) (unbound t.stacks owns i)
-    ∙ ap (λ ks. record { threads = set (threads_seen t.stacks owns) i None; stacks = ks; waiters = waiters_seen ws }) (stacks_after_ready t es new owns room ws s i k cs sound h number f)
+    ∙ ap (λ ts. record { threads = ts; stacks = stacks_seen (set t.stacks i None) new; waiters = ws }) (unbound t.stacks owns i)
+    ∙ ap (λ ks. record { threads = set (threads_seen t.stacks owns) i None; stacks = ks; waiters = ws }) (stacks_after_ready t es new owns room ws s i k cs sound h number f)
     ∙ ap (λ (w : Seats). record w { threads = set w.threads i None; stacks = changed left_ready k w.stacks }) view

@@ -16,7 +16,7 @@ use Rattle.mu_model.specs.Changes.{changed}
 use Rattle.mu_model.specs.Turns.{active_on}
 use Rattle.mu_model.specs.Step.{is_blocked}
 use Rattle.seats.specs.Seats.{Seats, seat_of, IsOn, runnable_of}
-use Rattle.seats.specs.Kept.{threads_seen, stacks_seen, waiters_seen, seats_seen, with_frames, frames_held, IsSound}
+use Rattle.seats.specs.Kept.{threads_seen, stacks_seen, seats_seen, with_frames, frames_held, IsSound}
 use Rattle.seats.proofs.Threads.{seat, held, seat_seen, bound_again, owned, listed, states_bound}
 use Rattle.seats.proofs.Moving.{agree_exchanged, seen_exchanged, own_stack}
 
@@ -67,7 +67,7 @@ holds bs owns s i h = ap (λ o. is_some (there o)) h.listed
 
 pub runnable_seen : (states : List ThreadState) (bs : List (Option Bound)) (owns : List Scalar) (es : List Entry) (room : ℕ) (ws : List Waiter) (s : Seats) → seats_seen bs owns es ws ≡ s → IsSound states bs es owns room ws → runnable_from 0 states ≡ runnable_of s
 runnable_seen states bs owns es room ws s e sound =
-    ap (runnable_from 0) sound.states_fit ∙ listed (is_blocked (waiters_seen ws)) 0 bs owns sound.even ∙ ap (λ (v : Seats). runnable_of v) e
+    ap (runnable_from 0) sound.states_fit ∙ listed (is_blocked ws) 0 bs owns sound.even ∙ ap (λ (v : Seats). runnable_of v) e
 
 same_number : (bs : List (Option Bound)) (i : ℕ) (b c : Bound) → slice_get bs i ≡ Some (Some b) → there (slice_get bs i) ≡ Some c → b ≡ c
 same_number bs i b c at e = same_Some b c (sym (ap there at) ∙ e)
@@ -110,7 +110,7 @@ owns_written states bs owns new es room more ws i own sound e f =
 
 pub owned_seen : (bs : List (Option Bound)) (owns new : List Scalar) (es : List Entry) (ws : List Waiter) (s : Seats) (i : ℕ) (own : Scalar) → seats_seen bs owns es ws ≡ s → new ≡ set owns i own → seats_seen bs new es ws ≡ record s { threads = changed (option_map (λ (t : Thread). record t { own = own })) i s.threads }
 owned_seen bs owns new es ws s i own e f =
-    ap (λ ts. record { threads = ts; stacks = stacks_seen bs es; waiters = waiters_seen ws }) (ap (λ os. threads_seen bs os) f ∙ owned bs owns i own)
+    ap (λ ts. record { threads = ts; stacks = stacks_seen bs es; waiters = ws }) (ap (λ os. threads_seen bs os) f ∙ owned bs owns i own)
     ∙ ap (λ (v : Seats). record v { threads = changed (option_map (λ (t : Thread). record t { own = own })) i v.threads }) e
 
 -- ---- other frames
@@ -121,7 +121,7 @@ exchanged_sound t u owns es room ws s i f sound h e =
     let b = h.stack in
     subst (λ (v : Threads). IsSound v.states v.stacks es owns room ws) (sym now)
     (record {
-      states_fit = sound.states_fit ∙ sym (states_bound (is_blocked (waiters_seen ws)) 0 t.stacks i b (record b { frames = f }) h.listed);
+      states_fit = sound.states_fit ∙ sym (states_bound (is_blocked ws) 0 t.stacks i b (record b { frames = f }) h.listed);
       agree = agree_exchanged t.stacks es i b f sound.agree h.listed;
       even = sound.even ∙ sym (length-set t.stacks i (Some (record b { frames = f })));
       few = rw (length-set t.stacks i (Some (record b { frames = f }))) sound.few;
@@ -134,8 +134,8 @@ exchanged_seen t u owns es room ws s i k f v sound h number e =
     let now = e ∙ ap (λ o. with_stack t i (with_frames f (there o))) h.listed in
     let b = h.stack in
     ap (λ (w : Threads). seats_seen w.stacks owns es ws) now
-    ∙ ap (λ ts. record { threads = ts; stacks = stacks_seen (set t.stacks i (Some (record b { frames = f }))) es; waiters = waiters_seen ws }) (bound_again t.stacks owns i b (record b { frames = f }) h.listed refl)
-    ∙ ap (λ ss. record { threads = threads_seen t.stacks owns; stacks = ss; waiters = waiters_seen ws }) (seen_exchanged t.stacks es i b f sound.agree h.listed ∙ ap (λ n. set (stacks_seen t.stacks es) n (Active i (frames_in f))) number)
+    ∙ ap (λ ts. record { threads = ts; stacks = stacks_seen (set t.stacks i (Some (record b { frames = f }))) es; waiters = ws }) (bound_again t.stacks owns i b (record b { frames = f }) h.listed refl)
+    ∙ ap (λ ss. record { threads = threads_seen t.stacks owns; stacks = ss; waiters = ws }) (seen_exchanged t.stacks es i b f sound.agree h.listed ∙ ap (λ n. set (stacks_seen t.stacks es) n (Active i (frames_in f))) number)
     ∙ ap (λ (w : Seats). record w { stacks = set w.stacks k (Active i (frames_in f)) }) v
 
 -- the frames that were there

@@ -14,7 +14,7 @@ use Rattle.futex.specs.declared.waiters.Waiter.{Waiter}
 use Rattle.mu_model.specs.Configuration.{Active}
 use Rattle.mu_model.specs.Step.{is_blocked}
 use Rattle.seats.specs.Seats.{Seats}
-use Rattle.seats.specs.Kept.{threads_seen, stacks_seen, waiters_seen, seats_seen, IsShown, IsSound}
+use Rattle.seats.specs.Kept.{threads_seen, stacks_seen, seats_seen, IsShown, IsSound}
 use Rattle.seats.proofs.Lists.{set_twice}
 use Rattle.seats.proofs.Threads.{bound_again, states_bound}
 use Rattle.seats.proofs.Moving.{entered_by, agree_fresh, seen_fresh, own_stack}
@@ -48,7 +48,7 @@ module _ (t u : Threads) (es : List Entry) (owns : List Scalar) (room : ℕ) (ws
   shown_sound =
       rw shown_now
       (record {
-        states_fit = sound.states_fit ∙ sym (states_bound (is_blocked (waiters_seen ws)) 0 t.stacks i h.stack anew h.listed);
+        states_fit = sound.states_fit ∙ sym (states_bound (is_blocked ws) 0 t.stacks i h.stack anew h.listed);
         agree = agree_fresh t.stacks es i h.stack here.frames sound.agree h.listed;
         even = sound.even ∙ sym (length-set t.stacks i (Some anew));
         few = rw (length-set t.stacks i (Some anew)) sound.few;
@@ -59,8 +59,8 @@ module _ (t u : Threads) (es : List Entry) (owns : List Scalar) (room : ℕ) (ws
   shown_changes : seats_seen t.stacks owns es ws ≡ s → seats_seen u.stacks owns es ws ≡ record s { stacks = set s.stacks h.stack.number (Active i (frames_in here.frames)) }
   shown_changes v =
       ap (λ (w : Threads). seats_seen w.stacks owns es ws) shown_now
-      ∙ ap (λ ts. record { threads = ts; stacks = stacks_seen (set t.stacks i (Some anew)) es; waiters = waiters_seen ws }) (bound_again t.stacks owns i h.stack anew h.listed refl)
-      ∙ ap (λ ks. record { threads = threads_seen t.stacks owns; stacks = ks; waiters = waiters_seen ws }) (seen_fresh t.stacks es i h.stack here.frames sound.agree h.listed)
+      ∙ ap (λ ts. record { threads = ts; stacks = stacks_seen (set t.stacks i (Some anew)) es; waiters = ws }) (bound_again t.stacks owns i h.stack anew h.listed refl)
+      ∙ ap (λ ks. record { threads = threads_seen t.stacks owns; stacks = ks; waiters = ws }) (seen_fresh t.stacks es i h.stack here.frames sound.agree h.listed)
       ∙ ap (λ (w : Seats). record w { stacks = set w.stacks h.stack.number (Active i (frames_in here.frames)) }) v
 
   pub shown_asked : (k : ℕ) → seats_seen t.stacks owns es ws ≡ s → h.stack.number ≡ k → (fs : List Activation) → slice_get s.stacks k ≡ Some (Active i fs)

@@ -1,11 +1,11 @@
 -- Threads that wait, and those that run again.
-use Rattle.std.specs.Prelude.{◌≡◌, ◌≢◌, ℕ, zero, suc, ◌+◌, ◌<◌, ◌≤◌, ◌==◌, Bool, true, false, ◌&&◌, ◌||◌, not, List, [], ◌∷◌, ◌++◌, Option, Some, None, Result, Ok, Err, map, filter, take, is_some, length, slice_get, option_map, IsSome, IfSome, OnOk, OnErr, if◌then◌else◌, refl}
+use Rattle.std.specs.Prelude.{◌≡◌, ◌≢◌, ℕ, zero, suc, ◌+◌, ◌<◌, ◌≤◌, ◌==◌, Bool, true, false, ◌&&◌, ◌||◌, not, List, [], ◌∷◌, ◌++◌, Option, Some, None, Result, Ok, Err, filter, take, is_some, length, slice_get, IsSome, IfSome, OnOk, OnErr, if◌then◌else◌, refl}
 use Rattle.std.specs.List.{list_any, find}
 use Rattle.std.proofs.Common.{sym, ◌∙◌, ap, subst, arith, set, get_or}
 use Rattle.std.proofs.lemmas.Option.{slice_get_within, get_or_from_slice_get, same_Some}
 use Rattle.std.proofs.lemmas.List.{length-set, take_more}
 use Rattle.mu_values.specs.declared.scalars.Scalar.{Scalar}
-use Rattle.heap_cells.specs.declared.cells.CellId.{CellId}
+use Rattle.mu_values.specs.declared.cells.CellId.{CellId}
 use Rattle.stacks.specs.Stacks.{Bound}
 use Rattle.stacks.specs.Directories.{Entry}
 use Rattle.mu_threads.specs.Threads.{Threads, there, stack_of, with_state, IsLeft}
@@ -13,14 +13,9 @@ use Rattle.mu_threads.specs.declared.state.ThreadState.{ThreadState}
 use Rattle.mu_threads.specs.declared.state.ThreadState.TheVariants.{Runs, Waits, Ended}
 use Rattle.futex.specs.declared.waiters.Waiter.{Waiter}
 use Rattle.futex.specs.Waiting.{is_of, is_at, oldest_at, threads_of, without}
-use Rattle.mu_model.specs.Configuration as seen
-use Rattle.mu_model.specs.Waiting as model
 use Rattle.mu_model.specs.Step.{is_blocked}
-use Rattle.seats.specs.Seats as told
-use Rattle.seats.specs.Seats.{Seats, cell_of, timed_cell_of}
-use Rattle.futex.specs.Waiting as futex
-use Rattle.futex.specs.Kept.{AreApart}
-use Rattle.seats.specs.Kept.{threads_seen, stacks_seen, waiter_seen, waiters_seen, seats_seen, state_seen, states_seen, waiting_if, running, all_running, HeldAreLeft, AllBelow, AreBelow, IsSound}
+use Rattle.seats.specs.Seats.{Seats}
+use Rattle.seats.specs.Kept.{threads_seen, stacks_seen, seats_seen, state_seen, states_seen, waiting_if, running, all_running, HeldAreLeft, AllBelow, AreBelow, IsSound}
 use Rattle.seats.proofs.Threads.{is_left, many_states, states_same}
 use Rattle.seats.proofs.Seen.{IsSeated}
 
@@ -145,11 +140,11 @@ first_of false b h = cc
 is_that : (a b : ℕ) → (a == b) ≡ true → a ≡ b
 is_that a b h = grind arith
 
-kept_if : (gone ws : List Waiter) (w : Waiter) (j : ℕ) (keep : Bool) → is_blocked (waiters_seen (if keep then w ∷ without gone ws else without gone ws)) j ≡ (if keep then (((w.thread == j) && not w.timed) || is_blocked (waiters_seen (without gone ws)) j) else is_blocked (waiters_seen (without gone ws)) j)
+kept_if : (gone ws : List Waiter) (w : Waiter) (j : ℕ) (keep : Bool) → is_blocked (if keep then w ∷ without gone ws else without gone ws) j ≡ (if keep then (((w.thread == j) && not w.timed) || is_blocked (without gone ws) j) else is_blocked (without gone ws) j)
 kept_if gone ws w j true = refl
 kept_if gone ws w j false = refl
 
-pub blocked_without : (gone ws : List Waiter) (j : ℕ) → is_blocked (waiters_seen (without gone ws)) j ≡ (is_blocked (waiters_seen ws) j && not (list_any (λ t. t == j) (threads_of gone)))
+pub blocked_without : (gone ws : List Waiter) (j : ℕ) → is_blocked (without gone ws) j ≡ (is_blocked ws j && not (list_any (λ t. t == j) (threads_of gone)))
 blocked_without gone [] j = refl
 blocked_without gone (w ∷ ws) j =
     let a = (w.thread == j) && not w.timed in
@@ -158,7 +153,7 @@ blocked_without gone (w ∷ ws) j =
     let link : a ≡ true → keep ≡ not g = λ h. ap not (ap (λ k. list_any (is_of k) gone) (is_that w.thread j (first_of (w.thread == j) (not w.timed) h)) ∙ sym (among j gone)) in
     kept_if gone ws w j keep
     ∙ ap (λ r. if keep then (a || r) else r) (blocked_without gone ws j)
-    ∙ less a (is_blocked (waiters_seen ws) j) g keep link
+    ∙ less a (is_blocked ws j) g keep link
 
 -- ---- one waiter more
 
@@ -166,12 +161,12 @@ one_more : (a b c : Bool) → (a || (b || false)) ≡ (a || b)
 one_more a true c = refl
 one_more a false c = refl
 
-any_more : (ws : List Waiter) (w : Waiter) (j : ℕ) → is_blocked (waiters_seen (ws ++ w ∷ [])) j ≡ (is_blocked (waiters_seen ws) j || ((w.thread == j) && not w.timed))
+any_more : (ws : List Waiter) (w : Waiter) (j : ℕ) → is_blocked (ws ++ w ∷ []) j ≡ (is_blocked ws j || ((w.thread == j) && not w.timed))
 any_more [] w j = elim ((w.thread == j) && not w.timed) as (λ b. (b || false) ≡ b) [ true ↦ refl | false ↦ refl ]
 any_more (v ∷ ws) w j =
     let a = (v.thread == j) && not v.timed in
     ap (λ r. a || r) (any_more ws w j)
-    ∙ elim a as (λ b. (b || (is_blocked (waiters_seen ws) j || ((w.thread == j) && not w.timed))) ≡ ((b || is_blocked (waiters_seen ws) j) || ((w.thread == j) && not w.timed))) [ true ↦ refl | false ↦ refl ]
+    ∙ elim a as (λ b. (b || (is_blocked ws j || ((w.thread == j) && not w.timed))) ≡ ((b || is_blocked ws j) || ((w.thread == j) && not w.timed))) [ true ↦ refl | false ↦ refl ]
 
 or_false : (a : Bool) → (a || false) ≡ a
 or_false true = refl
@@ -185,28 +180,28 @@ and_false : (a : Bool) → (a && false) ≡ false
 and_false true = refl
 and_false false = refl
 
-waiter_elsewhere : (ws : List Waiter) (w : Waiter) (j : ℕ) → j ≢ w.thread → is_blocked (waiters_seen (ws ++ w ∷ [])) j ≡ is_blocked (waiters_seen ws) j
+waiter_elsewhere : (ws : List Waiter) (w : Waiter) (j : ℕ) → j ≢ w.thread → is_blocked (ws ++ w ∷ []) j ≡ is_blocked ws j
 waiter_elsewhere ws w j apart =
     let other : (w.thread == j) ≡ false = grind (arith, apart) in
-    any_more ws w j ∙ ap (λ b. is_blocked (waiters_seen ws) j || (b && not w.timed)) other ∙ or_false (is_blocked (waiters_seen ws) j)
+    any_more ws w j ∙ ap (λ b. is_blocked ws j || (b && not w.timed)) other ∙ or_false (is_blocked ws j)
 
-blocks_not : (ws : List Waiter) (w : Waiter) (j : ℕ) → w.timed ≡ true → is_blocked (waiters_seen ws) j ≡ is_blocked (waiters_seen (ws ++ w ∷ [])) j
+blocks_not : (ws : List Waiter) (w : Waiter) (j : ℕ) → w.timed ≡ true → is_blocked ws j ≡ is_blocked (ws ++ w ∷ []) j
 blocks_not ws w j e =
-    sym (any_more ws w j ∙ ap (λ b. is_blocked (waiters_seen ws) j || ((w.thread == j) && not b)) e ∙ ap (λ b. is_blocked (waiters_seen ws) j || b) (and_false (w.thread == j)) ∙ or_false (is_blocked (waiters_seen ws) j))
+    sym (any_more ws w j ∙ ap (λ b. is_blocked ws j || ((w.thread == j) && not b)) e ∙ ap (λ b. is_blocked ws j || b) (and_false (w.thread == j)) ∙ or_false (is_blocked ws j))
 
-blocks : (ws : List Waiter) (w : Waiter) → w.timed ≡ false → is_blocked (waiters_seen (ws ++ w ∷ [])) w.thread ≡ true
+blocks : (ws : List Waiter) (w : Waiter) → w.timed ≡ false → is_blocked (ws ++ w ∷ []) w.thread ≡ true
 blocks ws w e =
     let same : (w.thread == w.thread) ≡ true = grind arith in
-    any_more ws w w.thread ∙ ap (λ b. is_blocked (waiters_seen ws) w.thread || ((w.thread == w.thread) && not b)) e ∙ ap (λ b. is_blocked (waiters_seen ws) w.thread || (b && true)) same ∙ or_true (is_blocked (waiters_seen ws) w.thread)
+    any_more ws w w.thread ∙ ap (λ b. is_blocked ws w.thread || ((w.thread == w.thread) && not b)) e ∙ ap (λ b. is_blocked ws w.thread || (b && true)) same ∙ or_true (is_blocked ws w.thread)
 
-waits_if : (timed : Bool) (t : Threads) (ws : List Waiter) (w : Waiter) (b : Bound) → w.timed ≡ timed → slice_get t.stacks w.thread ≡ Some (Some b) → t.states ≡ states_seen (is_blocked (waiters_seen ws)) 0 t.stacks → waiting_if timed t w.thread ≡ record { states = states_seen (is_blocked (waiters_seen (ws ++ w ∷ []))) 0 t.stacks; stacks = t.stacks }
+waits_if : (timed : Bool) (t : Threads) (ws : List Waiter) (w : Waiter) (b : Bound) → w.timed ≡ timed → slice_get t.stacks w.thread ≡ Some (Some b) → t.states ≡ states_seen (is_blocked ws) 0 t.stacks → waiting_if timed t w.thread ≡ record { states = states_seen (is_blocked (ws ++ w ∷ [])) 0 t.stacks; stacks = t.stacks }
 waits_if true t ws w b k at e =
-    ap (λ ss. record { states = ss; stacks = t.stacks }) (e ∙ states_same (is_blocked (waiters_seen ws)) (is_blocked (waiters_seen (ws ++ w ∷ []))) 0 t.stacks (λ j. blocks_not ws w j k))
+    ap (λ ss. record { states = ss; stacks = t.stacks }) (e ∙ states_same (is_blocked ws) (is_blocked (ws ++ w ∷ [])) 0 t.stacks (λ j. blocks_not ws w j k))
 waits_if false t ws w b k at e =
     ap (λ ss. record { states = ss; stacks = t.stacks })
     (ap (λ ss. set ss w.thread Waits) e
-    ∙ ap (λ v. set (states_seen (is_blocked (waiters_seen ws)) 0 t.stacks) w.thread (if v then Waits else Runs)) (sym (blocks ws w k))
-    ∙ states_written (is_blocked (waiters_seen ws)) (is_blocked (waiters_seen (ws ++ w ∷ []))) 0 t.stacks w.thread w.thread b (omega arith) at (waiter_elsewhere ws w))
+    ∙ ap (λ v. set (states_seen (is_blocked ws) 0 t.stacks) w.thread (if v then Waits else Runs)) (sym (blocks ws w k))
+    ∙ states_written (is_blocked ws) (is_blocked (ws ++ w ∷ [])) 0 t.stacks w.thread w.thread b (omega arith) at (waiter_elsewhere ws w))
 
 below_pushed : (n : ℕ) (ws : List Waiter) (w : Waiter) → AreBelow n ws → w.thread < n → AreBelow n (ws ++ w ∷ [])
 below_pushed n [] w h one = (one, tt)
@@ -220,42 +215,6 @@ below_take : (n k : ℕ) (ws : List Waiter) → AreBelow n ws → AllBelow n (th
 below_take n zero ws h = tt
 below_take n (suc k) [] h = tt
 below_take n (suc k) (w ∷ ws) (one, rest) = (one, below_take n k ws rest)
-
--- ---- what is seen of waiters
-
-pub find_seen : (i : ℕ) (ws : List Waiter) → find (model.is_of i) (waiters_seen ws) ≡ option_map waiter_seen (find (is_of i) ws)
-find_seen i [] = refl
-find_seen i (w ∷ ws) =
-    elim (w.thread == i) as (λ b. (if b then Some (waiter_seen w) else find (model.is_of i) (waiters_seen ws)) ≡ option_map waiter_seen (if b then Some w else find (is_of i) ws)) [ true ↦ refl | false ↦ find_seen i ws ]
-
-pub filter_seen : (p : seen.Waiter → Bool) (q : Waiter → Bool) (ws : List Waiter) → ((w : Waiter) → q w ≡ p (waiter_seen w)) → filter p (waiters_seen ws) ≡ waiters_seen (filter q ws)
-filter_seen p q [] e = refl
-filter_seen p q (w ∷ ws) e =
-    let head : p (waiter_seen w) ≡ q w = sym (e w) in
-    rw head (elim (q w) as (λ b. (if b then waiter_seen w ∷ filter p (waiters_seen ws) else filter p (waiters_seen ws)) ≡ waiters_seen (if b then w ∷ filter q ws else filter q ws)) [ true ↦ ap (λ vs. waiter_seen w ∷ vs) (filter_seen p q ws e) | false ↦ filter_seen p q ws e ])
-
-take_seen : (n : ℕ) (ws : List Waiter) → take n (waiters_seen ws) ≡ waiters_seen (take n ws)
-take_seen zero ws = refl
-take_seen (suc n) [] = refl
-take_seen (suc n) (w ∷ ws) = ap (λ vs. waiter_seen w ∷ vs) (take_seen n ws)
-
-pub oldest_seen : (cell : CellId) (many : ℕ) (ws : List Waiter) → take many (filter (model.is_at cell) (waiters_seen ws)) ≡ waiters_seen (oldest_at cell many ws)
-oldest_seen cell many ws = ap (take many) (filter_seen (model.is_at cell) (is_at cell) ws (λ w. refl)) ∙ take_seen many (filter (is_at cell) ws)
-
-any_seen : (i : ℕ) (ws : List Waiter) → list_any (model.is_of i) (waiters_seen ws) ≡ list_any (is_of i) ws
-any_seen i [] = refl
-any_seen i (w ∷ ws) = ap (λ b. (w.thread == i) || b) (any_seen i ws)
-
-pub without_seen : (gone ws : List Waiter) → model.without (waiters_seen gone) (waiters_seen ws) ≡ waiters_seen (without gone ws)
-without_seen gone ws = filter_seen (λ w. not (list_any (model.is_of w.thread) (waiters_seen gone))) (λ w. not (list_any (is_of w.thread) gone)) ws (λ w. ap not (sym (any_seen w.thread gone)))
-
-pub threads_told : (ws : List Waiter) → threads_of ws ≡ map (λ (w : seen.Waiter). w.thread) (waiters_seen ws)
-threads_told [] = refl
-threads_told (w ∷ ws) = ap (λ is. w.thread ∷ is) (threads_told ws)
-
-more_seen : (ws : List Waiter) (w : Waiter) → waiters_seen (ws ++ w ∷ []) ≡ waiters_seen ws ++ waiter_seen w ∷ []
-more_seen [] w = refl
-more_seen (v ∷ ws) w = ap (λ vs. waiter_seen v ∷ vs) (more_seen ws w)
 
 -- ---- threads that hold a stack stay left
 
@@ -285,7 +244,7 @@ left_if bs i (Some (Some b)) e h p = is_left p 0 bs i b e
 
 pub held_are_left : (t : Threads) (es : List Entry) (owns : List Scalar) (room : ℕ) (ws : List Waiter) → IsSound t.states t.stacks es owns room ws → HeldAreLeft t
 held_are_left t es owns room ws sound i h =
-    subst (λ (ss : List ThreadState). IsLeft (slice_get ss i)) (sym sound.states_fit) (left_if t.stacks i (slice_get t.stacks i) refl h (is_blocked (waiters_seen ws)))
+    subst (λ (ss : List ThreadState). IsLeft (slice_get ss i)) (sym sound.states_fit) (left_if t.stacks i (slice_get t.stacks i) refl h (is_blocked ws))
 
 pub seat_left : (t : Threads) (es : List Entry) (owns : List Scalar) (room : ℕ) (ws : List Waiter) (s : Seats) (i : ℕ) → IsSound t.states t.stacks es owns room ws → IsSeated t.stacks owns s i → IsLeft (slice_get t.states i)
 seat_left t es owns room ws s i sound h = held_are_left t es owns room ws sound i (ap (λ o. is_some (there o)) h.listed)
@@ -293,44 +252,11 @@ seat_left t es owns room ws s i sound h = held_are_left t es owns room ws sound 
 pub seat_below : (t : Threads) (es : List Entry) (owns : List Scalar) (room : ℕ) (ws : List Waiter) (s : Seats) (i : ℕ) → IsSound t.states t.stacks es owns room ws → IsSeated t.stacks owns s i → i < 64
 seat_below t es owns room ws s i sound h = omega (arith, slice_get_within t.stacks i (Some h.stack) h.listed, sound.few)
 
-none_if : {A B : Type 0} (f : A → B) (o : Option A) → option_map f o ≡ None → o ≡ None
-none_if f None h = refl
-none_if f (Some a) h = cc
+pub goes_on : (bs : List (Option Bound)) (owns : List Scalar) (es : List Entry) (ws : List Waiter) (s : Seats) (i : ℕ) → seats_seen bs owns es ws ≡ s → find (is_of i) s.waiters ≡ None → find (is_of i) ws ≡ None
+goes_on bs owns es ws s i v h = ap (λ (x : Seats). find (is_of i) x.waiters) v ∙ h
 
-some_if : {A B : Type 0} (f : A → B) (o : Option A) → IsSome (option_map f o) → IsSome o
-some_if f None h = h
-some_if f (Some a) h = refl
-
-waiter_at : (bs : List (Option Bound)) (owns : List Scalar) (es : List Entry) (ws : List Waiter) (s : Seats) (i : ℕ) → seats_seen bs owns es ws ≡ s → find (model.is_of i) s.waiters ≡ option_map waiter_seen (find (is_of i) ws)
-waiter_at bs owns es ws s i v = ap (λ (x : Seats). find (model.is_of i) x.waiters) (sym v) ∙ find_seen i ws
-
-pub goes_on : (bs : List (Option Bound)) (owns : List Scalar) (es : List Entry) (ws : List Waiter) (s : Seats) (i : ℕ) → seats_seen bs owns es ws ≡ s → find (model.is_of i) s.waiters ≡ None → find (is_of i) ws ≡ None
-goes_on bs owns es ws s i v h = none_if waiter_seen (find (is_of i) ws) (sym (waiter_at bs owns es ws s i v) ∙ h)
-
-pub waits_there : (bs : List (Option Bound)) (owns : List Scalar) (es : List Entry) (ws : List Waiter) (s : Seats) (i : ℕ) → seats_seen bs owns es ws ≡ s → IsSome (find (model.is_of i) s.waiters) → IsSome (find (is_of i) ws)
-waits_there bs owns es ws s i v h = some_if waiter_seen (find (is_of i) ws) (subst (λ (o : Option seen.Waiter). IsSome o) (waiter_at bs owns es ws s i v) h)
-
-cell_same : (o : Option Waiter) → futex.cell_of o ≡ cell_of (option_map waiter_seen o)
-cell_same None = refl
-cell_same (Some w) = refl
-
-timed_same : (o : Option Waiter) → futex.timed_cell_of o ≡ timed_cell_of (option_map waiter_seen o)
-timed_same None = refl
-timed_same (Some w) = refl
-
-pub cell_told : (bs : List (Option Bound)) (owns : List Scalar) (es : List Entry) (ws : List Waiter) (s : Seats) (i : ℕ) → seats_seen bs owns es ws ≡ s → futex.cell_of (find (is_of i) ws) ≡ cell_of (find (model.is_of i) s.waiters)
-cell_told bs owns es ws s i v = cell_same (find (is_of i) ws) ∙ ap cell_of (sym (waiter_at bs owns es ws s i v))
-
-pub timed_told : (bs : List (Option Bound)) (owns : List Scalar) (es : List Entry) (ws : List Waiter) (s : Seats) (i : ℕ) → seats_seen bs owns es ws ≡ s → futex.timed_cell_of (find (is_of i) ws) ≡ timed_cell_of (find (model.is_of i) s.waiters)
-timed_told bs owns es ws s i v = timed_same (find (is_of i) ws) ∙ ap timed_cell_of (sym (waiter_at bs owns es ws s i v))
-
--- each waits once at most
-apart_seen : (ws : List Waiter) → AreApart ws → told.AreApart (waiters_seen ws)
-apart_seen [] h = tt
-apart_seen (w ∷ ws) (small, alone, rest) = (find_seen w.thread ws ∙ ap (option_map waiter_seen) alone, apart_seen ws rest)
-
-pub apart_told : (bs : List (Option Bound)) (owns : List Scalar) (es : List Entry) (ws : List Waiter) (s : Seats) → seats_seen bs owns es ws ≡ s → AreApart ws → told.AreApart s.waiters
-apart_told bs owns es ws s v h = subst (λ (x : Seats). told.AreApart x.waiters) v (apart_seen ws h)
+pub waits_there : (bs : List (Option Bound)) (owns : List Scalar) (es : List Entry) (ws : List Waiter) (s : Seats) (i : ℕ) → seats_seen bs owns es ws ≡ s → IsSome (find (is_of i) s.waiters) → IsSome (find (is_of i) ws)
+waits_there bs owns es ws s i v h = subst (λ (x : Seats). IsSome (find (is_of i) x.waiters)) (sym v) h
 
 -- ---- a thread waits
 
@@ -355,12 +281,12 @@ same_stacks_if : (timed : Bool) (t : Threads) (i : ℕ) → (waiting_if timed t 
 same_stacks_if true t i = refl
 same_stacks_if false t i = refl
 
-pub wait_seen : {E : Type 0} (t u : Threads) (es : List Entry) (owns : List Scalar) (ws new : List Waiter) (s : Seats) (w : Waiter) (r : Result (Unit {0}) E) → seats_seen t.stacks owns es ws ≡ s → OnOk r (u ≡ waiting_if w.timed t w.thread) → OnOk r (new ≡ ws ++ w ∷ []) → OnOk r (seats_seen u.stacks owns es new ≡ record s { waiters = s.waiters ++ waiter_seen w ∷ [] })
+pub wait_seen : {E : Type 0} (t u : Threads) (es : List Entry) (owns : List Scalar) (ws new : List Waiter) (s : Seats) (w : Waiter) (r : Result (Unit {0}) E) → seats_seen t.stacks owns es ws ≡ s → OnOk r (u ≡ waiting_if w.timed t w.thread) → OnOk r (new ≡ ws ++ w ∷ []) → OnOk r (seats_seen u.stacks owns es new ≡ record s { waiters = s.waiters ++ w ∷ [] })
 wait_seen t u es owns ws new s w (Err n) v e f = tt
 wait_seen t u es owns ws new s w (Ok n) v e f =
     ap (λ bs. seats_seen bs owns es new) (ap (λ (x : Threads). x.stacks) e ∙ same_stacks_if w.timed t w.thread)
-    ∙ ap (λ vs. record { threads = threads_seen t.stacks owns; stacks = stacks_seen t.stacks es; waiters = vs }) (ap waiters_seen f ∙ more_seen ws w)
-    ∙ ap (λ (x : Seats). record x { waiters = x.waiters ++ waiter_seen w ∷ [] }) v
+    ∙ ap (λ vs. record { threads = threads_seen t.stacks owns; stacks = stacks_seen t.stacks es; waiters = vs }) f
+    ∙ ap (λ (x : Seats). record x { waiters = x.waiters ++ w ∷ [] }) v
 
 pub wait_same : {E : Type 0} (t u : Threads) (es : List Entry) (owns : List Scalar) (ws new : List Waiter) (s : Seats) (r : Result (Unit {0}) E) → seats_seen t.stacks owns es ws ≡ s → OnErr r (u ≡ t) → OnErr r (new ≡ ws) → OnErr r (seats_seen u.stacks owns es new ≡ s)
 wait_same t u es owns ws new s (Ok n) v e f = tt
@@ -368,11 +294,11 @@ wait_same t u es owns ws new s (Err n) v e f = rw (e, f) v
 
 -- ---- threads run again
 
-woken_states : (t : Threads) (gone ws : List Waiter) → t.states ≡ states_seen (is_blocked (waiters_seen ws)) 0 t.stacks → all_running (threads_of gone) t ≡ record { states = states_seen (is_blocked (waiters_seen (without gone ws))) 0 t.stacks; stacks = t.stacks }
+woken_states : (t : Threads) (gone ws : List Waiter) → t.states ≡ states_seen (is_blocked ws) 0 t.stacks → all_running (threads_of gone) t ≡ record { states = states_seen (is_blocked (without gone ws)) 0 t.stacks; stacks = t.stacks }
 woken_states t gone ws e =
     ap (λ ss. all_running (threads_of gone) (record { states = ss; stacks = t.stacks })) e
-    ∙ all_run_again (threads_of gone) (is_blocked (waiters_seen ws)) t.stacks
-    ∙ ap (λ ss. record { states = ss; stacks = t.stacks }) (states_same (λ j. is_blocked (waiters_seen ws) j && not (list_any (λ i. i == j) (threads_of gone))) (is_blocked (waiters_seen (without gone ws))) 0 t.stacks (λ j. sym (blocked_without gone ws j)))
+    ∙ all_run_again (threads_of gone) (is_blocked ws) t.stacks
+    ∙ ap (λ ss. record { states = ss; stacks = t.stacks }) (states_same (λ j. is_blocked ws j && not (list_any (λ i. i == j) (threads_of gone))) (is_blocked (without gone ws)) 0 t.stacks (λ j. sym (blocked_without gone ws j)))
 
 pub woken_sound : (t u : Threads) (es : List Entry) (owns : List Scalar) (room : ℕ) (gone ws new : List Waiter) → IsSound t.states t.stacks es owns room ws → u ≡ all_running (threads_of gone) t → new ≡ without gone ws → IsSound u.states u.stacks es owns room new
 woken_sound t u es owns room gone ws new sound e f =
@@ -387,29 +313,23 @@ woken_sound t u es owns room gone ws new sound e f =
       below = below_filter (length t.stacks) (λ w. not (list_any (is_of w.thread) gone)) ws sound.below;
     })
 
-pub woken_seen : (t u : Threads) (es : List Entry) (owns : List Scalar) (room : ℕ) (gone ws new : List Waiter) (s : Seats) → seats_seen t.stacks owns es ws ≡ s → IsSound t.states t.stacks es owns room ws → u ≡ all_running (threads_of gone) t → new ≡ without gone ws → seats_seen u.stacks owns es new ≡ record s { waiters = model.without (waiters_seen gone) s.waiters }
+pub woken_seen : (t u : Threads) (es : List Entry) (owns : List Scalar) (room : ℕ) (gone ws new : List Waiter) (s : Seats) → seats_seen t.stacks owns es ws ≡ s → IsSound t.states t.stacks es owns room ws → u ≡ all_running (threads_of gone) t → new ≡ without gone ws → seats_seen u.stacks owns es new ≡ record s { waiters = without gone s.waiters }
 woken_seen t u es owns room gone ws new s v sound e f =
     let now = e ∙ woken_states t gone ws sound.states_fit in
     ap (λ (x : Threads). seats_seen x.stacks owns es new) now
-    ∙ ap (λ vs. record { threads = threads_seen t.stacks owns; stacks = stacks_seen t.stacks es; waiters = vs }) (ap waiters_seen f ∙ sym (without_seen gone ws))
-    ∙ ap (λ (x : Seats). record x { waiters = model.without (waiters_seen gone) x.waiters }) v
+    ∙ ap (λ vs. record { threads = threads_seen t.stacks owns; stacks = stacks_seen t.stacks es; waiters = vs }) f
+    ∙ ap (λ (x : Seats). record x { waiters = without gone x.waiters }) v
 
 -- those that wait at a cell
 pub woken_made : (t : Threads) (es : List Entry) (owns : List Scalar) (room : ℕ) (ws : List Waiter) (cell : CellId) (many : ℕ) → IsSound t.states t.stacks es owns room ws → AllBelow (length t.states) (threads_of (oldest_at cell many ws))
 woken_made t es owns room ws cell many sound =
-    subst (λ n. AllBelow n (threads_of (oldest_at cell many ws))) (sym (ap length sound.states_fit ∙ many_states (is_blocked (waiters_seen ws)) 0 t.stacks))
+    subst (λ n. AllBelow n (threads_of (oldest_at cell many ws))) (sym (ap length sound.states_fit ∙ many_states (is_blocked ws) 0 t.stacks))
     (below_take (length t.stacks) many (filter (is_at cell) ws) (below_filter (length t.stacks) (is_at cell) ws sound.below))
 
-oldest_told : (bs : List (Option Bound)) (owns : List Scalar) (es : List Entry) (ws : List Waiter) (s : Seats) (cell : CellId) (many : ℕ) → seats_seen bs owns es ws ≡ s → waiters_seen (oldest_at cell many ws) ≡ told.oldest_at cell many s.waiters
-oldest_told bs owns es ws s cell many v = sym (oldest_seen cell many ws) ∙ ap (λ (x : Seats). told.oldest_at cell many x.waiters) v
-
-pub woken_told : (bs : List (Option Bound)) (owns : List Scalar) (es : List Entry) (ws : List Waiter) (s : Seats) (cell : CellId) (many : ℕ) → seats_seen bs owns es ws ≡ s → threads_of (oldest_at cell many ws) ≡ told.threads_of (told.oldest_at cell many s.waiters)
-woken_told bs owns es ws s cell many v = threads_told (oldest_at cell many ws) ∙ ap told.threads_of (oldest_told bs owns es ws s cell many v)
-
-pub others_told : (t u : Threads) (es : List Entry) (owns : List Scalar) (room : ℕ) (ws new : List Waiter) (s : Seats) (cell : CellId) (many : ℕ) → seats_seen t.stacks owns es ws ≡ s → IsSound t.states t.stacks es owns room ws → u ≡ all_running (threads_of (oldest_at cell many ws)) t → new ≡ without (oldest_at cell many ws) ws → seats_seen u.stacks owns es new ≡ record s { waiters = model.without (told.oldest_at cell many s.waiters) s.waiters }
+pub others_told : (t u : Threads) (es : List Entry) (owns : List Scalar) (room : ℕ) (ws new : List Waiter) (s : Seats) (cell : CellId) (many : ℕ) → seats_seen t.stacks owns es ws ≡ s → IsSound t.states t.stacks es owns room ws → u ≡ all_running (threads_of (oldest_at cell many ws)) t → new ≡ without (oldest_at cell many ws) ws → seats_seen u.stacks owns es new ≡ record s { waiters = without (oldest_at cell many s.waiters) s.waiters }
 others_told t u es owns room ws new s cell many v sound e f =
     woken_seen t u es owns room (oldest_at cell many ws) ws new s v sound e f
-    ∙ ap (λ gone. record s { waiters = model.without gone s.waiters }) (oldest_told t.stacks owns es ws s cell many v)
+    ∙ ap (λ (x : Seats). record s { waiters = without (oldest_at cell many x.waiters) s.waiters }) v
 
 -- one thread that waits
 found_thread : (i : ℕ) (ws : List Waiter) (w : Waiter) → find (is_of i) ws ≡ Some w → (w.thread ≡ i) × ((n : ℕ) → AreBelow n ws → i < n)
@@ -428,7 +348,7 @@ some_waiter i ws (Some w) e h n below = (found_thread i ws w e).1 n below
 
 pub stopped_made : (t : Threads) (es : List Entry) (owns : List Scalar) (room : ℕ) (ws : List Waiter) (i : ℕ) → IsSound t.states t.stacks es owns room ws → IsSome (find (is_of i) ws) → i < length t.states
 stopped_made t es owns room ws i sound h =
-    subst (λ n. i < n) (sym (ap length sound.states_fit ∙ many_states (is_blocked (waiters_seen ws)) 0 t.stacks))
+    subst (λ n. i < n) (sym (ap length sound.states_fit ∙ many_states (is_blocked ws) 0 t.stacks))
     (some_waiter i ws (find (is_of i) ws) refl h (length t.stacks) sound.below)
 
 one_running : (t u : Threads) (i : ℕ) (ws : List Waiter) (w : Waiter) → find (is_of i) ws ≡ Some w → u ≡ running t i → u ≡ all_running (threads_of (w ∷ [])) t
@@ -441,11 +361,11 @@ stopped_sound_at t u es owns room ws new i (Some w) k h sound e f = woken_sound 
 pub stopped_sound : (t u : Threads) (es : List Entry) (owns : List Scalar) (room : ℕ) (ws new : List Waiter) (i : ℕ) → IsSome (find (is_of i) ws) → IsSound t.states t.stacks es owns room ws → u ≡ running t i → IfSome (find (is_of i) ws) (λ w. new ≡ without (w ∷ []) ws) → IsSound u.states u.stacks es owns room new
 stopped_sound t u es owns room ws new i h sound e f = stopped_sound_at t u es owns room ws new i (find (is_of i) ws) refl h sound e f
 
-stopped_seen_at : (t u : Threads) (es : List Entry) (owns : List Scalar) (room : ℕ) (ws new : List Waiter) (s : Seats) (i : ℕ) (o : Option Waiter) → find (is_of i) ws ≡ o → seats_seen t.stacks owns es ws ≡ s → IsSound t.states t.stacks es owns room ws → u ≡ running t i → IfSome o (λ w. new ≡ without (w ∷ []) ws) → IfSome (option_map waiter_seen o) (λ w. seats_seen u.stacks owns es new ≡ record s { waiters = model.without (w ∷ []) s.waiters })
+stopped_seen_at : (t u : Threads) (es : List Entry) (owns : List Scalar) (room : ℕ) (ws new : List Waiter) (s : Seats) (i : ℕ) (o : Option Waiter) → find (is_of i) ws ≡ o → seats_seen t.stacks owns es ws ≡ s → IsSound t.states t.stacks es owns room ws → u ≡ running t i → IfSome o (λ w. new ≡ without (w ∷ []) ws) → IfSome o (λ w. seats_seen u.stacks owns es new ≡ record s { waiters = without (w ∷ []) s.waiters })
 stopped_seen_at t u es owns room ws new s i None k v sound e f = tt
 stopped_seen_at t u es owns room ws new s i (Some w) k v sound e f = woken_seen t u es owns room (w ∷ []) ws new s v sound (one_running t u i ws w k e) f
 
-pub stopped_seen : (t u : Threads) (es : List Entry) (owns : List Scalar) (room : ℕ) (ws new : List Waiter) (s : Seats) (i : ℕ) → seats_seen t.stacks owns es ws ≡ s → IsSound t.states t.stacks es owns room ws → u ≡ running t i → IfSome (find (is_of i) ws) (λ w. new ≡ without (w ∷ []) ws) → IfSome (find (model.is_of i) s.waiters) (λ w. seats_seen u.stacks owns es new ≡ record s { waiters = model.without (w ∷ []) s.waiters })
+pub stopped_seen : (t u : Threads) (es : List Entry) (owns : List Scalar) (room : ℕ) (ws new : List Waiter) (s : Seats) (i : ℕ) → seats_seen t.stacks owns es ws ≡ s → IsSound t.states t.stacks es owns room ws → u ≡ running t i → IfSome (find (is_of i) ws) (λ w. new ≡ without (w ∷ []) ws) → IfSome (find (is_of i) s.waiters) (λ w. seats_seen u.stacks owns es new ≡ record s { waiters = without (w ∷ []) s.waiters })
 stopped_seen t u es owns room ws new s i v sound e f =
-    subst (λ (o : Option seen.Waiter). IfSome o (λ w. seats_seen u.stacks owns es new ≡ record s { waiters = model.without (w ∷ []) s.waiters })) (sym (waiter_at t.stacks owns es ws s i v))
+    subst (λ (x : Seats). IfSome (find (is_of i) x.waiters) (λ w. seats_seen u.stacks owns es new ≡ record s { waiters = without (w ∷ []) s.waiters })) v
     (stopped_seen_at t u es owns room ws new s i (find (is_of i) ws) refl v sound e f)

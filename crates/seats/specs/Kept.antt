@@ -10,8 +10,8 @@ use Rattle.stacks.specs.Directories.{Entry}
 use Rattle.mu_threads.specs.Threads.{Threads, there, stack_of, with_stack, with_state, IsLeft}
 use Rattle.mu_threads.specs.declared.state.ThreadState.{ThreadState}
 use Rattle.mu_threads.specs.declared.state.ThreadState.TheVariants.{Runs, Waits, Ended}
-use Rattle.futex.specs.declared.waiters.Waiter as futex
-use Rattle.mu_model.specs.Configuration.{Stack, Ready, Active, Dead, Thread, Waiter}
+use Rattle.futex.specs.declared.waiters.Waiter.{Waiter}
+use Rattle.mu_model.specs.Configuration.{Stack, Ready, Active, Dead, Thread}
 use Rattle.mu_model.specs.Step.{is_blocked}
 use Rattle.seats.specs.Seats.{Seats, Takes}
 
@@ -91,14 +91,6 @@ TakesThere (Some (entries.Ready c waits)) e = (waits ≡ c.top.waits) × Takes (
 TakesThere (Some (entries.Active j)) e = ⊥
 TakesThere (Some entries.Dead) e = ⊥
 
--- ---- waiters
-
-abbrev pub waiter_seen : futex.Waiter → Waiter
-waiter_seen w = record { thread = w.thread; cell = w.cell; timed = w.timed }
-
-abbrev pub waiters_seen : List futex.Waiter → List Waiter
-waiters_seen ws = map waiter_seen ws
-
 -- ---- states: which threads are blocked decides them
 
 abbrev pub state_seen : Bool → Option Bound → ThreadState
@@ -152,12 +144,12 @@ pub record Agree (bs : List (Option Bound)) (es : List Entry) : Type 0 where
   pub active : HasThreads bs es
   pub ready : WaitAtTop es
 
-abbrev pub AreBelow : ℕ → List futex.Waiter → Type 0
+abbrev pub AreBelow : ℕ → List Waiter → Type 0
 AreBelow n [] = Unit {0}
 AreBelow n (w ∷ ws) = (w.thread < n) × AreBelow n ws
 
-pub record IsSound (states : List ThreadState) (bs : List (Option Bound)) (es : List Entry) (owns : List Scalar) (room : ℕ) (ws : List futex.Waiter) : Type 0 where
-  pub states_fit : states ≡ states_seen (is_blocked (waiters_seen ws)) 0 bs
+pub record IsSound (states : List ThreadState) (bs : List (Option Bound)) (es : List Entry) (owns : List Scalar) (room : ℕ) (ws : List Waiter) : Type 0 where
+  pub states_fit : states ≡ states_seen (is_blocked ws) 0 bs
   pub agree : Agree bs es
   pub even : length owns ≡ length bs
   pub few : length bs ≤ 64
@@ -165,5 +157,5 @@ pub record IsSound (states : List ThreadState) (bs : List (Option Bound)) (es : 
   pub below : AreBelow (length bs) ws
 
 -- all that is seen
-abbrev pub seats_seen : List (Option Bound) → List Scalar → List Entry → List futex.Waiter → Seats
-seats_seen bs owns es ws = record { threads = threads_seen bs owns; stacks = stacks_seen bs es; waiters = waiters_seen ws }
+abbrev pub seats_seen : List (Option Bound) → List Scalar → List Entry → List Waiter → Seats
+seats_seen bs owns es ws = record { threads = threads_seen bs owns; stacks = stacks_seen bs es; waiters = ws }

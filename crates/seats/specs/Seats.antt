@@ -1,13 +1,12 @@
 -- Threads on their stacks, and those that wait, in the words of the machine.
-use Rattle.std.specs.Prelude.{◌≡◌, ℕ, not, List, [], ◌∷◌, Option, Some, None, filter, find, map, take, slice_get, option_map, IsSome, IsSomeAnd, if◌then◌else◌}
-use Rattle.heap_cells.specs.declared.cells.CellId.{CellId}
+use Rattle.std.specs.Prelude.{◌≡◌, ℕ, not, List, [], ◌∷◌, Option, Some, None, filter, slice_get, IsSome, IsSomeAnd}
 use Rattle.typed_heap.specs.Places.{with_some}
 use Rattle.frames.specs.Activations.{Activation}
 use Rattle.frames.specs.Handlers.{first_handler}
 use Rattle.stacks.specs.declared.entered.Entered.{Entered}
 use Rattle.stacks.specs.declared.entered.Entered.TheVariants.{Values, Thrown}
-use Rattle.mu_model.specs.Configuration.{Stack, Ready, Active, Dead, Thread, Waiter}
-use Rattle.mu_model.specs.Waiting.{is_at, is_of}
+use Rattle.futex.specs.declared.waiters.Waiter.{Waiter}
+use Rattle.mu_model.specs.Configuration.{Stack, Ready, Active, Dead, Thread}
 use Rattle.mu_model.specs.Step.{threads_from, is_blocked}
 
 -- The threads that were made, by number, each with its stack and its own object; nothing stands where one has ended. The stacks that
@@ -74,24 +73,3 @@ abbrev pub IsActiveOrDead : Stack → Type 0
 IsActiveOrDead (Ready fs) = ⊥
 IsActiveOrDead (Active i fs) = Unit {0}
 IsActiveOrDead Dead = Unit {0}
-
--- where a thread waits that is this waiter, or none
-abbrev pub cell_of : Option Waiter → Option CellId
-cell_of w = option_map (λ (one : Waiter). one.cell) w
-
--- where it waits with a limit
-abbrev pub timed_cell_of : Option Waiter → Option CellId
-timed_cell_of None = None
-timed_cell_of (Some w) = if w.timed then Some w.cell else None
-
-abbrev pub threads_of : List Waiter → List ℕ
-threads_of ws = map (λ (w : Waiter). w.thread) ws
-
--- the oldest that wait at a cell, and so many at most
-abbrev pub oldest_at : CellId → ℕ → List Waiter → List Waiter
-oldest_at cell many ws = take many (filter (is_at cell) ws)
-
--- each thread waits once at most
-abbrev pub AreApart : List Waiter → Type 0
-AreApart [] = Unit {0}
-AreApart (w ∷ ws) = (find (is_of w.thread) ws ≡ None) × AreApart ws

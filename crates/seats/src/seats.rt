@@ -8,9 +8,10 @@ ghost use Rattle.mu_model.specs.Changes.{changed};
 ghost use Rattle.mu_model.specs.EnteringStacks.{on_stack};
 ghost use Rattle.mu_model.specs.Step.{threads_from, with_own};
 ghost use Rattle.std.specs.List.{find};
-ghost use Rattle.mu_model.specs.Waiting.{is_of, without};
+ghost use Rattle.futex.specs.Waiting.{is_of, without, cell_of, timed_cell_of, threads_of, oldest_at};
 ghost use Rattle.mu_model.specs.Turns.{active_on};
-ghost use Rattle.seats.specs.Seats.{AreApart, IsOn, IsReady, IsActiveOrDead, IsReadyFor, WaitsFor, seat_of, runnable_of, left_ready, bound_to, cell_of, timed_cell_of, threads_of, oldest_at};
+ghost use Rattle.futex.specs.Kept.{AreApart};
+ghost use Rattle.seats.specs.Seats.{IsOn, IsReady, IsActiveOrDead, IsReadyFor, WaitsFor, seat_of, runnable_of, left_ready, bound_to};
 
 use crate::asking::{Asks, show};
 use crate::moves::{
@@ -20,10 +21,9 @@ use crate::moves::{
 use crate::waits::{run_again, run_all_again, wait};
 use frames::Frames;
 use futex::{Waiters, Woken};
-use heap_cells::CellId;
 use mu_base::Types;
 use mu_threads::Threads;
-use mu_values::Scalar;
+use mu_values::{CellId, Scalar};
 use stacks::{Directory, Entered, ReadyStack};
 use std::alloc::{AllocError, Global};
 use std::marker::Model;

@@ -6,8 +6,8 @@ ghost use Rattle.mu_threads.specs.Threads.{IsLeft};
 ghost use Rattle.seats.specs.Kept.{waiting_if, running, all_running, HeldAreLeft, AllBelow};
 
 use futex::Waiters;
-use heap_cells::CellId;
 use mu_threads::Threads;
+use mu_values::CellId;
 use std::alloc::AllocError;
 
 /// A thread waits at a cell. A refusal leaves all as it was.

@@ -5,10 +5,9 @@ ghost use Rattle.run_texts.specs.EventTexts.{Text};
 ghost use Rattle.seen_runs.specs.Seen.{global_names};
 ghost use Rattle.seen_runs.specs.Finals.{finals_in};
 
-use bundle_check::Checked;
-use heap_cells::CellId;
+use checked_code::Checked;
 use ir_tree::Item;
-use mu_values::Scalar;
+use mu_values::{CellId, Scalar};
 use std::alloc::{AllocError, Global};
 use text_forms::Listing;
 use typed_heap::Heap;

@@ -7,11 +7,10 @@ ghost use Rattle.seen_runs.specs.Seen.{end_of, line_after, last_after};
 ghost use Rattle.seen_runs.specs.Finals.{line_end, end_lines, final_line, over_text, cut_text, seen_by};
 
 use crate::globals::Final;
-use bundle_check::Checked;
-use heap_cells::CellId;
+use checked_code::Checked;
 use mem_axioms::{Kind, Mode};
 use mu_model::{Ending, Line, Lines, Note};
-use mu_values::Scalar;
+use mu_values::{CellId, Scalar};
 use run_print::{ending_text, ending_words, record_text, spaced_kind, spaced_scalar};
 use std::alloc::AllocError;
 

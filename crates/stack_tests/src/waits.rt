@@ -2,7 +2,7 @@
 ghost use Rattle.std.specs.Prelude.{◌≡◌, ◌+◌, ◌<◌, ◌≤◌, []};
 
 use futex::Waiters;
-use heap_cells::CellId;
+use mu_values::CellId;
 use std::alloc::AllocError;
 use std::process::Abort;
 use std::test::Fail;

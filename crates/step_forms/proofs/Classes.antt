@@ -5,37 +5,37 @@ use Rattle.std.specs.Prelude.{slice_get, IfOk}
 use Rattle.std.specs.declared.alloc.AllocError.{AllocError}
 use Rattle.demands.specs.Demands.{first_unmet}
 use Rattle.ir_tree.specs.declared.items.Item.{Item}
-use Rattle.type_laws.specs.declared.definition.TypeDef.{TypeDef}
+use Rattle.type_definitions.specs.declared.definition.TypeDef.{TypeDef}
 use Rattle.mu_values.specs.declared.scalars.Scalar.{Scalar}
 use Rattle.mu_values.specs.declared.scalars.Scalar.TheVariants as scalars
 use Rattle.bundle_names.specs.Naming.{name_demands}
-use Rattle.code_check.specs.declared.code.ComputationForm.{ComputationForm}
-use Rattle.code_check.specs.declared.code.ComputationForm.TheVariants as computing
-use Rattle.code_check.specs.declared.code.ControlForm.{ControlForm}
-use Rattle.code_check.specs.declared.code.ControlForm.TheVariants as going
-use Rattle.code_check.specs.declared.code.AllocationForm.{AllocationForm}
-use Rattle.code_check.specs.declared.code.AllocationForm.TheVariants as making
-use Rattle.code_check.specs.declared.code.AddressingForm.{AddressingForm}
-use Rattle.code_check.specs.declared.code.AddressingForm.TheVariants as finding
-use Rattle.code_check.specs.declared.code.AccessForm.{AccessForm}
-use Rattle.code_check.specs.declared.code.AccessForm.TheVariants as accessing
-use Rattle.code_check.specs.declared.code.TrappingForm.{TrappingForm}
-use Rattle.code_check.specs.declared.code.TrappingForm.TheVariants as asking
-use Rattle.code_check.specs.declared.code.SwitchForm.{SwitchForm}
-use Rattle.code_check.specs.declared.code.SwitchForm.TheVariants as switching
-use Rattle.code_check.specs.declared.code.CommonForm.{CommonForm}
-use Rattle.code_check.specs.declared.code.CommonForm.TheVariants as commons
-use Rattle.code_check.specs.declared.code.Form.{Form}
-use Rattle.code_check.specs.declared.code.Form.TheVariants as forms
-use Rattle.code_check.specs.declared.code.Code.{Code}
-use Rattle.code_check.specs.Typed.{Blocks, HasType, HaveValueTypes, ComputationFits, AllocationFits, AddressingFits, TrappingFits, FormFits}
-use Rattle.code_check.proofs.TypedEndings.{code_at}
-use Rattle.bundle_check.specs.declared.code.BlockCode.{BlockCode}
-use Rattle.bundle_check.specs.Functions.{body_of}
-use Rattle.bundle_check.specs.Checking.{bundle_tables, bundle_blocks, check_demands}
+use Rattle.checked_code.specs.declared.code.ComputationForm.{ComputationForm}
+use Rattle.checked_code.specs.declared.code.ComputationForm.TheVariants as computing
+use Rattle.checked_code.specs.declared.code.ControlForm.{ControlForm}
+use Rattle.checked_code.specs.declared.code.ControlForm.TheVariants as going
+use Rattle.checked_code.specs.declared.code.AllocationForm.{AllocationForm}
+use Rattle.checked_code.specs.declared.code.AllocationForm.TheVariants as making
+use Rattle.checked_code.specs.declared.code.AddressingForm.{AddressingForm}
+use Rattle.checked_code.specs.declared.code.AddressingForm.TheVariants as finding
+use Rattle.checked_code.specs.declared.code.AccessForm.{AccessForm}
+use Rattle.checked_code.specs.declared.code.AccessForm.TheVariants as accessing
+use Rattle.checked_code.specs.declared.code.TrappingForm.{TrappingForm}
+use Rattle.checked_code.specs.declared.code.TrappingForm.TheVariants as asking
+use Rattle.checked_code.specs.declared.code.SwitchForm.{SwitchForm}
+use Rattle.checked_code.specs.declared.code.SwitchForm.TheVariants as switching
+use Rattle.checked_code.specs.declared.code.CommonForm.{CommonForm}
+use Rattle.checked_code.specs.declared.code.CommonForm.TheVariants as commons
+use Rattle.checked_code.specs.declared.code.Form.{Form}
+use Rattle.checked_code.specs.declared.code.Form.TheVariants as forms
+use Rattle.checked_code.specs.declared.code.Code.{Code}
+use Rattle.bundle_laws.specs.Typed.{Blocks, HasType, HaveValueTypes, ComputationFits, AllocationFits, AddressingFits, TrappingFits, FormFits}
+use Rattle.bundle_laws.proofs.TypedEndings.{code_at}
+use Rattle.checked_code.specs.declared.blocks.BlockCode.{BlockCode}
+use Rattle.checked_code.specs.Functions.{body_of}
+use Rattle.checked_code.specs.Checking.{bundle_tables, bundle_blocks, check_demands}
 use Rattle.bundle_laws.specs.Accepted.{CodeOf, blocks_from, head_classes}
 use Rattle.bundle_laws.proofs.Numbered.{code_fits}
-use Rattle.heap_cells.specs.declared.cells.CellId.{CellId}
+use Rattle.mu_values.specs.declared.cells.CellId.{CellId}
 use Rattle.typed_heap.specs.Places.{with_some, Way, Field, Element, Shift, VarPart}
 use Rattle.frames.specs.Activations.{Value, Goal}
 use Rattle.mu_model.specs.Acts as acts

@@ -2,20 +2,20 @@
 -- of, are those of types of the graph.
 use Rattle.std.specs.Prelude.{◌≡◌, ℕ, ◌<◌, List, Some, length, slice_get}
 use Rattle.std.specs.List.{All}
-use Rattle.type_laws.specs.declared.definition.TypeDef.{TypeDef}
-use Rattle.code_check.specs.declared.code.ComputationForm.{ComputationForm}
-use Rattle.code_check.specs.declared.code.ComputationForm.TheVariants as computing
-use Rattle.code_check.specs.declared.code.AllocationForm.{AllocationForm}
-use Rattle.code_check.specs.declared.code.AllocationForm.TheVariants as making
-use Rattle.code_check.specs.declared.code.AddressingForm.{AddressingForm}
-use Rattle.code_check.specs.declared.code.AddressingForm.TheVariants as finding
-use Rattle.code_check.specs.declared.code.TrappingForm.{TrappingForm}
-use Rattle.code_check.specs.declared.code.TrappingForm.TheVariants as asking
-use Rattle.code_check.specs.declared.code.Form.{Form}
-use Rattle.code_check.specs.declared.code.Form.TheVariants as forms
-use Rattle.code_check.specs.declared.code.Code.{Code}
-use Rattle.bundle_check.specs.declared.code.BlockCode.{BlockCode}
-use Rattle.bundle_check.specs.Checking.{bundle_tables, bundle_blocks}
+use Rattle.type_definitions.specs.declared.definition.TypeDef.{TypeDef}
+use Rattle.checked_code.specs.declared.code.ComputationForm.{ComputationForm}
+use Rattle.checked_code.specs.declared.code.ComputationForm.TheVariants as computing
+use Rattle.checked_code.specs.declared.code.AllocationForm.{AllocationForm}
+use Rattle.checked_code.specs.declared.code.AllocationForm.TheVariants as making
+use Rattle.checked_code.specs.declared.code.AddressingForm.{AddressingForm}
+use Rattle.checked_code.specs.declared.code.AddressingForm.TheVariants as finding
+use Rattle.checked_code.specs.declared.code.TrappingForm.{TrappingForm}
+use Rattle.checked_code.specs.declared.code.TrappingForm.TheVariants as asking
+use Rattle.checked_code.specs.declared.code.Form.{Form}
+use Rattle.checked_code.specs.declared.code.Form.TheVariants as forms
+use Rattle.checked_code.specs.declared.code.Code.{Code}
+use Rattle.checked_code.specs.declared.blocks.BlockCode.{BlockCode}
+use Rattle.checked_code.specs.Checking.{bundle_tables, bundle_blocks}
 use Rattle.model_numbers.specs.Laws.{OfAccepted}
 use Rattle.step_forms.specs.declared.act.Act.{Act}
 use Rattle.step_forms.specs.declared.act.Act.TheVariants as made

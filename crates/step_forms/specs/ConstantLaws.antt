@@ -4,18 +4,18 @@ use Rattle.std.proofs.Common.{arith, ap, subst, sym, ◌∙◌}
 use Rattle.std.proofs.lemmas.List.{length-map}
 use Rattle.ir_tree.specs.declared.items.Item.{Item}
 use Rattle.ir_tree.specs.declared.items.Item.TheVariants as items
-use Rattle.type_laws.specs.declared.definition.TypeDef.{TypeDef}
+use Rattle.type_definitions.specs.declared.definition.TypeDef.{TypeDef}
 use Rattle.mu_types.specs.Graph.{Table}
 use Rattle.mu_values.specs.declared.scalars.Scalar.{Scalar}
 use Rattle.mu_values.specs.Constants.{constant_value}
 use Rattle.bundle_names.specs.declared.globals.Globals.{Globals}
 use Rattle.bundle_names.specs.Globals.{globals_of}
-use Rattle.bundle_tables.specs.Entries.{tables_of, constant_entries}
-use Rattle.bundle_tables.specs.Graph.{table_of}
-use Rattle.bundle_constants.specs.declared.constants.Constant.{Constant}
-use Rattle.bundle_constants.specs.Values.{values_to, told}
-use Rattle.bundle_constants.specs.Bundle.{constants_of, constant_values}
-use Rattle.bundle_check.specs.Checking.{bundle_tables}
+use Rattle.checked_code.specs.Entries.{tables_of, constant_entries}
+use Rattle.checked_code.specs.Graph.{table_of}
+use Rattle.checked_code.specs.declared.constants.Constant.{Constant}
+use Rattle.checked_code.specs.ConstantValues.{values_to, told}
+use Rattle.checked_code.specs.Constants.{constants_of, constant_values}
+use Rattle.checked_code.specs.Checking.{bundle_tables}
 use Rattle.step_forms.specs.OperandLaws.{is_some_within}
 
 entries_and_constants : (t : Table) (g h : Globals) (is : List Item) → length (constants_of h is) ≡ length (constant_entries t g is)

@@ -5,7 +5,7 @@ use Rattle.std.proofs.lemmas.List.{take_more}
 use Rattle.std.proofs.lemmas.Option.{slice_get_within, get_or_from_slice_get}
 use Rattle.ir_tree.specs.declared.items.Item.{Item}
 use Rattle.check_tables.specs.declared.tables.Tables.{Tables}
-use Rattle.code_check.specs.declared.code.Source.{Source}
+use Rattle.checked_code.specs.declared.code.Source.{Source}
 use Rattle.frames.specs.Activations.{Value}
 use Rattle.model_numbers.specs.Sources.{value_at, values_at, class_at, classes_at}
 use Rattle.mu_model.specs.Operands.{all_some}

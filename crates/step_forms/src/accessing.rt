@@ -9,12 +9,10 @@ use crate::access::Access;
 use crate::act::Act;
 use crate::operands::scalar;
 use crate::variables::Variables;
-use bundle_check::Checked;
-use code_check::Source;
-use heap_cells::CellId;
+use checked_code::{Checked, Source};
 use mu_base::{Order, UpdateOp};
 use mu_model::Case;
-use mu_values::Scalar;
+use mu_values::{CellId, Scalar};
 
 /// What is done with the cell at a place.
 #[tactic(auto, using(crate::specs::AccessLaws::cells))]

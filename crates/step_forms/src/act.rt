@@ -2,10 +2,9 @@
 use crate::access::Access;
 use crate::entering::Entering;
 use crate::way::Way;
-use heap_cells::CellId;
 use mu_base::Order;
 use mu_model::Case;
-use mu_values::Scalar;
+use mu_values::{CellId, Scalar};
 
 /// What an instruction does, once its operands are read. Types stand by class, blocks and functions by number; the values and classes
 /// that go with an act stand in the room that its operands were read into.

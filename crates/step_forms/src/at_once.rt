@@ -2,7 +2,7 @@
 // that decide the first two are inlined, so that a scalar is not copied on its way from one to the next.
 ghost use Rattle.std.specs.Prelude.{◌≡◌, [], ◌∷◌, Some, IsSome, IfSome};
 ghost use Rattle.mu_model.specs.Acts as acts;
-ghost use Rattle.code_check.specs.declared.code.Form.TheVariants.{Control};
+ghost use Rattle.checked_code.specs.declared.code.Form.TheVariants.{Control};
 ghost use Rattle.model_numbers.specs.Forms.{computation_at, control_at, act_at};
 ghost use Rattle.step_forms.specs.Asked.{lists_of};
 ghost use Rattle.step_forms.specs.AtOnce.{decided};
@@ -14,8 +14,7 @@ use crate::control::{SwitchOperands, arrive, arrive_at_one, called, returned};
 use crate::frame_view::FrameView;
 use crate::room::Room;
 use crate::variables::Variables;
-use bundle_check::Checked;
-use code_check::{ComputationForm, ControlForm, Form};
+use checked_code::{Checked, ComputationForm, ControlForm, Form};
 use mu_values::{Scalar, Slots};
 
 /// What an instruction does, where it is decided at once. It is small, so that a step may be made of it without a copy of a whole act.

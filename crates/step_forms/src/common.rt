@@ -9,11 +9,9 @@ ghost use Rattle.step_forms.specs.Asked.{asked, Lists};
 use crate::act::Act;
 use crate::operands::scalar;
 use crate::variables::Variables;
-use bundle_check::Checked;
-use code_check::Source;
-use heap_cells::CellId;
+use checked_code::{Checked, Source};
 use mu_model::Case;
-use mu_values::Scalar;
+use mu_values::{CellId, Scalar};
 
 /// `@uvm.new_stack`
 #[tactic(auto, using(crate::specs::OperandLaws::functions))]

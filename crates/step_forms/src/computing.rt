@@ -1,6 +1,6 @@
 // Computations.
 ghost use Rattle.std.specs.Prelude.{◌≡◌, ℕ, ◌≤◌, [], ◌∷◌, Some, IsSome, IfOk};
-ghost use Rattle.bundle_check.specs.Checking.{bundle_tables};
+ghost use Rattle.checked_code.specs.Checking.{bundle_tables};
 ghost use Rattle.typed_heap.specs.Places.{with_some};
 ghost use Rattle.mu_model.specs.Acts as acts;
 ghost use Rattle.mu_model.specs.Types.{class_width};
@@ -14,8 +14,7 @@ use crate::operands::{is_one, read, scalar, scalars};
 use crate::parts::{StructField, divided};
 use crate::room::Room;
 use crate::variables::Variables;
-use bundle_check::Checked;
-use code_check::Source;
+use checked_code::{Checked, Source};
 use mu_base::{BinaryOp, CompareOp, ConvertOp};
 use mu_model::Case;
 use mu_types::TypeDef;

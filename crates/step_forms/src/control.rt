@@ -1,7 +1,7 @@
 // Instructions that say where the function goes on, or that enter or leave one.
 ghost use Rattle.std.specs.Prelude.{◌≡◌, map, Some, IsSome, IfSome, IfOk, OnOk};
 ghost use Rattle.mu_values.specs.SameScalar.{same_scalar};
-ghost use Rattle.bundle_check.specs.Checking.{bundle_tables};
+ghost use Rattle.checked_code.specs.Checking.{bundle_tables};
 ghost use Rattle.typed_heap.specs.Places.{with_some};
 ghost use Rattle.mu_model.specs.Acts as acts;
 ghost use Rattle.mu_model.specs.ControlForms.{branch_act, branch2_act, switch_act, call_act, tailcall_act, ret_act, throw_act};
@@ -14,8 +14,7 @@ use crate::act::Act;
 use crate::operands::{constant, is_one, lent, read_classes, read_goal, read_values, scalar};
 use crate::room::Room;
 use crate::variables::Variables;
-use bundle_check::Checked;
-use code_check::{CaseForm, Source, Target};
+use checked_code::{CaseForm, Checked, Source, Target};
 use mu_model::Case;
 use mu_values::{Scalar, Slots};
 use std::alloc::AllocError;

@@ -1,6 +1,6 @@
 // What an instruction does.
 ghost use Rattle.std.specs.Prelude.{◌≡◌, true, Some, IsSome, IfOk};
-ghost use Rattle.bundle_check.specs.Checking.{bundle_tables};
+ghost use Rattle.checked_code.specs.Checking.{bundle_tables};
 ghost use Rattle.model_numbers.specs.Forms.{computation_at, control_at, allocation_at, addressing_at, access_at, trapping_at, switch_at, common_at, act_at};
 ghost use Rattle.step_forms.specs.Asked.{asked, lists_of, Lists};
 ghost use Rattle.step_forms.specs.Classes.{ActIsThere, FormIsThere};
@@ -18,10 +18,9 @@ use crate::room::Room;
 use crate::stack_forms::{newthread, swap_killing, swap_returning};
 use crate::trapping::{trap, watchpoint, wpbranch};
 use crate::variables::Variables;
-use bundle_check::Checked;
-use code_check::{
-    AccessForm, AddressingForm, AllocationForm, CommonForm, ComputationForm, ControlForm, Form,
-    SwitchForm, TrappingForm,
+use checked_code::{
+    AccessForm, AddressingForm, AllocationForm, Checked, CommonForm, ComputationForm, ControlForm,
+    Form, SwitchForm, TrappingForm,
 };
 use std::alloc::AllocError;
 

@@ -1,7 +1,7 @@
 // Instructions that make objects, and those that find places in them.
 ghost use Rattle.std.specs.Prelude.{◌≡◌, Some, IsSome};
 ghost use Rattle.mu_values.specs.Integers.{IsInteger, signed};
-ghost use Rattle.bundle_check.specs.Checking.{bundle_tables};
+ghost use Rattle.checked_code.specs.Checking.{bundle_tables};
 ghost use Rattle.mu_model.specs.ObjectForms.{newhybrid_act, getiref_act, getfieldiref_act, getelemiref_act, shiftiref_act, getvarpartiref_act};
 ghost use Rattle.model_numbers.specs.Sources.{value_at};
 ghost use Rattle.step_forms.specs.Asked.{asked, Lists};
@@ -10,8 +10,7 @@ use crate::act::Act;
 use crate::operands::scalar;
 use crate::variables::Variables;
 use crate::way::Way;
-use bundle_check::Checked;
-use code_check::Source;
+use checked_code::{Checked, Source};
 use mu_model::Case;
 use mu_values::Scalar;
 

@@ -1,7 +1,7 @@
 // The values of operands, and their classes.
 ghost use Rattle.std.specs.Prelude.{◌≡◌, ◌<◌, [], ◌∷◌, ◌++◌, Some, IsSome, IsSomeAnd, OnOk, OnErr, length, map, slice_get};
-ghost use Rattle.bundle_constants.specs.Bundle.{constant_values};
-ghost use Rattle.bundle_check.specs.Checking.{bundle_tables};
+ghost use Rattle.checked_code.specs.Constants.{constant_values};
+ghost use Rattle.checked_code.specs.Checking.{bundle_tables};
 ghost use Rattle.check_tables.specs.Lookups.{funcref_of, signature_in};
 ghost use Rattle.mu_model.specs.Operands.{scalar_in, bits_in, all_some};
 ghost use Rattle.mu_model.specs.ComputationForms.{bit};
@@ -10,9 +10,8 @@ ghost use Rattle.model_numbers.specs.Numbered.{kept_at};
 ghost use Rattle.step_forms.specs.Reading.{scalars_read};
 
 use crate::variables::Variables;
-use bundle_check::Checked;
 use check_tables::{Signature, Tables};
-use code_check::{Source, Target};
+use checked_code::{Checked, Source, Target};
 use mu_base::Types;
 use mu_values::{Scalar, Slots};
 use std::alloc::AllocError;

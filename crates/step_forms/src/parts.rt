@@ -1,14 +1,14 @@
 // Parts of the values of structs.
 ghost use Rattle.std.specs.Prelude.{◌≡◌, ◌+◌, ◌<◌, ◌≤◌, Some, IsSome, IsSomeAnd, length, slice_get, take, drop};
 ghost use Rattle.std.specs.List.{All};
-ghost use Rattle.type_laws.specs.Same.{IsGraph};
+ghost use Rattle.type_definitions.specs.Same.{IsGraph};
 ghost use Rattle.check_tables.specs.TypeTests.{fields_of};
-ghost use Rattle.bundle_check.specs.Checking.{bundle_tables};
+ghost use Rattle.checked_code.specs.Checking.{bundle_tables};
 ghost use Rattle.typed_heap.specs.Objects.{leaf_classes};
 ghost use Rattle.typed_heap.specs.Places.{leaves_together};
 ghost use Rattle.mu_model.specs.ComputationForms.{part_of};
 
-use bundle_check::Checked;
+use checked_code::Checked;
 use mu_types::{Classes, TypeDef};
 use mu_values::Scalar;
 

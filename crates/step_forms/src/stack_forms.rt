@@ -9,8 +9,7 @@ use crate::entering::Entering;
 use crate::operands::{copy_classes, read_values, scalar};
 use crate::room::Room;
 use crate::variables::Variables;
-use bundle_check::Checked;
-use code_check::{Entered, Source};
+use checked_code::{Checked, Entered, Source};
 use mu_values::Scalar;
 use std::alloc::AllocError;
 

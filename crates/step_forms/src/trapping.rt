@@ -9,8 +9,7 @@ use crate::act::Act;
 use crate::operands::{copy_classes, read_goal};
 use crate::room::Room;
 use crate::variables::Variables;
-use bundle_check::Checked;
-use code_check::Target;
+use checked_code::{Checked, Target};
 use std::alloc::AllocError;
 
 /// TRAP

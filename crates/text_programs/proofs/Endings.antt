@@ -10,7 +10,7 @@ use Rattle.mu_values.specs.declared.scalars.Scalar.{Scalar}
 use Rattle.mu_values.specs.declared.scalars.Scalar.TheVariants as scalars
 use Rattle.mu_values.specs.SameScalar.{same_scalar}
 use Rattle.mu_values.specs.Slots.{TypedValues}
-use Rattle.heap_cells.specs.declared.cells.CellId.{CellId}
+use Rattle.mu_values.specs.declared.cells.CellId.{CellId}
 use Rattle.typed_heap.specs.Objects.{HeapObject}
 use Rattle.typed_heap.specs.Places.{with_some}
 use Rattle.frames.specs.Activations.{Activation, Goal}
@@ -42,7 +42,8 @@ use Rattle.mu_threads.specs.Picks.{pick}
 use Rattle.mu_model.specs.Changes.{event, noted}
 use Rattle.mu_model.specs.Clients as clients
 use Rattle.mu_model.specs.Clients.{Answer, Classed, Client, Exit, Rebind, Reply, Resume, With}
-use Rattle.mu_model.specs.Configuration.{Active, Configuration, Dead, Ready, Stack, Thread, Waiter}
+use Rattle.futex.specs.declared.waiters.Waiter.{Waiter}
+use Rattle.mu_model.specs.Configuration.{Active, Configuration, Dead, Ready, Stack, Thread}
 use Rattle.mu_model.specs.EnteringStacks.{entered, entering, leaving, most_threads, ready, started}
 use Rattle.mu_model.specs.Exceptions.{EnteredFrames, returns}
 use Rattle.mu_model.specs.Frames.{passed}
@@ -54,7 +55,8 @@ use Rattle.mu_model.specs.Step.{ends_or_picks, performed, picked, picking_thread
 use Rattle.mu_model.specs.Edits.{edited}
 use Rattle.mu_model.specs.Traps.{answered, edits, entering_of, enters_by, goes, is_watched, replied, taken, trap_note, trapped}
 use Rattle.mu_model.specs.Turns.{Turn, active_on, turn_at, turn_of, waiting}
-use Rattle.mu_model.specs.Waiting.{found_another, futex_waits, futex_wakes, is_of, waits_at}
+use Rattle.futex.specs.Waiting.{is_of}
+use Rattle.mu_model.specs.Waiting.{found_another, futex_waits, futex_wakes, waits_at}
 use Rattle.model_laws.specs.Places.{Places}
 use Rattle.model_laws.specs.ThreadsFit.{IsOn}
 use Rattle.model_laws.specs.WellTyped.{WellTyped}

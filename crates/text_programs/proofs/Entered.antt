@@ -2,10 +2,10 @@
 use Rattle.std.proofs.Common.{◌≡◌, refl, ◌∙◌, subst, ℕ, Bool, true, false, List, [], ◌∷◌, Option, Some, None, slice_get, if◌then◌else◌}
 use Rattle.std.specs.Prelude.{is_some, Ok, Err}
 use Rattle.ir_tree.specs.declared.items.Item.{Item}
-use Rattle.bundle_check.specs.declared.code.Function.{Function}
-use Rattle.bundle_check.specs.declared.fault.EntryFault.TheVariants.{BadSignature, NoBody}
-use Rattle.bundle_check.specs.Checking.{bundle_tables, bundle_functions}
-use Rattle.bundle_check.specs.Answers.{find, function_number, entry_of, entry, takes_nothing, first_in}
+use Rattle.checked_code.specs.declared.blocks.Function.{Function}
+use Rattle.checked_code.specs.declared.fault.EntryFault.TheVariants.{BadSignature, NoBody}
+use Rattle.checked_code.specs.Checking.{bundle_tables, bundle_functions}
+use Rattle.checked_code.specs.Answers.{find, function_number, entry_of, entry, takes_nothing, first_in}
 use Rattle.check_tables.specs.Lookups.{signature_in, takes_of, noted_classes}
 use Rattle.typed_heap.specs.Places.{with_some}
 use Rattle.mu_model.specs.Types.{classes_taken}

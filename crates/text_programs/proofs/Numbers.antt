@@ -15,12 +15,13 @@ use Rattle.mu_model.specs.Answers.{advanced, answer_of}
 use Rattle.mu_threads.specs.Picks.{pick}
 use Rattle.mu_model.specs.Changes.{event}
 use Rattle.mu_model.specs.Clients.{Client}
-use Rattle.mu_model.specs.Configuration.{Configuration, Waiter}
+use Rattle.futex.specs.declared.waiters.Waiter.{Waiter}
+use Rattle.mu_model.specs.Configuration.{Configuration}
 use Rattle.mu_model.specs.Outcomes.{Asks, End, Next, Outcome, Stuck}
 use Rattle.mu_model.specs.Run.{Breaks, Ends, Run, Unfinished, begins_in, behind, client_answers, first_configuration, goes_on, run, run_from, with_client}
 use Rattle.mu_model.specs.Step.{ends_or_picks, picked, picking_thread, runnable, step, threads_from, turned, turns}
 use Rattle.mu_model.specs.Turns.{Turn, turn_of}
-use Rattle.mu_model.specs.Waiting.{is_of}
+use Rattle.futex.specs.Waiting.{is_of}
 use Rattle.text_programs.proofs.Endings.{told_on, EachEnd, ends_at, ends_on, next_ends, performed_ends}
 use Rattle.text_programs.specs.Numbers.{Numbered, RunsAreNumbered}
 use Rattle.text_programs.proofs.RunLogs.{NumbersAreRight, notes_right, next_told}

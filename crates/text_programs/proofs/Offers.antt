@@ -9,8 +9,8 @@ use Rattle.mu_base.specs.declared.order.Order.TheVariants.{Relaxed}
 use Rattle.mu_values.specs.declared.scalars.Scalar.{Scalar}
 use Rattle.mu_values.specs.SameScalar.{same_scalar}
 use Rattle.mu_values.specs.ScalarLaws.{same_scalar-refl, same_scalar-true}
-use Rattle.heap_cells.specs.declared.cells.CellId.{CellId}
-use Rattle.heap_cells.specs.CellLaws.{same_cell-refl}
+use Rattle.mu_values.specs.declared.cells.CellId.{CellId}
+use Rattle.mu_values.specs.CellLaws.{same_cell-refl}
 use Rattle.typed_heap.specs.declared.faults.PlaceFault.{PlaceFault}
 use Rattle.typed_heap.specs.Places.{cell_in, with_some}
 use Rattle.frames.specs.Activations.{Activation}
@@ -42,7 +42,8 @@ use Rattle.mu_model.specs.Changes.{event}
 use Rattle.mu_model.specs.Accesses.{access_results, accessed, initial, kind_of, picking_option, raced, takes_option, updated, wanted}
 use Rattle.mu_model.specs.Outcomes.{End, Outcome, on, onto, or_case, tried}
 use Rattle.mu_model.specs.Frames.{passed}
-use Rattle.mu_model.specs.Waiting.{found_another, is_of, waited, waits_at}
+use Rattle.futex.specs.Waiting.{is_of}
+use Rattle.mu_model.specs.Waiting.{found_another, waited, waits_at}
 use Rattle.mu_model.specs.Step.{ends_or_picks, is_blocked, performed, picked, picking_thread, runnable, step, threads_from, turned, turns}
 use Rattle.model_laws.proofs.Accessing.{pick_below}
 use Rattle.model_laws.proofs.Basics.{some_below}

@@ -7,7 +7,7 @@ use Rattle.mu_values.specs.declared.scalars.Scalar.{Scalar}
 use Rattle.mu_values.specs.declared.scalars.Scalar.TheVariants as scalars
 use Rattle.mu_values.specs.SameScalar.{same_scalar}
 use Rattle.mu_values.specs.Slots.{TypedValues}
-use Rattle.heap_cells.specs.declared.cells.CellId.{CellId}
+use Rattle.mu_values.specs.declared.cells.CellId.{CellId}
 use Rattle.typed_heap.specs.Objects.{leaf_classes}
 use Rattle.typed_heap.specs.Heap.{hybrid_classes}
 use Rattle.typed_heap.specs.Places.{with_some}
@@ -35,7 +35,8 @@ use Rattle.mu_threads.specs.Picks.{pick}
 use Rattle.mu_model.specs.Changes.{event, frames_end, logged, noted, stack_becomes, stack_dies, thread_changes}
 use Rattle.mu_model.specs.Clients as clients
 use Rattle.mu_model.specs.Clients.{Answer, Classed, Client, Exit, Rebind, Reply, Resume, With}
-use Rattle.mu_model.specs.Configuration.{Active, Configuration, Ready, Waiter}
+use Rattle.futex.specs.declared.waiters.Waiter.{Waiter}
+use Rattle.mu_model.specs.Configuration.{Active, Configuration, Ready}
 use Rattle.mu_model.specs.EnteringStacks.{entered, entering, enters, leaving, most_threads, ready, started}
 use Rattle.mu_model.specs.Exceptions.{EnteredFrames, returns}
 use Rattle.mu_model.specs.Frames.{fresh_frame, passed}
@@ -49,7 +50,8 @@ use Rattle.mu_model.specs.Edits.{edited}
 use Rattle.mu_model.specs.Traps.{answered, edits, entering_of, enters_by, goes, is_watched, replied, taken, trap_note, trapped}
 use Rattle.mu_model.specs.Turns.{Turn, turn_of, waiting}
 use Rattle.mu_model.specs.Types.{type_graph}
-use Rattle.mu_model.specs.Waiting.{found_another, futex_waits, is_of, wakes_all, wakes_one, wakes_these, was_woken, waits_at, without}
+use Rattle.futex.specs.Waiting.{is_of, without}
+use Rattle.mu_model.specs.Waiting.{found_another, futex_waits, wakes_all, wakes_one, wakes_these, was_woken, waits_at}
 use Rattle.model_laws.proofs.Counting.{Every, every_on}
 use Rattle.text_programs.specs.Moments.{Reaches, here, onward, EndsSoundly, IsSoundEnding, log_behind}
 use Rattle.text_programs.specs.RunLogs.{LinesTellTheLog, RunsOfTextsLeaveSoundLogs, IsLeftBy, RuleStays, log_of_steps}

@@ -4,8 +4,8 @@ use Rattle.demands.specs.Demands.{first_unmet}
 use Rattle.ir_tree.specs.declared.items.Item.{Item}
 use Rattle.ir_text.specs.TextAnswers.{IsAnswer}
 use Rattle.bundle_names.specs.Naming.{name_demands}
-use Rattle.bundle_check.specs.Checking.{bundle_tables, check_demands}
-use Rattle.bundle_check.specs.Answers.{entry}
+use Rattle.checked_code.specs.Checking.{bundle_tables, check_demands}
+use Rattle.checked_code.specs.Answers.{entry}
 use Rattle.mu_model.specs.Types.{classes_taken}
 use Rattle.mu_model.specs.Configuration.{Configuration}
 use Rattle.mu_model.specs.Programs.{named}

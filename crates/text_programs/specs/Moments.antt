@@ -3,8 +3,8 @@ use Rattle.std.specs.Prelude.{◌≡◌, ◌≢◌, ◌≤◌, ◌<◌, ◌+◌,
 use Rattle.mu_base.specs.declared.order.Order.{Order}
 use Rattle.ir_tree.specs.declared.items.Item.{Item}
 use Rattle.mu_values.specs.declared.scalars.Scalar.{Scalar}
-use Rattle.heap_cells.specs.declared.cells.CellId.{CellId}
-use Rattle.bundle_check.specs.Answers.{entry}
+use Rattle.mu_values.specs.declared.cells.CellId.{CellId}
+use Rattle.checked_code.specs.Answers.{entry}
 use Rattle.mem_axioms.specs.Axioms.{meets_axioms}
 use Rattle.mem_axioms.specs.Races.{Racing}
 use Rattle.mem_axioms.specs.Logs.{event_at, past_of}

@@ -2,7 +2,7 @@
 use Rattle.std.specs.Prelude.{◌≡◌, ◌↔◌, ℕ, suc, Bool, true, false, List, ◌∷◌, Some, None, Ok, ◌==◌, find, slice_get, if◌then◌else◌}
 use Rattle.mu_base.specs.declared.order.Order.TheVariants.{Relaxed}
 use Rattle.mu_values.specs.declared.scalars.Scalar.{Scalar}
-use Rattle.heap_cells.specs.declared.cells.CellId.{CellId}
+use Rattle.mu_values.specs.declared.cells.CellId.{CellId}
 use Rattle.typed_heap.specs.Places.{cell_in}
 use Rattle.mem_axioms.specs.Logs.{newest}
 use Rattle.mem_axioms.specs.Form.{value_at}
@@ -20,7 +20,8 @@ use Rattle.mu_model.specs.Turns.{Turn, turn_of}
 use Rattle.mu_model.specs.Changes.{event}
 use Rattle.mu_model.specs.Accesses.{initial, takes_option}
 use Rattle.mu_model.specs.Outcomes.{End, Next, Outcome, Stuck}
-use Rattle.mu_model.specs.Waiting.{is_of, waited}
+use Rattle.futex.specs.Waiting.{is_of}
+use Rattle.mu_model.specs.Waiting.{waited}
 use Rattle.mu_model.specs.Step.{performed, picked, runnable, step, turns}
 
 -- ---- what the axioms allow

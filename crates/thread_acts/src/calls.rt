@@ -1,24 +1,24 @@
 // Calls.
-ghost use Rattle.std.specs.Prelude.{◌≡◌, ◌≢◌, ◌<◌, [], IsSome, None, Some, IfOk, IfSome, OnErr, true, false};
-ghost use Rattle.bundle_check.specs.Checking.{bundle_tables};
+ghost use Rattle.std.specs.Prelude.{◌≡◌, ◌≢◌, ◌<◌, [], IsSome, None, IfOk, IfSome, OnErr, true, false};
+ghost use Rattle.checked_code.specs.Checking.{bundle_tables};
 ghost use Rattle.frames.specs.Chains.{nothing_kept};
 ghost use Rattle.mu_model.specs.declared.endings.StepEnd.TheVariants.{Went};
 ghost use Rattle.mu_model.specs.Outcomes.{Stuck};
 ghost use Rattle.mu_model.specs.Acts as acts;
 ghost use Rattle.mu_model.specs.Types.{classes_given};
-ghost use Rattle.thread_acts.specs.Held.{Held};
-ghost use Rattle.thread_acts.specs.Outcome.{Stays};
-ghost use Rattle.thread_acts.specs.Acting.{answers, went_on, acting, awaited, entered, entered_above, objects_end};
+ghost use Rattle.run_state.specs.Held.{Held};
+ghost use Rattle.run_state.specs.Outcome.{Stays};
+ghost use Rattle.run_state.specs.Acting.{answers, went_on, acting, awaited, entered, entered_above, objects_end};
 
-use crate::objects::end_objects;
 use crate::state::State;
-use crate::waiting::{enter, entered, read_classes_given, waiting, waits_for_values};
-use bundle_check::Checked;
+use checked_code::Checked;
 use client_hooks::Determined;
 use frames::Frames;
 use mem_axioms::Memory;
 use mu_model::{Case, Lines, StepEnd};
 use mu_values::Slots;
+use run_state::objects::end_objects;
+use run_state::waiting::{enter, entered, read_classes_given, waiting, waits_for_values};
 use std::alloc::{AllocError, Global};
 use std::mem;
 use step_forms::Room;
@@ -41,7 +41,7 @@ fn values_out(alloc: Global, room: &mut Room) -> Slots
 
 impl<M: Memory, C: Determined> State<M, C> {
     /// The thread calls a function, with the values in the room.
-    #[tactic(auto, using(crate::specs::ActLaws::calling))]
+    #[tactic(auto, using(run_state::specs::ActLaws::calling))]
     pub fn call(
         &mut self,
         code: &Checked,
@@ -69,7 +69,7 @@ impl<M: Memory, C: Determined> State<M, C> {
 
     /// The thread calls a function, with the values in the room, where that has a body and memory is found. Else the thread is as
     /// before; the room may have changed. It is not inlined, so that a step of another instruction does not carry its code.
-    #[tactic(auto, using(crate::specs::ActLaws::calling))]
+    #[tactic(auto, using(run_state::specs::ActLaws::calling))]
     #[inline(never)]
     pub fn call_at_once(&mut self, code: &Checked, function: u32, room: &mut Room) -> bool
         requires left { self.old.left ≡ true }
@@ -86,7 +86,7 @@ impl<M: Memory, C: Determined> State<M, C> {
 
     /// The thread calls a function with that first block, where memory is found. Else the thread is as before; the room may have
     /// changed.
-    #[tactic(auto, using(crate::specs::ActLaws::plain))]
+    #[tactic(auto, using(run_state::specs::ActLaws::plain))]
     fn enter_at_once(&mut self, code: &Checked, function: u32, block: u32, room: &mut Room) -> bool
         requires left { self.old.left ≡ true }
         requires room { self.old.steps < self.old.budget }
@@ -149,7 +149,7 @@ impl<M: Memory, C: Determined> State<M, C> {
     }
 
     /// The thread calls a function in place of its top frame.
-    #[tactic(auto, using(crate::specs::ActLaws::replacing))]
+    #[tactic(auto, using(run_state::specs::ActLaws::replacing))]
     pub fn call_in_place(&mut self, code: &Checked, function: u32, values: &mut Slots) -> StepEnd
         requires left { self.old.left ≡ true }
         requires room { self.old.steps < self.old.budget }

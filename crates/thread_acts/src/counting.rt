@@ -1,44 +1,22 @@
 // How many options an access has to pick from.
-ghost use Rattle.std.specs.Prelude.{◌≡◌, ◌+◌, ◌<◌, IsSome, length, true};
+ghost use Rattle.std.specs.Prelude.{◌≡◌, IsSome, length, true};
 ghost use Rattle.mu_values.specs.declared.scalars.Scalar.TheVariants as scalars;
 ghost use Rattle.typed_heap.specs.Places.{cell_of};
-ghost use Rattle.mem_axioms.specs.Objects.{HasCell, initial_of};
-ghost use Rattle.mem_axioms.specs.Choices.{choices};
-ghost use Rattle.mem_axioms.specs.EventFits.{is_thread};
+ghost use Rattle.mem_axioms.specs.Objects.{HasCell};
 ghost use Rattle.step_forms.specs.Asked.{access_of};
-ghost use Rattle.thread_acts.specs.Remembering.{initials};
-ghost use Rattle.thread_acts.specs.Accessing.{options_of};
-ghost use Rattle.thread_acts.specs.Counting.{cell_count};
+ghost use Rattle.run_state.specs.Remembering.{initials};
+ghost use Rattle.memory_acts.specs.Accessing.{options_of};
+ghost use Rattle.memory_acts.specs.Counting.{cell_count};
 
-use crate::accessing::wanted;
 use crate::state::State;
 use client_hooks::Determined;
-use heap_cells::CellId;
-use mem_axioms::{Memory, Wanted};
-use mu_base::Steps;
+use mem_axioms::Memory;
+use memory_acts::accessing::wanted;
+use memory_acts::counting::count_options;
+use mu_values::CellId;
 use std::marker::Brand;
-use std::sync::ledger::{Blank, Ledger};
+use std::sync::ledger::Blank;
 use step_forms::Access;
-
-/// How many options a memory has for what a thread wants of a cell.
-fn count_options<M: Memory, L: Ledger>(
-    memory: &M,
-    thread: u32,
-    cell: CellId,
-    wanted: Wanted,
-    blank: Blank,
-) -> u32
-    requires name { blank.name ≡ L.name }
-    requires parts { blank.parts ≡ L.parts }
-    requires one { L.parts ≡ 1 }
-    requires thread { is_thread (M.log memory.now) thread ≡ true }
-    requires cell { HasCell (M.objects memory.now) cell }
-    requires events { length (M.log memory.now) + 1 < 4294967295 }
-    ensures { result ≡ length (choices (M.rule memory.now) (initial_of (M.objects memory.now)) (M.log memory.now) thread cell wanted) }
-{
-    let mut counter = Steps::<L>::new(blank);
-    memory.options(thread, cell, &wanted, &mut counter)
-}
 
 impl<M: Memory, C: Determined> State<M, C> {
     /// How many options the thread's access of a cell has; 1 where the cell is not there.

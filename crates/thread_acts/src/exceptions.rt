@@ -1,80 +1,27 @@
 // Undefined cases, faults and exceptions.
-ghost use Rattle.std.specs.Prelude.{◌≡◌, ◌≢◌, ◌<◌, [], IsSome, Some, IfOk, IfSome, IsSomeAnd, OnOk, OnErr, length, slice_get, true};
-ghost use Rattle.bundle_check.specs.Checking.{bundle_blocks};
-ghost use Rattle.frames.specs.Activations.{Activation};
-ghost use Rattle.frames.specs.Chains.{frames_of, stands};
-ghost use Rattle.frames.specs.FrameOf.{goal_of};
+ghost use Rattle.std.specs.Prelude.{◌≡◌, ◌≢◌, ◌<◌, Some, IfOk, OnErr, true};
+ghost use Rattle.frames.specs.Chains.{frames_of};
 ghost use Rattle.mu_model.specs.Outcomes.{Stuck};
 ghost use Rattle.mu_model.specs.Acts as acts;
 ghost use Rattle.frames.specs.Handlers.{first_handler};
-ghost use Rattle.thread_acts.specs.Outcome.{Stays};
-ghost use Rattle.thread_acts.specs.Acting.{answers, went_on, acting, faulting, is_fault, gets};
+ghost use Rattle.run_state.specs.Outcome.{Stays};
+ghost use Rattle.run_state.specs.Acting.{answers, acting, faulting};
 
-use crate::flow::copy;
-use crate::objects::leave_frames;
 use crate::state::{State, ended};
-use bundle_check::Checked;
+use checked_code::Checked;
 use client_hooks::Determined;
-use frames::{Frame, Unwound};
+use frames::Unwound;
 use mem_axioms::Memory;
 use mu_model::{Case, Ending, StepEnd};
 use mu_values::{Scalar, Slots};
+use run_state::exceptions::{add_exception, handler_goal, is_fault};
+use run_state::objects::leave_frames;
 use std::alloc::AllocError;
 use step_forms::{Variables, read_goal};
 
-/// Whether the case is a fault, for which an instruction may have an exceptional destination.
-fn is_fault(case: Case) -> bool
-    ensures { result ≡ is_fault case }
-{
-    match case {
-        Case::DivideByZero | Case::NullAccess => true,
-        Case::OutOfRange
-        | Case::BadCast
-        | Case::DeadCell
-        | Case::DataRace
-        | Case::StackNotReady
-        | Case::StackTypes
-        | Case::Uncaught
-        | Case::NullCall
-        | Case::NoBody
-        | Case::ClientMisuse => false,
-    }
-}
-
-/// Adds an exception to the values for a block, where the block has a handler.
-#[tactic(auto, using(crate::specs::ActLaws::gets_plain, crate::specs::ActLaws::gets_exception))]
-pub fn add_exception(
-    code: &Checked,
-    block: u32,
-    exception: Scalar,
-    out: &mut Slots,
-) -> Result<(), AllocError>
-    requires { block < length (bundle_blocks code.now) }
-    ensures { OnOk result ((f : Activation) → gets code.now f (record { block = block; values = out.old.values }) exception ≡ Some (stands f block 0 out.new.values)) }
-{
-    if code.block(block).handler.is_some() {
-        out.push_scalar(exception)?;
-    }
-    Ok(())
-}
-
-/// The block of a frame's handler. The values for it are written to a list.
-pub fn handler_goal(frame: &Frame, out: &mut Slots) -> Result<u32, AllocError>
-    requires { IsSome frame.now.handler }
-    ensures { IfOk result (λ block. IsSomeAnd frame.now.handler (λ h. goal_of h ≡ record { block = block; values = out.new.values })) }
-{
-    match &frame.handler {
-        Some(handler) => {
-            copy(&handler.args, out)?;
-            Ok(handler.block)
-        }
-        None => unreachable!(),
-    }
-}
-
 impl<M: Memory, C: Determined> State<M, C> {
     /// The thread's instruction meets an undefined case.
-    #[tactic(auto, using(crate::specs::ActLaws::refusals))]
+    #[tactic(auto, using(run_state::specs::ActLaws::refusals))]
     pub fn refuse(
         &mut self,
         code: &Checked,
@@ -96,7 +43,7 @@ impl<M: Memory, C: Determined> State<M, C> {
     }
 
     /// A fault goes to the exceptional destination of its instruction, with NULL, or ends the run so.
-    #[tactic(auto, using(crate::specs::ActLaws::faults))]
+    #[tactic(auto, using(run_state::specs::ActLaws::faults))]
     pub fn fault(
         &mut self,
         code: &Checked,
@@ -122,7 +69,7 @@ impl<M: Memory, C: Determined> State<M, C> {
     }
 
     /// The thread throws an exception.
-    #[tactic(auto, using(crate::specs::ActLaws::throw_uncaught))]
+    #[tactic(auto, using(run_state::specs::ActLaws::throw_uncaught))]
     pub fn throw(
         &mut self,
         code: &Checked,
@@ -143,7 +90,7 @@ impl<M: Memory, C: Determined> State<M, C> {
     }
 
     /// The frame with that number catches the exception, and those above it end.
-    #[tactic(auto, using(crate::specs::ActLaws::throwing))]
+    #[tactic(auto, using(run_state::specs::ActLaws::throwing))]
     fn catch(
         &mut self,
         code: &Checked,

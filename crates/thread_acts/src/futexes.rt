@@ -1,38 +1,34 @@
 // Waits at a cell, wakes, and the end of a wait with a limit.
-ghost use Rattle.std.specs.Prelude.{◌≡◌, ◌≢◌, ◌+◌, ◌<◌, [], ◌∷◌, IsSomeAnd, Some, None, IfOk, OnOk, OnErr, find, length, slice_get, true, false, ℕ};
-ghost use Rattle.mu_base.specs.declared.order.Order.TheVariants.{Relaxed};
-ghost use Rattle.mu_values.specs.declared.scalars.Scalar.TheVariants.{Int};
-ghost use Rattle.mem_axioms.specs.declared.types.Wanted.TheVariants.{Load};
-ghost use Rattle.mem_axioms.specs.Objects.{HasCell, initial_of};
-ghost use Rattle.mem_axioms.specs.Choices.{choices};
-ghost use Rattle.mem_axioms.specs.EventFits.{EventFits, is_thread};
+ghost use Rattle.std.specs.Prelude.{◌≡◌, ◌≢◌, ◌<◌, IsSomeAnd, Some, IfOk, OnErr, find, true, false, ℕ};
+ghost use Rattle.mem_axioms.specs.Objects.{HasCell};
+ghost use Rattle.mem_axioms.specs.EventFits.{EventFits};
 ghost use Rattle.mem_axioms.specs.Rooms.{HasRoom};
 ghost use Rattle.mem_axioms.specs.Synchronizes.{makes_thread};
 ghost use Rattle.mu_model.specs.Acts as acts;
 ghost use Rattle.mu_model.specs.Outcomes.{Stuck};
-ghost use Rattle.mu_model.specs.Waiting.{is_of};
-ghost use Rattle.thread_acts.specs.Outcome.{Stays};
-ghost use Rattle.thread_acts.specs.Acting.{answers, acting, stepping};
-ghost use Rattle.thread_acts.specs.Remembering.{initials};
-ghost use Rattle.thread_acts.specs.StepLaws.{GoesOn};
-ghost use Rattle.thread_acts.specs.FutexLaws.{waiting_at, waits_with};
+ghost use Rattle.futex.specs.Waiting.{is_of};
+ghost use Rattle.run_state.specs.Outcome.{Stays};
+ghost use Rattle.run_state.specs.Acting.{answers, acting, stepping};
+ghost use Rattle.run_state.specs.Remembering.{initials};
+ghost use Rattle.run_state.specs.StepLaws.{GoesOn};
+ghost use Rattle.memory_acts.specs.FutexLaws.{waiting_at, waits_with};
 
-use crate::accessing::{commit, line_of, read};
-use crate::finding::case_of;
-use crate::flow::go_on;
-use crate::results::line;
 use crate::state::{State, ended};
-use bundle_check::Checked;
+use checked_code::Checked;
 use client_hooks::Determined;
-use heap_cells::CellId;
 use mem_axioms::event_facts::is_same_scalar;
-use mem_axioms::{Chosen, Event, Memory, Wanted};
-use mu_base::{Order, Steps};
+use mem_axioms::{Event, Memory};
+use memory_acts::accessing::{commit, line_of, read};
+use memory_acts::futexes::{CellWait, newest, tell};
+use mu_base::Order;
 use mu_model::{Note, StepEnd};
-use mu_values::{Scalar, Slots};
+use mu_values::{CellId, Slots};
+use object_acts::finding::case_of;
+use run_state::flow::go_on;
+use run_state::results::line;
 use std::alloc::AllocError;
 use std::marker::Brand;
-use std::sync::ledger::{Blank, Ledger};
+use std::sync::ledger::Blank;
 
 /// What a thread gets whose wait found another value, that is -1.
 const ANOTHER: u128 = 4294967295;
@@ -40,46 +36,9 @@ const ANOTHER: u128 = 4294967295;
 /// What a thread gets whose wait with a limit is over, that is -3.
 const OVER: u128 = 4294967293;
 
-/// A wait at a cell.
-#[derive(Clone, Copy, Debug, PartialEq, Eq)]
-pub struct CellWait {
-    /// Whether it has a limit.
-    pub timed: bool,
-    /// The value that the cell is to hold, else the thread does not wait.
-    pub expected: Scalar,
-    /// Where it waits.
-    pub cell: CellId,
-}
-
-/// One result, of an integer of 32 bits.
-pub fn tell(bits: u128, values: &mut Slots) -> Result<(), AllocError>
-    ensures { OnOk result (values.new.values ≡ (Int 32 bits ∷ []) ∷ []) }
-{
-    values.clear();
-    values.push_scalar(Scalar::Int { width: 32, bits })
-}
-
-/// The newest position that a relaxed load of a cell may read.
-fn newest<M: Memory, L: Ledger>(memory: &M, thread: u32, cell: CellId, blank: Blank) -> Chosen
-    requires name { blank.name ≡ L.name }
-    requires parts { blank.parts ≡ L.parts }
-    requires one { L.parts ≡ 1 }
-    requires thread { is_thread (M.log memory.now) thread ≡ true }
-    requires cell { HasCell (M.objects memory.now) cell }
-    requires events { length (M.log memory.now) + 1 < 4294967295 }
-    ensures { slice_get (choices (M.rule memory.now) (initial_of (M.objects memory.now)) (M.log memory.now) thread cell (Load Relaxed)) 0 ≡ Some result }
-{
-    let mut counter = Steps::<L>::new(blank);
-    let wanted = Wanted::Load {
-        order: Order::Relaxed,
-    };
-    let _many = memory.options(thread, cell, &wanted, &mut counter);
-    memory.choose(thread, cell, &wanted, 0, &mut counter)
-}
-
 impl<M: Memory, C: Determined> State<M, C> {
     /// The thread's wait with a limit at this cell is over.
-    #[tactic(auto, using(crate::specs::FutexLaws::fewer_sound))]
+    #[tactic(auto, using(memory_acts::specs::FutexLaws::fewer_sound))]
     pub fn time_out(
         &mut self,
         code: &Checked,
@@ -160,7 +119,7 @@ impl<M: Memory, C: Determined> State<M, C> {
     }
 
     /// The thread's read is logged, and it waits where it stands. Where the read races that is the ending, and it does not wait.
-    #[tactic(auto, using(crate::specs::FutexLaws::more_sound))]
+    #[tactic(auto, using(memory_acts::specs::FutexLaws::more_sound))]
     fn stand_waiting(
         &mut self,
         event: Event,

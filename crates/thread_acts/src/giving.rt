@@ -4,22 +4,22 @@ ghost use Rattle.frames.specs.Chains.{stands};
 ghost use Rattle.mu_model.specs.declared.endings.StepEnd.TheVariants.{Went};
 ghost use Rattle.mu_model.specs.Outcomes.{Stuck};
 ghost use Rattle.mu_model.specs.Acts as acts;
-ghost use Rattle.thread_acts.specs.Held.{Held};
-ghost use Rattle.thread_acts.specs.Outcome.{Stays};
-ghost use Rattle.thread_acts.specs.Acting.{answers, went_on, acting};
+ghost use Rattle.run_state.specs.Held.{Held};
+ghost use Rattle.run_state.specs.Outcome.{Stays};
+ghost use Rattle.run_state.specs.Acting.{answers, went_on, acting};
 
-use crate::flow::{go_on, push_on_top};
 use crate::state::State;
-use bundle_check::Checked;
+use checked_code::Checked;
 use client_hooks::Determined;
 use mem_axioms::Memory;
 use mu_model::{Lines, StepEnd};
 use mu_values::{Scalar, Slots};
+use run_state::flow::{go_on, push_on_top};
 use std::alloc::AllocError;
 
 impl<M: Memory, C: Determined> State<M, C> {
     /// The thread's instruction has these results. Where no memory is found the state is as before; the list may have changed.
-    #[tactic(auto, using(crate::specs::ActLaws::giving))]
+    #[tactic(auto, using(run_state::specs::ActLaws::giving))]
     pub fn give(
         &mut self,
         code: &Checked,
@@ -78,7 +78,7 @@ impl<M: Memory, C: Determined> State<M, C> {
 
     /// The thread's instruction has one result, of one scalar, where it goes on at the next place and memory is found. Else nothing
     /// changes.
-    #[tactic(auto, using(crate::specs::ActLaws::giving_next))]
+    #[tactic(auto, using(run_state::specs::ActLaws::giving_next))]
     pub fn give_at_once(&mut self, code: &Checked, scalar: Scalar) -> bool
         requires left { self.old.left ≡ true }
         requires room { self.old.steps < self.old.budget }

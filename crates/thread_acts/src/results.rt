@@ -1,50 +1,27 @@
 // Returns.
-ghost use Rattle.std.specs.Prelude.{◌≡◌, ◌≢◌, ◌<◌, [], ◌∷◌, ◌++◌, IfSome, Some, IfOk, OnErr, drop, length, slice_get, true, false};
+ghost use Rattle.std.specs.Prelude.{◌≡◌, ◌≢◌, ◌<◌, [], ◌++◌, IfSome, IfOk, OnErr, drop, length, slice_get, true, false};
 ghost use Rattle.frames.specs.Chains.{stands};
-ghost use Rattle.mu_model.specs.declared.lines.Line.TheVariants as noted;
 ghost use Rattle.mu_model.specs.declared.endings.StepEnd.TheVariants.{Went};
 ghost use Rattle.mu_model.specs.Outcomes.{Stuck};
 ghost use Rattle.mu_model.specs.Acts as acts;
-ghost use Rattle.thread_acts.specs.Outcome.{Stays};
-ghost use Rattle.thread_acts.specs.Acting.{answers, acting, went_on, objects_end};
+ghost use Rattle.run_state.specs.Outcome.{Stays};
+ghost use Rattle.run_state.specs.Acting.{answers, acting, went_on, objects_end};
 
-use crate::flow::{next_place, passing, stand};
-use crate::objects::{end_objects, leave_for};
 use crate::state::State;
-use bundle_check::Checked;
+use checked_code::Checked;
 use client_hooks::Determined;
 use mem_axioms::Memory;
-use mu_base::Types;
-use mu_model::{Line, Lines, Note, StepEnd};
-use mu_values::{Passed, Slots};
-use std::alloc::{AllocError, Global};
-use std::mem;
+use mu_model::{Lines, Note, StepEnd};
+use mu_values::Slots;
+use run_state::flow::{next_place, passing, stand};
+use run_state::objects::{end_objects, leave_for};
+use run_state::results::{line, taken};
+use std::alloc::AllocError;
 use step_forms::Room;
-
-/// The values in the room with their classes, of which there are as many.
-pub fn taken(alloc: Global, room: &mut Room) -> Result<Passed, AllocError>
-    ensures { IfOk result (λ values. values ≡ record { types = room.old.types.members; values = room.old.values.values }) }
-{
-    if room.types.len() != room.values.len() {
-        return Err(AllocError);
-    }
-    let types = mem::replace(&mut room.types, Types::new(alloc));
-    let values = mem::replace(&mut room.values, Slots::new(alloc));
-    Ok(Passed::new(types, values))
-}
-
-/// The one line of a record.
-pub(crate) fn line(alloc: Global, note: Note) -> Result<Lines, AllocError>
-    ensures { IfOk result (λ lines. lines ≡ noted.Note note ∷ []) }
-{
-    let mut lines = Lines::new(alloc);
-    lines.push(Line::Note(note))?;
-    Ok(lines)
-}
 
 impl<M: Memory, C: Determined> State<M, C> {
     /// The thread returns from its function, with the values in the room.
-    #[tactic(auto, using(crate::specs::ActLaws::only_frame))]
+    #[tactic(auto, using(run_state::specs::ActLaws::only_frame))]
     pub fn give_back(
         &mut self,
         code: &Checked,
@@ -87,7 +64,7 @@ impl<M: Memory, C: Determined> State<M, C> {
 
     /// The thread returns from its function to the frame below it, which goes on with the values in the room, where there is one and memory
     /// is found. Else nothing changes. It is not inlined, so that a step of another instruction does not carry its code.
-    #[tactic(auto, using(crate::specs::ActLaws::only_frame))]
+    #[tactic(auto, using(run_state::specs::ActLaws::only_frame))]
     #[inline(never)]
     pub fn return_at_once(&mut self, code: &Checked, room: &mut Room, out: &mut Slots) -> bool
         requires left { self.old.left ≡ true }
@@ -125,7 +102,7 @@ impl<M: Memory, C: Determined> State<M, C> {
 
     /// The top frame ends, and the one below it goes on at the destination of its instruction, or begins, with the values in the room,
     /// where memory is found. Else nothing changes.
-    #[tactic(auto, using(crate::specs::ActLaws::returning))]
+    #[tactic(auto, using(run_state::specs::ActLaws::returning))]
     fn leave_elsewhere(&mut self, code: &Checked, room: &mut Room, out: &mut Slots) -> bool
         requires left { self.old.left ≡ true }
         requires room { self.old.steps < self.old.budget }

@@ -1,23 +1,21 @@
 // The state of a run.
 ghost use Rattle.std.specs.Prelude.{◌≡◌, ◌<◌, [], None, length, slice_set, true};
 ghost use Rattle.frames.specs.Chains.{frames_in};
-ghost use Rattle.mu_model.specs.declared.endings.Ending.{Ending};
-ghost use Rattle.mu_model.specs.declared.endings.Case.{Case};
 ghost use Rattle.mu_model.specs.declared.endings.StepEnd.TheVariants.{Went};
 ghost use Rattle.mu_model.specs.Outcomes.{End};
 ghost use Rattle.mu_model.specs.Configuration.{Active, Dead};
 ghost use Rattle.seats.specs.Seats.{IsOn};
-ghost use Rattle.thread_acts.specs.Held.{Held};
-ghost use Rattle.thread_acts.specs.Outcome.{Stays};
-ghost use Rattle.thread_acts.specs.Acting.{answers, went_on, undefined_at, thread_ended};
-ghost use Rattle.thread_acts.specs.Hand.{put_down};
+ghost use Rattle.run_state.specs.Held.{Held};
+ghost use Rattle.run_state.specs.Outcome.{Stays};
+ghost use Rattle.run_state.specs.Acting.{answers, went_on, undefined_at, thread_ended};
+ghost use Rattle.run_state.specs.Hand.{put_down};
 
-use crate::objects::end_frames;
 use client_hooks::Determined;
 use frames::Frames;
 use mem_axioms::Memory;
 use mu_model::{Case, Ending, Lines, StepEnd};
 use mu_threads::Schedule;
+use run_state::objects::end_frames;
 use seats::Seats;
 use std::alloc::Global;
 use std::marker::Model;
@@ -49,9 +47,9 @@ pub struct State<M: Memory, C: Determined> {
 
 impl<M: Memory, C: Determined> Model for State<M, C> {
     ghost use Rattle.std.specs.Prelude.{◌≡◌, ◌*◌, ◌≤◌, length};
-    ghost use Rattle.thread_acts.specs.Held.{Held};
-    ghost use Rattle.thread_acts.specs.Hand.{IsSound};
-    ghost use Rattle.thread_acts.specs.Remembering.{initials};
+    ghost use Rattle.run_state.specs.Held.{Held};
+    ghost use Rattle.run_state.specs.Hand.{IsSound};
+    ghost use Rattle.run_state.specs.Remembering.{initials};
     ghost use Rattle.frames.specs.Chains.{chain_of};
 
     ghost Value = { Held };
@@ -62,7 +60,7 @@ impl<M: Memory, C: Determined> Model for State<M, C> {
 }
 
 /// A run ends, and its last step wrote nothing.
-#[tactic(auto, using(crate::specs::StepLaws::answers_end))]
+#[tactic(auto, using(run_state::specs::StepLaws::answers_end))]
 pub fn ended(alloc: Global, ending: Ending) -> StepEnd
     ensures is { (s : Held) → answers result s ≡ End [] ending }
     ensures end { (s : Held) → Stays result s s }
@@ -71,7 +69,7 @@ pub fn ended(alloc: Global, ending: Ending) -> StepEnd
 }
 
 /// A thread that has these frames ends, and its stack dies. Its frames come back.
-#[tactic(auto, using(crate::specs::Hand::frames_back))]
+#[tactic(auto, using(run_state::specs::Hand::frames_back))]
 fn end_seat(seats: &mut Seats, thread: u32, stack: u32, frames: &mut Frames) -> Frames
     requires on { IsOn seats.old thread stack }
     requires within { stack < length seats.old.stacks }
@@ -84,7 +82,7 @@ fn end_seat(seats: &mut Seats, thread: u32, stack: u32, frames: &mut Frames) -> 
 
 impl<M: Memory, C: Determined> State<M, C> {
     /// A step was made that wrote nothing.
-    #[tactic(auto, using(crate::specs::StepLaws::answers_on))]
+    #[tactic(auto, using(run_state::specs::StepLaws::answers_on))]
     pub(crate) fn count(&mut self)
         requires left { self.old.left ≡ true }
         requires room { self.old.steps < self.old.budget }
@@ -94,7 +92,7 @@ impl<M: Memory, C: Determined> State<M, C> {
     }
 
     /// The same, with what is said of the step.
-    #[tactic(auto, using(crate::specs::StepLaws::answers_on))]
+    #[tactic(auto, using(run_state::specs::StepLaws::answers_on))]
     pub(crate) fn went(&mut self) -> StepEnd
         requires left { self.old.left ≡ true }
         requires room { self.old.steps < self.old.budget }
@@ -128,7 +126,7 @@ impl<M: Memory, C: Determined> State<M, C> {
     }
 
     /// The frames in hand go back to their thread.
-    #[tactic(auto, using(crate::specs::Hand::hand_empty))]
+    #[tactic(auto, using(run_state::specs::Hand::hand_empty))]
     pub fn put_down(&mut self)
         requires left { self.old.left ≡ true }
         ensures { self.new ≡ put_down self.old self.new.frames }
@@ -139,7 +137,7 @@ impl<M: Memory, C: Determined> State<M, C> {
     }
 
     /// The thread ends, and its stack dies with all of its frames.
-    #[tactic(auto, using(crate::specs::Hand::hand_ended))]
+    #[tactic(auto, using(run_state::specs::Hand::hand_ended))]
     pub(crate) fn end_thread(&mut self)
         requires left { self.old.left ≡ true }
         ensures { self.new ≡ thread_ended self.old self.new.frames }

@@ -4,8 +4,8 @@ use Rattle.std.proofs.Common.{sym, ◌∙◌, ap, subst, arith}
 use Rattle.std.proofs.lemmas.Option.{slice_get_within, slice_get_past}
 use Rattle.std.proofs.lemmas.Slice.Eq.{bytes_eq-Decides}
 use Rattle.ir_tree.specs.declared.items.Item.{Item}
-use Rattle.bundle_check.specs.declared.code.Function.{Function}
-use Rattle.bundle_check.specs.Checking.{bundle_functions, bundle_tables}
+use Rattle.checked_code.specs.declared.blocks.Function.{Function}
+use Rattle.checked_code.specs.Checking.{bundle_functions, bundle_tables}
 use Rattle.typed_heap.specs.Places.{with_some}
 use Rattle.frames.specs.Activations.{Activation}
 use Rattle.mu_model.specs.Acts.{Program}

@@ -1,12 +1,12 @@
 //! What an answer brings to the stack that is entered.
 ghost use Rattle.std.specs.Prelude.{◌≡◌, IsSome, Some};
-ghost use Rattle.bundle_check.specs.Checking.{bundle_tables};
+ghost use Rattle.checked_code.specs.Checking.{bundle_tables};
 ghost use Rattle.mu_model.specs.Operands.{scalar_in};
 ghost use Rattle.mu_model.specs.Traps as traps;
 ghost use Rattle.step_forms.specs.Asked.{entering_of};
 ghost use Rattle.client_hooks.specs.Replies.{way_of};
 
-use bundle_check::Checked;
+use checked_code::Checked;
 use client_hooks::{ClassedValue, With};
 use mu_values::Scalar;
 use step_forms::{Entering, Room};

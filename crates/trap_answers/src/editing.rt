@@ -1,6 +1,6 @@
 //! Edits of the frames of a trapped stack.
 ghost use Rattle.std.specs.Prelude.{◌≡◌, ◌≤◌, ◌<◌, ◌∷◌, List, Ok, Err, Some, IfNone, IfOk, IfSome, IsOk, IsSome, IsSomeAnd, OnErr, OnOk, drop, false, length, slice_get, slice_set, take};
-ghost use Rattle.bundle_check.specs.Checking.{bundle_functions, bundle_tables};
+ghost use Rattle.checked_code.specs.Checking.{bundle_functions, bundle_tables};
 ghost use Rattle.frames.specs.Activations.{Activation};
 ghost use Rattle.frames.specs.Chains.{frames_in};
 ghost use Rattle.frames.specs.FrameOf.{frame_of};
@@ -13,7 +13,7 @@ ghost use Rattle.client_hooks.specs.Replies.{edit_of};
 ghost use Rattle.mu_osr.specs.Rooms.{objects_of};
 ghost use Rattle.seats.specs.Seats.{IsOn};
 
-use bundle_check::Checked;
+use checked_code::Checked;
 use client_hooks::Edit;
 use frames::{Frame, Frames};
 use mu_base::{Ids, Types};

@@ -6,13 +6,13 @@ use Rattle.std.proofs.lemmas.List.Concat.{flat_map-cons}
 use Rattle.std.proofs.lemmas.List.Elements.{All-nil, All-cons, All-append, All-map}
 use Rattle.std.proofs.lemmas.Option.{slice_get_within}
 use Rattle.std.proofs.Math.Seq.{get_or-append_seam}
-use Rattle.type_laws.specs.declared.definition.TypeDef.{TypeDef}
-use Rattle.type_laws.specs.declared.definition.TypeDef.TheVariants.{Int, Struct, Array, Hybrid, Void, Ref, Iref, FuncRef, StackRef, ThreadRef, Sig}
-use Rattle.type_laws.specs.Definition.{constructor}
-use Rattle.type_laws.specs.Same.{same, IsGraph}
-use Rattle.type_laws.specs.Class.{least, class_of}
-use Rattle.type_laws.specs.Leaves.{times, leaves, leaves_by, leaves_at, leaves_to}
-use Rattle.type_laws.proofs.Depth.{args_within, alike_same, same_meets}
+use Rattle.type_definitions.specs.declared.definition.TypeDef.{TypeDef}
+use Rattle.type_definitions.specs.declared.definition.TypeDef.TheVariants.{Int, Struct, Array, Hybrid, Void, Ref, Iref, FuncRef, StackRef, ThreadRef, Sig}
+use Rattle.type_definitions.specs.Definition.{constructor}
+use Rattle.type_definitions.specs.Same.{same, IsGraph}
+use Rattle.type_definitions.specs.Class.{least, class_of}
+use Rattle.type_definitions.specs.Leaves.{times, leaves, leaves_by, leaves_at, leaves_to}
+use Rattle.type_definitions.proofs.Depth.{args_within, alike_same, same_meets}
 use Rattle.check_tables.specs.TypeTests.{is_scalar, repeated_of}
 use Rattle.typed_heap.specs.Objects.{leaf_classes, run_of, run_classes}
 use Rattle.typed_heap.specs.Heap.{hybrid_classes}

@@ -5,7 +5,7 @@ use Rattle.std.proofs.lemmas.Bool.{cases_lt}
 use Rattle.std.proofs.lemmas.Bool.Decides.{same_from_decides}
 use Rattle.std.proofs.lemmas.List.{length-append, length-take, length-drop, get_or-append_right, get_or-take, get_or-drop, ext_get_or}
 use Rattle.std.proofs.Math.Nat.{mod-lt, mod-eq_of_lt, mod-eq-sub-mod, mod-add-div', add-mul-mod_self_right, add-mod_right}
-use Rattle.type_laws.specs.Leaves.{times}
+use Rattle.type_definitions.specs.Leaves.{times}
 use Rattle.typed_heap.specs.Fits.{begins, are_runs}
 use Rattle.typed_heap.specs.Repeating.{Repeats, Enough}
 use Rattle.typed_heap.proofs.Runs.{AreRuns, runs_decide, whole_long, times_at, times_length, begun}

@@ -1,10 +1,10 @@
 -- Worked examples, to read beside the definitions: what an object has, and what fits.
 use Rattle.std.specs.Prelude.{◌≡◌, ℕ, true, false, List, [], ◌∷◌, refl}
-use Rattle.type_laws.specs.declared.definition.TypeDef.{TypeDef}
-use Rattle.type_laws.specs.declared.definition.TypeDef.TheVariants.{Struct, Array, Hybrid, Void, Ref, Iref}
-use Rattle.type_laws.specs.declared.definition.TypeDef.TheVariants as types
-use Rattle.type_laws.specs.Same.{alike}
-use Rattle.type_laws.specs.Leaves.{leaves_to}
+use Rattle.type_definitions.specs.declared.definition.TypeDef.{TypeDef}
+use Rattle.type_definitions.specs.declared.definition.TypeDef.TheVariants.{Struct, Array, Hybrid, Void, Ref, Iref}
+use Rattle.type_definitions.specs.declared.definition.TypeDef.TheVariants as types
+use Rattle.type_definitions.specs.Same.{alike}
+use Rattle.type_definitions.specs.Leaves.{leaves_to}
 use Rattle.mu_values.specs.declared.scalars.Scalar.TheVariants.{Int, Null, Object, Place}
 use Rattle.typed_heap.specs.Objects.{HeapObject, leaf_classes, object_of, filled}
 use Rattle.typed_heap.specs.Fits.{World, fits, place_fits, DefinitionFits}

@@ -1,7 +1,7 @@
 -- What contracts see of a heap, and what its calls ask of types.
 use Rattle.std.specs.Prelude.{◌≡◌, ℕ, ◌-◌, ◌^◌, ◌<◌, min, List, ◌++◌, length, Option, None, Some, slice_get}
-use Rattle.type_laws.specs.declared.definition.TypeDef.{TypeDef}
-use Rattle.type_laws.specs.Leaves.{times}
+use Rattle.type_definitions.specs.declared.definition.TypeDef.{TypeDef}
+use Rattle.type_definitions.specs.Leaves.{times}
 use Rattle.mu_values.specs.Constants.{width_of}
 use Rattle.typed_heap.specs.Objects.{HeapObject, leaf_classes, run_classes}
 

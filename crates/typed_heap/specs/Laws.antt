@@ -1,6 +1,6 @@
 -- What laws say of objects and of worlds that grow.
 use Rattle.std.specs.Prelude.{◌≡◌, ℕ, ◌≤◌, List, Some, slice_get, IsSomeAnd}
-use Rattle.type_laws.specs.declared.definition.TypeDef.{TypeDef}
+use Rattle.type_definitions.specs.declared.definition.TypeDef.{TypeDef}
 use Rattle.typed_heap.specs.Objects.{HeapObject}
 use Rattle.typed_heap.specs.Fits.{World, ScalarsFit}
 

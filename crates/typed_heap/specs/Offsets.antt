@@ -1,7 +1,7 @@
 -- Offsets that a place may have, and what is found at one.
 -- Contracts inside the crate cite this; no public one does, so no reader of those needs it.
 use Rattle.std.specs.Prelude.{ℕ, ◌^◌, Bool, ◌&&◌, ◌||◌, ◌==◌, not, nat_lt, List, Option, Some, None, length, drop, ℤ, pos, nat_abs, int_lt, if◌then◌else◌}
-use Rattle.type_laws.specs.declared.definition.TypeDef.{TypeDef}
+use Rattle.type_definitions.specs.declared.definition.TypeDef.{TypeDef}
 use Rattle.typed_heap.specs.Fits.{fits}
 
 -- an offset of 32 bits, where the number is one

@@ -1,14 +1,14 @@
 -- Casts of references, places that are found from others, and cells that may be accessed.
 use Rattle.std.specs.Prelude.{ℕ, Bool, true, false, ◌&&◌, not, nat_le, List, Option, Some, None, Result, Ok, Err, option_and_then, length, take, slice_get, sum_by, ℤ, pos, ◌+ℤ◌, ◌*ℤ◌, nat_abs, int_lt, if◌then◌else◌}
-use Rattle.type_laws.specs.declared.definition.TypeDef.{TypeDef}
-use Rattle.type_laws.specs.declared.definition.TypeDef.TheVariants.{Ref, Iref}
+use Rattle.type_definitions.specs.declared.definition.TypeDef.{TypeDef}
+use Rattle.type_definitions.specs.declared.definition.TypeDef.TheVariants.{Ref, Iref}
 use Rattle.mu_values.specs.declared.scalars.Scalar.{Scalar}
 use Rattle.mu_values.specs.declared.scalars.Scalar.TheVariants.{Null, Object, Place}
 use Rattle.mu_values.specs.Constants.{member_count}
 use Rattle.check_tables.specs.TypeTests.{element_of, repeated_of, fixed_fields_of}
 use Rattle.typed_heap.specs.declared.faults.PlaceFault.{PlaceFault}
 use Rattle.typed_heap.specs.declared.faults.PlaceFault.TheVariants as faults
-use Rattle.heap_cells.specs.declared.cells.CellId.{CellId}
+use Rattle.mu_values.specs.declared.cells.CellId.{CellId}
 use Rattle.typed_heap.specs.Objects.{HeapObject, leaf_classes}
 use Rattle.typed_heap.specs.Fits.{fits, place_fits}
 

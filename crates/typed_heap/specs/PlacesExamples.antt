@@ -1,8 +1,8 @@
 -- Worked examples, to read beside the definitions: casts, places that are found, and cells.
 use Rattle.std.specs.Prelude.{◌≡◌, ◌^◌, List, [], ◌∷◌, Some, Ok, Err, slice_get, pos, negsuc, refl}
-use Rattle.type_laws.specs.declared.definition.TypeDef.TheVariants.{Ref}
-use Rattle.type_laws.specs.Same.{alike}
-use Rattle.type_laws.specs.Leaves.{leaves_to}
+use Rattle.type_definitions.specs.declared.definition.TypeDef.TheVariants.{Ref}
+use Rattle.type_definitions.specs.Same.{alike}
+use Rattle.type_definitions.specs.Leaves.{leaves_to}
 use Rattle.mu_values.specs.declared.scalars.Scalar.TheVariants.{Null, Object, Place}
 use Rattle.typed_heap.specs.declared.faults.PlaceFault.TheVariants as faults
 use Rattle.typed_heap.specs.Objects.{HeapObject, leaf_classes, object_of, killed}

@@ -1,6 +1,6 @@
 // Which types are found among the leaves of an object.
 ghost use Rattle.std.specs.Prelude.{◌≡◌, ◌-◌, ◌<◌, ◌≤◌, length, IsTrue};
-ghost use Rattle.type_laws.specs.Same.{IsGraph};
+ghost use Rattle.type_definitions.specs.Same.{IsGraph};
 ghost use Rattle.check_tables.specs.TypeTests.{repeated_of};
 ghost use Rattle.typed_heap.specs.Fits.{begins, are_runs, fits};
 ghost use Rattle.typed_heap.specs.Repeating.{Repeats, Enough};

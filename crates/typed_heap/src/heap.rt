@@ -1,16 +1,15 @@
 // Making objects, and what becomes of them.
 ghost use Rattle.std.specs.Prelude.{◌≡◌, ◌+◌, ◌-◌, ◌*◌, ◌^◌, ◌<◌, ◌≤◌, min, Some, Err, [], ◌∷◌, ◌++◌, length, take, slice_get, slice_set, IfOk, IfErr, IfSome, OnOk, OnErr, IsSomeAnd};
 ghost use Rattle.std.specs.List.{All};
-ghost use Rattle.type_laws.specs.Leaves.{times};
-ghost use Rattle.type_laws.specs.Same.{IsGraph};
+ghost use Rattle.type_definitions.specs.Leaves.{times};
+ghost use Rattle.type_definitions.specs.Same.{IsGraph};
 ghost use Rattle.typed_heap.specs.Objects.{leaf_classes, run_classes, object_of, killed, with_filled};
 ghost use Rattle.typed_heap.specs.Heap.{hybrid_classes, told_cells, newest_cells, AreNarrow};
 
 use crate::faults::HeapFault;
 use crate::objects::Objects;
-use heap_cells::CellId;
 use mu_types::{Classes, TypeDef};
-use mu_values::Scalar;
+use mu_values::{CellId, Scalar};
 use std::alloc::{AllocError, Global};
 use std::marker::Model;
 

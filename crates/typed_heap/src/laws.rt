@@ -1,11 +1,11 @@
 // Laws of the definitions, each the contract of a function that does nothing.
 ghost use Rattle.std.specs.Prelude.{◌≡◌, ◌≢◌, ℕ, ◌-◌, ◌<◌, ◌⊎◌, true, false, List, Option, Some, Ok, Err, [], ◌∷◌, ◌++◌, length, take, drop, slice_get, slice_set, IsSomeAnd};
-ghost use Rattle.type_laws.specs.declared.definition.TypeDef.{TypeDef};
-ghost use Rattle.type_laws.specs.declared.definition.TypeDef.TheVariants.{Ref, Iref};
-ghost use Rattle.type_laws.specs.Same.{IsGraph};
+ghost use Rattle.type_definitions.specs.declared.definition.TypeDef.{TypeDef};
+ghost use Rattle.type_definitions.specs.declared.definition.TypeDef.TheVariants.{Ref, Iref};
+ghost use Rattle.type_definitions.specs.Same.{IsGraph};
 ghost use Rattle.mu_values.specs.declared.scalars.Scalar.{Scalar};
 ghost use Rattle.typed_heap.specs.declared.faults.PlaceFault.{PlaceFault};
-ghost use Rattle.heap_cells.specs.declared.cells.CellId.{CellId};
+ghost use Rattle.mu_values.specs.declared.cells.CellId.{CellId};
 ghost use Rattle.typed_heap.specs.Objects.{HeapObject, leaf_classes, object_of, killed, filled};
 ghost use Rattle.typed_heap.specs.Fits.{World, place_fits, DefinitionFits, ScalarFits, ScalarsFit, ValueFits};
 ghost use Rattle.typed_heap.specs.Places.{Move, find_place, cast, cell_of};

@@ -11,8 +11,8 @@ mod places;
 
 pub use faults::{HeapFault, PlaceFault};
 pub use heap::Heap;
-pub use heap_cells::CellId;
 pub use laws::{
     calls_keep_leaves, changed_objects_fit, faults_of_each, new_objects_fit,
     taking_back_undoes_making, the_end_fits, what_fits_stays, what_is_found_fits,
 };
+pub use mu_values::CellId;

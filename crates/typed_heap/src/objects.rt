@@ -1,7 +1,7 @@
 // The objects of a heap. Their cells stand in rows, object by object, so that an object takes little more than its cells do.
 ghost use Rattle.std.specs.Prelude.{◌≡◌, ◌+◌, ◌-◌, ◌^◌, ◌<◌, ◌≤◌, false, [], ◌∷◌, ◌++◌, Some, length, map, take, slice_get, slice_set, OnOk, OnErr, IsSomeAnd, IfSome, vec_len, vec_capacity};
 ghost use Rattle.std.specs.List.{All};
-ghost use Rattle.type_laws.specs.Leaves.{times};
+ghost use Rattle.type_definitions.specs.Leaves.{times};
 ghost use Rattle.mu_values.specs.Constants.{width_of};
 ghost use Rattle.typed_heap.specs.Objects.{object_of, killed, replaced, with_filled};
 ghost use Rattle.typed_heap.specs.Heap.{AreNarrow};

@@ -1,6 +1,6 @@
 // Places that are found from others, casts, and cells that may be accessed. None of these takes memory.
 ghost use Rattle.std.specs.Prelude.{◌≡◌, ℕ, ◌<◌, Some, None, length, slice_get, IfSome, IsSome, IsSomeAnd, ℤ, pos, ◌+ℤ◌};
-ghost use Rattle.type_laws.specs.Same.{IsGraph};
+ghost use Rattle.type_definitions.specs.Same.{IsGraph};
 ghost use Rattle.check_tables.specs.TypeTests.{fixed_fields_of};
 ghost use Rattle.typed_heap.specs.Places.{Field, Element, Shift, VarPart, move, find_place, cast, cell_of};
 ghost use Rattle.typed_heap.specs.Offsets.{offset_of};
@@ -10,9 +10,8 @@ use crate::faults::PlaceFault;
 use crate::fitting::{fits, fits_at};
 use crate::heap::Heap;
 use crate::moving::{leaves_before, moved};
-use heap_cells::CellId;
 use mu_types::{Classes, TypeDef};
-use mu_values::Scalar;
+use mu_values::{CellId, Scalar};
 
 impl Heap {
     /// The place of a field, by its number, of the struct or of the fixed part of the hybrid that a place is of. `Null`: the place is

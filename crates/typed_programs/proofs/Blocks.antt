@@ -8,13 +8,13 @@ use Rattle.ir_tree.specs.declared.items.Funcdef.{Funcdef}
 use Rattle.ir_tree.specs.declared.items.Item.{Item}
 use Rattle.ir_tree.specs.declared.items.Item.TheVariants as items
 use Rattle.check_tables.specs.declared.tables.Tables.{Tables}
-use Rattle.code_check.specs.declared.scopes.BlockEntry.{BlockEntry}
-use Rattle.code_check.specs.declared.scopes.Body.{Body}
-use Rattle.code_check.proofs.TypedOperands.{nat_eq_is}
-use Rattle.code_check.proofs.TypedVariables.{get_more}
-use Rattle.bundle_check.specs.Blocks.{block_demands, blocks_demands, block_code, blocks_code}
-use Rattle.bundle_check.specs.Functions.{entry_of, body_of, functions_demands, all_blocks}
-use Rattle.bundle_check.specs.Checking.{bundle_tables, bundle_blocks, check_demands}
+use Rattle.checked_code.specs.declared.scopes.BlockEntry.{BlockEntry}
+use Rattle.checked_code.specs.declared.scopes.Body.{Body}
+use Rattle.bundle_laws.proofs.TypedOperands.{nat_eq_is}
+use Rattle.bundle_laws.proofs.TypedVariables.{get_more}
+use Rattle.checked_code.specs.Blocks.{block_demands, blocks_demands, block_code, blocks_code}
+use Rattle.checked_code.specs.Functions.{entry_of, body_of, functions_demands, all_blocks}
+use Rattle.checked_code.specs.Checking.{bundle_tables, bundle_blocks, check_demands}
 use Rattle.bundle_laws.specs.Accepted.{blocks_from}
 use Rattle.bundle_laws.proofs.Bodies.{some_is}
 use Rattle.bundle_laws.proofs.Graph.{get_right}

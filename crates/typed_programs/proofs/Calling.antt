@@ -2,16 +2,16 @@
 use Rattle.std.proofs.Common.{◌≡◌, ℕ, true, List, Option, Some, None, IsSome, IsSomeAnd, slice_get, is_some, refl, sym, ◌∙◌, ap}
 use Rattle.demands.specs.Demands.{first_unmet}
 use Rattle.ir_tree.specs.declared.items.Item.{Item}
-use Rattle.type_laws.specs.declared.definition.TypeDef.TheVariants as types
+use Rattle.type_definitions.specs.declared.definition.TypeDef.TheVariants as types
 use Rattle.mu_values.specs.declared.scalars.Scalar.{Scalar}
 use Rattle.mu_values.specs.declared.scalars.Scalar.TheVariants.{Null, Func}
 use Rattle.check_tables.specs.declared.tables.Signature.{Signature}
 use Rattle.check_tables.specs.Lookups.{noted_signature}
-use Rattle.bundle_check.specs.declared.code.Function.{Function}
+use Rattle.checked_code.specs.declared.blocks.Function.{Function}
 use Rattle.bundle_names.specs.Naming.{name_demands}
-use Rattle.bundle_check.specs.Checking.{bundle_tables, bundle_functions, check_demands}
-use Rattle.code_check.specs.declared.code.Source.{Source}
-use Rattle.code_check.specs.Typed.{SourceFits, HasSignature}
+use Rattle.checked_code.specs.Checking.{bundle_tables, bundle_functions, check_demands}
+use Rattle.checked_code.specs.declared.code.Source.{Source}
+use Rattle.bundle_laws.specs.Typed.{SourceFits, HasSignature}
 use Rattle.typed_heap.specs.Fits.{DefinitionFits, signature_classes}
 use Rattle.typed_heap.specs.Places.{with_some}
 use Rattle.mu_model.specs.Types.{classes_taken, classes_given}

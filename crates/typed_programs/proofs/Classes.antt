@@ -2,14 +2,14 @@
 use Rattle.std.proofs.Common.{◌≡◌, ◌≤◌, ℕ, true, List, [], ◌∷◌, Option, Some, None, refl, ◌∙◌, ap}
 use Rattle.demands.specs.Demands.{first_unmet}
 use Rattle.ir_tree.specs.declared.items.Item.{Item}
-use Rattle.type_laws.specs.declared.definition.TypeDef.{TypeDef}
-use Rattle.type_laws.specs.declared.definition.TypeDef.TheVariants as types
+use Rattle.type_definitions.specs.declared.definition.TypeDef.{TypeDef}
+use Rattle.type_definitions.specs.declared.definition.TypeDef.TheVariants as types
 use Rattle.mu_values.specs.Constants.{width_of}
 use Rattle.bundle_names.specs.Naming.{name_demands}
 use Rattle.check_tables.specs.Types.{class_at, definition_at}
 use Rattle.check_tables.specs.TypeTests.{is_int, is_scalar}
-use Rattle.code_check.specs.Typed.{HasType}
-use Rattle.bundle_check.specs.Checking.{bundle_tables, check_demands}
+use Rattle.bundle_laws.specs.Typed.{HasType}
+use Rattle.checked_code.specs.Checking.{bundle_tables, check_demands}
 use Rattle.typed_heap.specs.Objects.{leaf_classes}
 use Rattle.mu_model.specs.Types.{type_graph, class_definition}
 use Rattle.model_laws.specs.Places.{IsScalarClass}

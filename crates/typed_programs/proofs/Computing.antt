@@ -2,8 +2,8 @@
 use Rattle.std.proofs.Common.{◌≡◌, ◌<◌, ◌≤◌, ◌^◌, ◌&&◌, nat_le, nat_eq, ℕ, Bool, true, false, List, [], ◌∷◌, Option, Some, None, IsSomeAnd, if◌then◌else◌, refl, sym, ◌∙◌, ap, subst, arith}
 use Rattle.std.proofs.lemmas.Bool.Decides.{nat_tests}
 use Rattle.ir_tree.specs.declared.items.Item.{Item}
-use Rattle.type_laws.specs.declared.definition.TypeDef.{TypeDef}
-use Rattle.type_laws.specs.declared.definition.TypeDef.TheVariants as types
+use Rattle.type_definitions.specs.declared.definition.TypeDef.{TypeDef}
+use Rattle.type_definitions.specs.declared.definition.TypeDef.TheVariants as types
 use Rattle.mu_values.specs.declared.scalars.Scalar.{Scalar}
 use Rattle.mu_values.specs.declared.scalars.Scalar.TheVariants.{Int}
 use Rattle.mu_base.specs.declared.operators.BinaryOp.{BinaryOp}
@@ -17,11 +17,11 @@ use Rattle.mu_values.specs.Comparisons.{compared}
 use Rattle.mu_values.proofs.Widths.{binary_below, converted_below}
 use Rattle.check_tables.specs.Types.{int1, definition_at}
 use Rattle.check_tables.specs.TypeTests.{is_scalar}
-use Rattle.bundle_check.specs.Checking.{bundle_tables}
-use Rattle.code_check.specs.declared.code.Source.{Source}
-use Rattle.code_check.specs.declared.code.ComputationForm.TheVariants as computing
-use Rattle.code_check.specs.Computations.{compares, converts}
-use Rattle.code_check.specs.Typed.{ComputationFits}
+use Rattle.checked_code.specs.Checking.{bundle_tables}
+use Rattle.checked_code.specs.declared.code.Source.{Source}
+use Rattle.checked_code.specs.declared.code.ComputationForm.TheVariants as computing
+use Rattle.checked_code.specs.Computations.{compares, converts}
+use Rattle.bundle_laws.specs.Typed.{ComputationFits}
 use Rattle.typed_heap.specs.Fits.{World, DefinitionFits, ValueFits}
 use Rattle.typed_heap.specs.Places.{with_some}
 use Rattle.frames.specs.Activations.{Value}

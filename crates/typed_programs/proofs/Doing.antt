@@ -7,26 +7,26 @@ use Rattle.ir_tree.specs.declared.code.Inst.{Inst}
 use Rattle.ir_tree.specs.declared.items.Item.{Item}
 use Rattle.bundle_names.specs.Naming.{name_demands}
 use Rattle.check_tables.specs.declared.tables.Tables.{Tables}
-use Rattle.bundle_check.specs.Blocks.{head_locals, block_code}
-use Rattle.bundle_check.specs.Functions.{body_of}
-use Rattle.bundle_check.specs.Checking.{bundle_tables, bundle_blocks, check_demands}
+use Rattle.checked_code.specs.Blocks.{head_locals, block_code}
+use Rattle.checked_code.specs.Functions.{body_of}
+use Rattle.checked_code.specs.Checking.{bundle_tables, bundle_blocks, check_demands}
 use Rattle.bundle_laws.specs.Accepted.{blocks_from, head_classes}
 use Rattle.bundle_laws.proofs.Heads.{head_fits, head_has}
 use Rattle.bundle_laws.proofs.Bodies.{some_is as some_same, body_fits}
-use Rattle.code_check.specs.declared.code.Form.{Form}
-use Rattle.code_check.specs.declared.code.Form.TheVariants as forms
-use Rattle.code_check.specs.declared.code.ComputationForm.{ComputationForm}
-use Rattle.code_check.specs.declared.code.ComputationForm.TheVariants as computing
-use Rattle.code_check.specs.declared.code.Code.{Code}
-use Rattle.code_check.specs.declared.scopes.Locals.{Locals}
-use Rattle.code_check.specs.declared.scopes.Body.{Body}
-use Rattle.code_check.specs.Destinations.{optional_target}
-use Rattle.code_check.specs.Instructions.{gives, normal_of, is_ending, inst_code, insts_code, after}
-use Rattle.code_check.specs.Typed.{Blocks, ComputationFits, FormFits, CodeFits, CodesFit, CodeAt, exits, form_ends, code_ends, joined}
-use Rattle.code_check.specs.TypedLaws.{all_gives}
-use Rattle.code_check.proofs.TypedVariables.{get_more}
-use Rattle.code_check.proofs.TypedInstructions.{insts_fit, all_classes}
-use Rattle.code_check.proofs.TypedEndings.{ends_same, ends_at_last, goes_on, code_at}
+use Rattle.checked_code.specs.declared.code.Form.{Form}
+use Rattle.checked_code.specs.declared.code.Form.TheVariants as forms
+use Rattle.checked_code.specs.declared.code.ComputationForm.{ComputationForm}
+use Rattle.checked_code.specs.declared.code.ComputationForm.TheVariants as computing
+use Rattle.checked_code.specs.declared.code.Code.{Code}
+use Rattle.checked_code.specs.declared.scopes.Locals.{Locals}
+use Rattle.checked_code.specs.declared.scopes.Body.{Body}
+use Rattle.checked_code.specs.Destinations.{optional_target}
+use Rattle.checked_code.specs.Instructions.{gives, normal_of, is_ending, inst_code, insts_code, after}
+use Rattle.bundle_laws.specs.Typed.{Blocks, ComputationFits, FormFits, CodeFits, CodesFit, CodeAt, exits, form_ends, code_ends, joined}
+use Rattle.bundle_laws.specs.TypedLaws.{all_gives}
+use Rattle.bundle_laws.proofs.TypedVariables.{get_more}
+use Rattle.bundle_laws.proofs.TypedInstructions.{insts_fit, all_classes}
+use Rattle.bundle_laws.proofs.TypedEndings.{ends_same, ends_at_last, goes_on, code_at}
 use Rattle.typed_heap.specs.Places.{with_some}
 use Rattle.mu_model.specs.Operands.{Scope}
 use Rattle.model_numbers.specs.Forms.{computation_at, act_at}

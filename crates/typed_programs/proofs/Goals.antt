@@ -9,13 +9,13 @@ use Rattle.ir_tree.specs.declared.items.Funcdef.{Funcdef}
 use Rattle.ir_tree.specs.declared.items.Item.{Item}
 use Rattle.bundle_names.specs.Naming.{name_demands}
 use Rattle.check_tables.specs.declared.tables.Tables.{Tables}
-use Rattle.bundle_check.specs.Checking.{bundle_tables, check_demands}
-use Rattle.bundle_check.specs.Blocks.{parameter_classes}
-use Rattle.bundle_check.specs.Functions.{body_of}
-use Rattle.code_check.specs.Instructions.{ends}
-use Rattle.code_check.specs.declared.code.Target.{Target}
-use Rattle.code_check.specs.declared.scopes.BlockEntry.{BlockEntry}
-use Rattle.code_check.specs.Typed.{Blocks, TargetFits, NormalFits, OptionalTargetFits, OptionalNormalFits}
+use Rattle.checked_code.specs.Checking.{bundle_tables, check_demands}
+use Rattle.checked_code.specs.Blocks.{parameter_classes}
+use Rattle.checked_code.specs.Functions.{body_of}
+use Rattle.checked_code.specs.Instructions.{ends}
+use Rattle.checked_code.specs.declared.code.Target.{Target}
+use Rattle.checked_code.specs.declared.scopes.BlockEntry.{BlockEntry}
+use Rattle.bundle_laws.specs.Typed.{Blocks, TargetFits, NormalFits, OptionalTargetFits, OptionalNormalFits}
 use Rattle.bundle_laws.specs.Accepted.{blocks_from, head_classes, handler_classes}
 use Rattle.mu_model.specs.Operands.{Scope, tables_in}
 use Rattle.mu_model.specs.Programs.{scopes_of}

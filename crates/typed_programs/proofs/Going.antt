@@ -1,21 +1,21 @@
 -- Instructions that say where the function goes on do what fits.
 use Rattle.std.proofs.Common.{◌≡◌, ◌<◌, ◌^◌, nat_eq, ℕ, Bool, true, false, List, [], ◌∷◌, Option, Some, map, slice_get, if◌then◌else◌, refl, sym, ◌∙◌, ap, subst, arith}
 use Rattle.ir_tree.specs.declared.items.Item.{Item}
-use Rattle.type_laws.specs.declared.definition.TypeDef.{TypeDef}
-use Rattle.type_laws.specs.declared.definition.TypeDef.TheVariants as types
+use Rattle.type_definitions.specs.declared.definition.TypeDef.{TypeDef}
+use Rattle.type_definitions.specs.declared.definition.TypeDef.TheVariants as types
 use Rattle.mu_values.specs.declared.scalars.Scalar.{Scalar}
 use Rattle.mu_values.specs.declared.scalars.Scalar.TheVariants.{Null, Func}
 use Rattle.mu_values.specs.SameScalar.{same_scalar}
 use Rattle.check_tables.specs.Types.{int1, ref_void}
 use Rattle.check_tables.specs.declared.tables.Signature.{Signature}
-use Rattle.bundle_check.specs.Checking.{bundle_tables}
-use Rattle.bundle_check.specs.Functions.{body_of}
-use Rattle.code_check.specs.declared.code.Source.TheVariants as sources
-use Rattle.code_check.specs.declared.code.Target.{Target}
-use Rattle.code_check.specs.declared.code.CaseForm.{CaseForm}
-use Rattle.code_check.specs.declared.code.ControlForm.{ControlForm}
-use Rattle.code_check.specs.declared.code.ControlForm.TheVariants as going
-use Rattle.code_check.specs.Typed.{NormalFits, CasesFit, ControlFits, control_form_ends}
+use Rattle.checked_code.specs.Checking.{bundle_tables}
+use Rattle.checked_code.specs.Functions.{body_of}
+use Rattle.checked_code.specs.declared.code.Source.TheVariants as sources
+use Rattle.checked_code.specs.declared.code.Target.{Target}
+use Rattle.checked_code.specs.declared.code.CaseForm.{CaseForm}
+use Rattle.checked_code.specs.declared.code.ControlForm.{ControlForm}
+use Rattle.checked_code.specs.declared.code.ControlForm.TheVariants as going
+use Rattle.bundle_laws.specs.Typed.{NormalFits, CasesFit, ControlFits, control_form_ends}
 use Rattle.typed_heap.specs.Fits.{DefinitionFits, ScalarFits}
 use Rattle.frames.specs.Activations.{Value}
 use Rattle.mu_model.specs.Acts as acts

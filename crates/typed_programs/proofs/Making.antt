@@ -3,24 +3,24 @@ use Rattle.std.proofs.Common.{◌≡◌, ◌<◌, ◌^◌, ◌==◌, ℕ, Bool, 
 use Rattle.std.specs.Prelude.{ℤ, pos, IfOk}
 use Rattle.std.proofs.lemmas.Bool.Decides.{eqb_tells}
 use Rattle.ir_tree.specs.declared.items.Item.{Item}
-use Rattle.type_laws.specs.declared.definition.TypeDef.{TypeDef}
-use Rattle.type_laws.specs.declared.definition.TypeDef.TheVariants as types
-use Rattle.type_laws.specs.Class.{class_of}
-use Rattle.type_laws.specs.Leaves.{times}
+use Rattle.type_definitions.specs.declared.definition.TypeDef.{TypeDef}
+use Rattle.type_definitions.specs.declared.definition.TypeDef.TheVariants as types
+use Rattle.type_definitions.specs.Class.{class_of}
+use Rattle.type_definitions.specs.Leaves.{times}
 use Rattle.mu_values.specs.declared.scalars.Scalar.{Scalar}
 use Rattle.mu_values.specs.declared.scalars.Scalar.TheVariants.{Null, Object, Place, Func}
 use Rattle.mu_values.specs.Constants.{width_of, member_count}
 use Rattle.mu_values.specs.Integers.{signed}
 use Rattle.check_tables.specs.Types.{definition_at, ref_at, iref_at}
 use Rattle.check_tables.specs.TypeTests.{is_int, is_castable, are_cast, is_index_type, is_scalar, fixed_fields_of, element_of, repeated_of}
-use Rattle.bundle_check.specs.Checking.{bundle_tables}
-use Rattle.code_check.specs.declared.code.Source.{Source}
-use Rattle.code_check.specs.declared.code.ComputationForm.TheVariants as computing
-use Rattle.code_check.specs.declared.code.AllocationForm.{AllocationForm}
-use Rattle.code_check.specs.declared.code.AllocationForm.TheVariants as making
-use Rattle.code_check.specs.declared.code.AddressingForm.{AddressingForm}
-use Rattle.code_check.specs.declared.code.AddressingForm.TheVariants as finding
-use Rattle.code_check.specs.Typed.{SourceFits, PlaceFits, HasType, GivesPlace, ComputationFits, AllocationFits, AddressingFits, nth_fixed_field}
+use Rattle.checked_code.specs.Checking.{bundle_tables}
+use Rattle.checked_code.specs.declared.code.Source.{Source}
+use Rattle.checked_code.specs.declared.code.ComputationForm.TheVariants as computing
+use Rattle.checked_code.specs.declared.code.AllocationForm.{AllocationForm}
+use Rattle.checked_code.specs.declared.code.AllocationForm.TheVariants as making
+use Rattle.checked_code.specs.declared.code.AddressingForm.{AddressingForm}
+use Rattle.checked_code.specs.declared.code.AddressingForm.TheVariants as finding
+use Rattle.bundle_laws.specs.Typed.{SourceFits, PlaceFits, HasType, GivesPlace, ComputationFits, AllocationFits, AddressingFits, nth_fixed_field}
 use Rattle.typed_heap.specs.declared.faults.PlaceFault.{PlaceFault}
 use Rattle.typed_heap.specs.Objects.{HeapObject, leaf_classes, run_classes, object_of}
 use Rattle.typed_heap.specs.Fits.{World, DefinitionFits, ScalarFits, fits, place_fits}

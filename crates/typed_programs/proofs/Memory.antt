@@ -3,24 +3,24 @@ use Rattle.std.proofs.Common.{◌≡◌, ◌<◌, ◌≤◌, ◌^◌, ◌==◌, 
 use Rattle.std.proofs.lemmas.Bool.{and_parts}
 use Rattle.std.proofs.lemmas.Bool.Decides.{eqb_tells, nat_tests}
 use Rattle.ir_tree.specs.declared.items.Item.{Item}
-use Rattle.type_laws.specs.declared.definition.TypeDef.{TypeDef}
-use Rattle.type_laws.specs.declared.definition.TypeDef.TheVariants as types
-use Rattle.type_laws.specs.Class.{class_of}
+use Rattle.type_definitions.specs.declared.definition.TypeDef.{TypeDef}
+use Rattle.type_definitions.specs.declared.definition.TypeDef.TheVariants as types
+use Rattle.type_definitions.specs.Class.{class_of}
 use Rattle.mu_values.specs.declared.scalars.Scalar.{Scalar}
 use Rattle.mu_values.specs.declared.scalars.Scalar.TheVariants.{Int, Null, Place}
 use Rattle.mu_base.specs.declared.operators.UpdateOp.{UpdateOp}
 use Rattle.mu_base.specs.declared.operators.UpdateOp.TheVariants as updates
 use Rattle.mu_values.specs.Updates.{updated_bits}
 use Rattle.mu_values.proofs.Widths.{updated_below}
-use Rattle.heap_cells.specs.declared.cells.CellId.{CellId}
+use Rattle.mu_values.specs.declared.cells.CellId.{CellId}
 use Rattle.check_tables.specs.Types.{class_at, definition_at, int32}
 use Rattle.check_tables.specs.TypeTests.{is_int, is_scalar, is_int64}
-use Rattle.bundle_check.specs.Checking.{bundle_tables}
-use Rattle.code_check.specs.declared.code.Source.{Source}
-use Rattle.code_check.specs.declared.code.AccessForm.{AccessForm}
-use Rattle.code_check.specs.declared.code.AccessForm.TheVariants as accessing
-use Rattle.code_check.specs.Accesses.{updates_type, may_load, may_update}
-use Rattle.code_check.specs.Typed.{SourceFits, PlaceFits, HasType, Int64Fits, AccessFits}
+use Rattle.checked_code.specs.Checking.{bundle_tables}
+use Rattle.checked_code.specs.declared.code.Source.{Source}
+use Rattle.checked_code.specs.declared.code.AccessForm.{AccessForm}
+use Rattle.checked_code.specs.declared.code.AccessForm.TheVariants as accessing
+use Rattle.checked_code.specs.Accesses.{updates_type, may_load, may_update}
+use Rattle.bundle_laws.specs.Typed.{SourceFits, PlaceFits, HasType, Int64Fits, AccessFits}
 use Rattle.typed_heap.specs.Objects.{HeapObject, leaf_classes}
 use Rattle.typed_heap.specs.Fits.{World, DefinitionFits, ScalarFits, begins, fits, place_fits}
 use Rattle.mu_model.specs.Acts as acts

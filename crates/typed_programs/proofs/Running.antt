@@ -6,13 +6,13 @@ use Rattle.std.proofs.lemmas.Option.{slice_get-map}
 use Rattle.std.proofs.lemmas.List.Elements.{All-nil, All-cons}
 use Rattle.demands.specs.Demands.{first_unmet}
 use Rattle.ir_tree.specs.declared.items.Item.{Item}
-use Rattle.type_laws.specs.declared.definition.TypeDef.{TypeDef}
-use Rattle.type_laws.specs.declared.definition.TypeDef.TheVariants as types
+use Rattle.type_definitions.specs.declared.definition.TypeDef.{TypeDef}
+use Rattle.type_definitions.specs.declared.definition.TypeDef.TheVariants as types
 use Rattle.mu_values.specs.declared.scalars.Scalar.TheVariants.{Place}
 use Rattle.bundle_names.specs.Naming.{name_demands}
 use Rattle.check_tables.specs.declared.tables.Tables.{Tables}
-use Rattle.bundle_check.specs.Checking.{bundle_tables, check_demands}
-use Rattle.type_laws.specs.Same.{IsGraph}
+use Rattle.checked_code.specs.Checking.{bundle_tables, check_demands}
+use Rattle.type_definitions.specs.Same.{IsGraph}
 use Rattle.typed_heap.specs.Objects.{HeapObject, leaf_classes, object_of}
 use Rattle.typed_heap.specs.Fits.{World, DefinitionFits, ScalarFits, place_fits}
 use Rattle.typed_heap.proofs.Fitted.{object_fits}

@@ -9,17 +9,17 @@ use Rattle.std.proofs.Math.Nat.{mul-mod_left}
 use Rattle.std.proofs.Math.Seq.{drop-append_seam}
 use Rattle.std.specs.List.{All}
 use Rattle.ir_tree.specs.declared.items.Item.{Item}
-use Rattle.type_laws.specs.declared.definition.TypeDef.{TypeDef}
-use Rattle.type_laws.specs.declared.definition.TypeDef.TheVariants as types
-use Rattle.type_laws.specs.Same.{IsGraph}
-use Rattle.type_laws.specs.Class.{class_of}
-use Rattle.type_laws.specs.Leaves.{times}
+use Rattle.type_definitions.specs.declared.definition.TypeDef.{TypeDef}
+use Rattle.type_definitions.specs.declared.definition.TypeDef.TheVariants as types
+use Rattle.type_definitions.specs.Same.{IsGraph}
+use Rattle.type_definitions.specs.Class.{class_of}
+use Rattle.type_definitions.specs.Leaves.{times}
 use Rattle.mu_values.specs.declared.scalars.Scalar.{Scalar}
 use Rattle.mu_values.specs.declared.scalars.Scalar.TheVariants.{Null, Place}
 use Rattle.check_tables.specs.Types.{class_at, definition_at}
 use Rattle.check_tables.specs.TypeTests.{fields_of, fixed_fields_of, element_of, repeated_of}
-use Rattle.bundle_check.specs.Checking.{bundle_tables}
-use Rattle.code_check.specs.Typed.{nth_of, nth_field, nth_fixed_field}
+use Rattle.checked_code.specs.Checking.{bundle_tables}
+use Rattle.bundle_laws.specs.Typed.{nth_of, nth_field, nth_fixed_field}
 use Rattle.typed_heap.specs.Objects.{HeapObject, leaf_classes, run_of, run_classes}
 use Rattle.typed_heap.specs.Fits.{DefinitionFits, begins, are_runs, rest_fits, fits, place_fits}
 use Rattle.typed_heap.proofs.Found.{target_within, fields_within}

@@ -1,22 +1,22 @@
 -- Instructions that ask the client, that enter stacks, and those under names do what fits.
 use Rattle.std.proofs.Common.{◌≡◌, ◌||◌, ℕ, Bool, true, false, not, List, [], ◌∷◌, Option, Some, None, IsSomeAnd, option_map, refl, ◌∙◌, ap}
 use Rattle.ir_tree.specs.declared.items.Item.{Item}
-use Rattle.type_laws.specs.declared.definition.TypeDef.TheVariants as types
+use Rattle.type_definitions.specs.declared.definition.TypeDef.TheVariants as types
 use Rattle.mu_values.specs.declared.scalars.Scalar.{Scalar}
 use Rattle.mu_values.specs.declared.scalars.Scalar.TheVariants.{Null, Func}
 use Rattle.check_tables.specs.Types.{stackref, ref_void}
 use Rattle.check_tables.specs.declared.tables.Signature.{Signature}
-use Rattle.bundle_check.specs.Checking.{bundle_tables}
-use Rattle.code_check.specs.declared.code.Source.{Source}
-use Rattle.code_check.specs.declared.code.Entered.{Entered}
-use Rattle.code_check.specs.declared.code.Entered.TheVariants as entered
-use Rattle.code_check.specs.declared.code.TrappingForm.{TrappingForm}
-use Rattle.code_check.specs.declared.code.TrappingForm.TheVariants as asking
-use Rattle.code_check.specs.declared.code.SwitchForm.{SwitchForm}
-use Rattle.code_check.specs.declared.code.SwitchForm.TheVariants as switching
-use Rattle.code_check.specs.declared.code.CommonForm.{CommonForm}
-use Rattle.code_check.specs.declared.code.CommonForm.TheVariants as commons
-use Rattle.code_check.specs.Typed.{SourceFits, OptionalFits, TrappingFits, EnteredFits, SwitchFits, CommonFits, trapping_exits, trapping_form_ends, switch_form_ends, common_form_ends}
+use Rattle.checked_code.specs.Checking.{bundle_tables}
+use Rattle.checked_code.specs.declared.code.Source.{Source}
+use Rattle.checked_code.specs.declared.code.Entered.{Entered}
+use Rattle.checked_code.specs.declared.code.Entered.TheVariants as entered
+use Rattle.checked_code.specs.declared.code.TrappingForm.{TrappingForm}
+use Rattle.checked_code.specs.declared.code.TrappingForm.TheVariants as asking
+use Rattle.checked_code.specs.declared.code.SwitchForm.{SwitchForm}
+use Rattle.checked_code.specs.declared.code.SwitchForm.TheVariants as switching
+use Rattle.checked_code.specs.declared.code.CommonForm.{CommonForm}
+use Rattle.checked_code.specs.declared.code.CommonForm.TheVariants as commons
+use Rattle.bundle_laws.specs.Typed.{SourceFits, OptionalFits, TrappingFits, EnteredFits, SwitchFits, CommonFits, trapping_exits, trapping_form_ends, switch_form_ends, common_form_ends}
 use Rattle.typed_heap.specs.Fits.{DefinitionFits, ScalarFits}
 use Rattle.mu_model.specs.Acts as acts
 use Rattle.mu_model.specs.Acts.{Act, Entering}

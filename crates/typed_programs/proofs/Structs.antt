@@ -6,16 +6,16 @@ use Rattle.std.proofs.lemmas.List.Concat.{flat_map-cons}
 use Rattle.std.proofs.lemmas.List.Sums.{sum_by-cons}
 use Rattle.std.proofs.Math.Seq.{take-add}
 use Rattle.ir_tree.specs.declared.items.Item.{Item}
-use Rattle.type_laws.specs.declared.definition.TypeDef.{TypeDef}
-use Rattle.type_laws.specs.declared.definition.TypeDef.TheVariants as types
+use Rattle.type_definitions.specs.declared.definition.TypeDef.{TypeDef}
+use Rattle.type_definitions.specs.declared.definition.TypeDef.TheVariants as types
 use Rattle.mu_values.specs.declared.scalars.Scalar.{Scalar}
 use Rattle.check_tables.specs.declared.tables.Tables.{Tables}
 use Rattle.check_tables.specs.Types.{class_at, definition_at}
 use Rattle.check_tables.specs.TypeTests.{fields_of}
-use Rattle.bundle_check.specs.Checking.{bundle_tables}
-use Rattle.code_check.specs.declared.code.Source.{Source}
-use Rattle.code_check.specs.declared.code.ComputationForm.TheVariants as computing
-use Rattle.code_check.specs.Typed.{SourceFits, TypeFits, GivesType, ComputationFits, nth_field}
+use Rattle.checked_code.specs.Checking.{bundle_tables}
+use Rattle.checked_code.specs.declared.code.Source.{Source}
+use Rattle.checked_code.specs.declared.code.ComputationForm.TheVariants as computing
+use Rattle.bundle_laws.specs.Typed.{SourceFits, TypeFits, GivesType, ComputationFits, nth_field}
 use Rattle.typed_heap.specs.Objects.{leaf_classes}
 use Rattle.typed_heap.specs.Fits.{World, ScalarsFit, ValueFits}
 use Rattle.typed_heap.specs.Places.{leaves_together}

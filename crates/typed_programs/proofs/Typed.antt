@@ -6,18 +6,18 @@ use Rattle.ir_tree.specs.declared.items.Funcdef.{Funcdef}
 use Rattle.ir_tree.specs.declared.items.Item.{Item}
 use Rattle.ir_tree.specs.declared.items.Item.TheVariants as items
 use Rattle.bundle_names.specs.Naming.{name_demands}
-use Rattle.bundle_check.specs.declared.code.BlockCode.{BlockCode}
-use Rattle.bundle_check.specs.declared.code.Function.{Function}
-use Rattle.bundle_check.specs.Blocks.{block_code}
-use Rattle.bundle_check.specs.Functions.{body_of}
-use Rattle.bundle_check.specs.Checking.{bundle_tables, bundle_blocks, bundle_functions, check_demands}
+use Rattle.checked_code.specs.declared.blocks.BlockCode.{BlockCode}
+use Rattle.checked_code.specs.declared.blocks.Function.{Function}
+use Rattle.checked_code.specs.Blocks.{block_code}
+use Rattle.checked_code.specs.Functions.{body_of}
+use Rattle.checked_code.specs.Checking.{bundle_tables, bundle_blocks, bundle_functions, check_demands}
 use Rattle.bundle_laws.specs.Accepted.{head_classes, CodeOf}
 use Rattle.bundle_laws.proofs.Bodies.{some_is as some_same}
 use Rattle.bundle_laws.proofs.Numbered.{code_fits}
-use Rattle.code_check.specs.declared.code.Code.{Code}
-use Rattle.code_check.specs.Instructions.{is_ending, normal_of}
-use Rattle.code_check.specs.Typed.{joined, form_ends}
-use Rattle.code_check.specs.TypedLaws.{all_gives}
+use Rattle.checked_code.specs.declared.code.Code.{Code}
+use Rattle.checked_code.specs.Instructions.{is_ending, normal_of}
+use Rattle.bundle_laws.specs.Typed.{joined, form_ends}
+use Rattle.bundle_laws.specs.TypedLaws.{all_gives}
 use Rattle.typed_heap.specs.Fits.{World}
 use Rattle.typed_heap.specs.Places.{with_some}
 use Rattle.frames.specs.Activations.{Value}

@@ -3,9 +3,9 @@ use Rattle.std.specs.Prelude.{ℕ, List, [], ◌++◌, Bool, Option, Some, None,
 use Rattle.ir_tree.specs.declared.code.Op.{Op}
 use Rattle.ir_tree.specs.declared.code.Inst.{Inst}
 use Rattle.ir_tree.specs.declared.items.Item.{Item}
-use Rattle.code_check.specs.Instructions.{gives, normal_of, is_ending}
-use Rattle.code_check.specs.Typed.{joined}
-use Rattle.code_check.specs.TypedLaws.{all_gives}
+use Rattle.checked_code.specs.Instructions.{gives, normal_of, is_ending}
+use Rattle.bundle_laws.specs.Typed.{joined}
+use Rattle.bundle_laws.specs.TypedLaws.{all_gives}
 use Rattle.bundle_laws.specs.Accepted.{head_classes}
 use Rattle.typed_heap.specs.Places.{with_some}
 use Rattle.mu_model.specs.Operands.{Scope, tables_in}

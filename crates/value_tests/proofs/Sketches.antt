@@ -4,10 +4,10 @@ use Rattle.std.specs.Prelude.{Bool, true, false, cond}
 use Rattle.std.specs.List.{All}
 use Rattle.std.proofs.lemmas.List.{length-append}
 use Rattle.std.proofs.lemmas.List.Elements.{All-push, All-append, All-weaker, All-more}
-use Rattle.type_laws.specs.declared.definition.TypeDef.{TypeDef}
-use Rattle.type_laws.specs.declared.definition.TypeDef.TheVariants.{Int, Void, StackRef, ThreadRef}
-use Rattle.type_laws.specs.Definition.{arguments}
-use Rattle.type_laws.specs.Same.{IsGraph}
+use Rattle.type_definitions.specs.declared.definition.TypeDef.{TypeDef}
+use Rattle.type_definitions.specs.declared.definition.TypeDef.TheVariants.{Int, Void, StackRef, ThreadRef}
+use Rattle.type_definitions.specs.Definition.{arguments}
+use Rattle.type_definitions.specs.Same.{IsGraph}
 use Rattle.mu_types.specs.Implied.{is_signature, references, references_from, complete}
 use Rattle.value_tests.specs.Sketches.{IsDrawn}
 

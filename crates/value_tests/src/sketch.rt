@@ -1,13 +1,14 @@
 // Graphs that are drawn definition by definition, and what is known of a finished one.
 ghost use Rattle.std.specs.Prelude.{◌≡◌, ◌<◌, ◌≤◌, ◌++◌, length, cond};
 ghost use Rattle.std.specs.List.{All};
-ghost use Rattle.type_laws.specs.Definition.{arguments};
+ghost use Rattle.type_definitions.specs.Definition.{arguments};
 ghost use Rattle.mu_types.specs.Implied.{is_signature};
 
-use mu_types::{Classes, TypeDef, TypeFault, TypeGraph, classes};
+use mu_types::{Classes, TypeDef, TypeFault};
 use std::alloc::{AllocError, Global};
 use std::marker::Model;
 use text_forms::Listing;
+use type_classes::{TypeGraph, classes};
 
 /// A graph has no more definitions than these.
 const MOST_DEFINITIONS: usize = 1_000_000;

@@ -1,10 +1,10 @@
 ghost use Rattle.std.specs.Prelude.{◌≡◌, Some, slice_get, IfOk, IsTrue};
-ghost use Rattle.type_laws.specs.declared.definition.TypeDef.TheVariants as types;
+ghost use Rattle.type_definitions.specs.declared.definition.TypeDef.TheVariants as types;
 ghost use Rattle.mu_values.specs.declared.literals.LiteralKind.TheVariants as literals;
 ghost use Rattle.mu_values.specs.Integers.{IsInteger};
 
 use mu_base::{BinaryOp, CompareOp, ConvertOp, Types, UpdateOp};
-use mu_types::{Classes, TypeDef, TypeFault, TypeGraph, classes};
+use mu_types::{Classes, TypeDef, TypeFault};
 use mu_values::{
     ConstFault, ConstKind, Literal, LiteralKind, Made, Passed, Scalar, Slots, Value, binary,
     compare, convert, judge_const, make_const, updated,
@@ -13,6 +13,7 @@ use std::alloc::{AllocError, Global};
 use std::process::Abort;
 use std::test::Fail;
 use text_forms::Listing;
+use type_classes::{TypeGraph, classes};
 
 fn is_integer(width: u32, n: u128) -> bool
     ensures { IsTrue result → IsInteger width n }

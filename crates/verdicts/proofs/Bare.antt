@@ -4,7 +4,7 @@ use Rattle.std.specs.Prelude.{Option, Some, None, if◌then◌else◌}
 use Rattle.mu_base.specs.declared.order.Order.{Order}
 use Rattle.mu_values.specs.declared.scalars.Scalar.{Scalar}
 use Rattle.mu_values.specs.declared.scalars.Scalar.TheVariants.{Null}
-use Rattle.heap_cells.specs.declared.cells.CellId.{CellId}
+use Rattle.mu_values.specs.declared.cells.CellId.{CellId}
 use Rattle.mem_axioms.specs.Events.{is_fence, order_of, position_taken, position_of, modifies}
 use Rattle.mem_axioms.specs.Logs.{any_event, each_event, least_event, each_where}
 use Rattle.mem_axioms.specs.Synchronizes.{heads, released, released_to, fences, releases, synchronizes_by_release, synchronizes_by_stack, synchronizes_by_wake, makes_thread, gives_up, last_to_give_up}

@@ -1,7 +1,7 @@
 -- What the answers of look-ups rest on. No clause of a public call speaks of it.
 use Rattle.std.specs.Prelude.{◌≡◌, ℕ, suc, Bool, true, List, slice_index, Option, Some, None}
 use Rattle.mu_values.specs.declared.scalars.Scalar.{Scalar}
-use Rattle.heap_cells.specs.declared.cells.CellId.{CellId}
+use Rattle.mu_values.specs.declared.cells.CellId.{CellId}
 use Rattle.mem_axioms.specs.Events.{accesses}
 use Rattle.mem_axioms.specs.Form.{fits_form_by, has_form_by}
 use Rattle.mem_axioms.specs.declared.types.Rule.{Rule}

@@ -1,6 +1,6 @@
 -- Room for accesses of a cell by a thread.
 use Rattle.std.specs.Prelude.{◌≡◌, ℕ, suc, ◌<◌, List, length, slice_index_or}
-use Rattle.heap_cells.specs.declared.cells.CellId.{CellId}
+use Rattle.mu_values.specs.declared.cells.CellId.{CellId}
 use Rattle.view_parts.specs.CellAdded.{CellRoom}
 use Rattle.view_parts.specs.declared.cell.CellViews.{CellViews}
 

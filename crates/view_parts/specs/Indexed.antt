@@ -1,6 +1,6 @@
 -- Indexes by thread, and what they hold of a log. A thread whose index was not made yet has an empty one.
 use Rattle.std.specs.Prelude.{ℕ, suc, Bool, ◌&&◌, ◌==◌, if◌then◌else◌, slice_index_or, List, [], ◌∷◌, length}
-use Rattle.heap_cells.specs.declared.cells.CellId.{CellId}
+use Rattle.mu_values.specs.declared.cells.CellId.{CellId}
 use Rattle.mem_axioms.specs.Events.{accesses, position_of}
 use Rattle.mem_axioms.specs.declared.types.Event.{Event}
 use Rattle.write_history.specs.Rooms.{Accesses}

@@ -1,6 +1,6 @@
 -- Room for the events of one step.
 use Rattle.std.specs.Prelude.{◌≡◌, ℕ, ◌<◌, List, Some}
-use Rattle.heap_cells.specs.declared.cells.CellId.{CellId}
+use Rattle.mu_values.specs.declared.cells.CellId.{CellId}
 use Rattle.mem_axioms.specs.declared.types.Room.{Room}
 use Rattle.view_parts.specs.CellRooms.{CellRoomAt}
 use Rattle.view_parts.specs.declared.cell.CellViews.{CellViews}

@@ -1,6 +1,6 @@
 // What is kept of the touched cells, each at its place.
 ghost use Rattle.std.specs.Prelude.{◌≡◌, ℕ, suc, ◌+◌, ◌<◌, ◌≤◌, true, false, List, ◌∷◌, length, slice_index_or, OnOk};
-ghost use Rattle.heap_cells.specs.declared.cells.CellId.{CellId};
+ghost use Rattle.mu_values.specs.declared.cells.CellId.{CellId};
 ghost use Rattle.mem_axioms.specs.Events.{accesses, is_modification, position_of};
 ghost use Rattle.mem_axioms.specs.declared.types.Rule.{Rule};
 ghost use Rattle.mem_axioms.specs.declared.types.Event.{Event};
@@ -19,9 +19,9 @@ use crate::cell::CellViews;
 use crate::families::NextEvent;
 use crate::places::CellPlaces;
 use clocks::ClockList;
-use heap_cells::CellId;
 use mem_axioms::Rule;
 use mem_axioms::event_facts::cell_of;
+use mu_values::CellId;
 use std::alloc::{AllocError, Global};
 
 /// Adds an access to what is kept at a place.

@@ -1,10 +1,10 @@
 // The places of the cells that were touched.
 ghost use Rattle.std.specs.Prelude.{◌≡◌, ℕ, ◌+◌, if◌then◌else◌, List, length, OnOk, OnErr, MatchOption};
-ghost use Rattle.heap_cells.specs.declared.cells.CellId.{CellId};
-ghost use Rattle.heap_cells.specs.SameCell.{same_cell};
+ghost use Rattle.mu_values.specs.declared.cells.CellId.{CellId};
+ghost use Rattle.mu_values.specs.SameCell.{same_cell};
 ghost use Rattle.view_parts.specs.Placing.{Owned};
 
-use heap_cells::CellId;
+use mu_values::CellId;
 use std::alloc::{AllocError, Global};
 
 /// The places of the cells that were touched: 0 and so on, in the order in which they were touched.

@@ -3,7 +3,7 @@ use Rattle.std.proofs.Common.{◌≡◌, ℕ, suc, ◌<◌, ◌≤◌, Bool, tru
 use Rattle.std.proofs.lemmas.Bool.{eq-eqb, eqb-true, or_cases, or_left, or_right, and_from, and_parts, false≢true, ltb-true, lt-ltb, leb-true}
 use Rattle.mu_base.specs.declared.order.Order.{Order}
 use Rattle.mu_values.specs.declared.scalars.Scalar.{Scalar}
-use Rattle.heap_cells.specs.declared.cells.CellId.{CellId}
+use Rattle.mu_values.specs.declared.cells.CellId.{CellId}
 use Rattle.mem_axioms.specs.Events.{is_atomic, position_taken, is_fence, order_of, loads, is_wake}
 use Rattle.mem_axioms.specs.Logs.{event_at, any_event, newest}
 use Rattle.mem_axioms.specs.Synchronizes.{acquires, releases, synchronizes_by_release, makes_thread, last_to_give_up, gives_up, heads, released, released_to}

@@ -3,7 +3,7 @@ use Rattle.std.proofs.Common.{◌≡◌, ℕ, ◌<◌, Bool, true, false, ◌&&�
 use Rattle.std.proofs.lemmas.Bool.{and_from, and_parts, false≢true, ltb-true, lt-ltb}
 use Rattle.mu_base.specs.declared.order.Order.{Order}
 use Rattle.mu_values.specs.declared.scalars.Scalar.{Scalar}
-use Rattle.heap_cells.specs.declared.cells.CellId.{CellId}
+use Rattle.mu_values.specs.declared.cells.CellId.{CellId}
 use Rattle.mem_axioms.specs.Events.{accesses, is_fence, is_seq_cst, is_seq_cst_fence}
 use Rattle.mem_axioms.specs.Logs.{event_at, any_event, last_number, greatest_position}
 use Rattle.mem_axioms.specs.HappensBefore.{happens_before}

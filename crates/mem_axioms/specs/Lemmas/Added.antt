@@ -2,8 +2,8 @@
 use Rattle.std.proofs.Common.{◌≡◌, ℕ, suc, ◌<◌, ◌≤◌, true, ◌&&◌, eqb, ltb, List, ◌∷◌, length, Some, sym, ◌∙◌, inl, inr, ◌⊎◌, ◌↔◌, arith}
 use Rattle.std.proofs.lemmas.Bool.{cases_lt, or_cases, and_from, and_parts, false≢true, ltb-true}
 use Rattle.mu_values.specs.declared.scalars.Scalar.{Scalar}
-use Rattle.heap_cells.specs.declared.cells.CellId.{CellId}
-use Rattle.heap_cells.specs.SameCell.{same_cell}
+use Rattle.mu_values.specs.declared.cells.CellId.{CellId}
+use Rattle.mu_values.specs.SameCell.{same_cell}
 use Rattle.mem_axioms.specs.Events.{position_of, stores, is_fence, is_read, is_modification, on_one_cell}
 use Rattle.mem_axioms.specs.Logs.{event_at}
 use Rattle.mem_axioms.specs.HappensBefore.{happens_before}

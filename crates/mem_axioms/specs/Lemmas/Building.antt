@@ -5,7 +5,7 @@ use Rattle.mu_base.specs.declared.order.Order.{Order}
 use Rattle.mu_values.specs.declared.scalars.Scalar.{Scalar}
 use Rattle.mu_values.specs.SameScalar.{same_scalar}
 use Rattle.mu_values.specs.ScalarLaws.{same_scalar-true}
-use Rattle.heap_cells.specs.declared.cells.CellId.{CellId}
+use Rattle.mu_values.specs.declared.cells.CellId.{CellId}
 use Rattle.mem_axioms.specs.Events.{modifies, position_of, value_of}
 use Rattle.mem_axioms.specs.Logs.{event_at, past_of, newest}
 use Rattle.mem_axioms.specs.Form.{value_at, is_value_at, fits_form}

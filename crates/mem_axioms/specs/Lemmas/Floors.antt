@@ -4,8 +4,8 @@ use Rattle.std.proofs.lemmas.Bool.{cases_eq, cases_lt, or_cases, or_left, or_rig
 use Rattle.std.proofs.lemmas.Bool.Decides.{same_from_decides}
 use Rattle.mu_base.specs.declared.order.Order.{Order}
 use Rattle.mu_values.specs.declared.scalars.Scalar.{Scalar}
-use Rattle.heap_cells.specs.declared.cells.CellId.{CellId}
-use Rattle.heap_cells.specs.CellLaws.{same_cell-true, same_cell-refl}
+use Rattle.mu_values.specs.declared.cells.CellId.{CellId}
+use Rattle.mu_values.specs.CellLaws.{same_cell-true, same_cell-refl}
 use Rattle.mem_axioms.specs.Events.{accesses, position_of, order_of, is_atomic, is_fence, is_seq_cst, is_seq_cst_fence, is_read, on_one_cell}
 use Rattle.mem_axioms.specs.Logs.{event_at, any_event, newest, greatest_position, last_number}
 use Rattle.mem_axioms.specs.Synchronizes.{acquires, released, released_to, makes_thread, synchronizes_by_release}

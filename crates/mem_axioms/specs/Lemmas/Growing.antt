@@ -2,8 +2,8 @@
 use Rattle.std.proofs.Common.{◌≡◌, ℕ, true, is_none, List, [], ◌∷◌, None, refl, ap, inl, inr}
 use Rattle.std.proofs.lemmas.Bool.{and_from, false≢true}
 use Rattle.mu_values.specs.declared.scalars.Scalar.{Scalar}
-use Rattle.heap_cells.specs.declared.cells.CellId.{CellId}
-use Rattle.heap_cells.specs.CellLaws.{same_cell-true}
+use Rattle.mu_values.specs.declared.cells.CellId.{CellId}
+use Rattle.mu_values.specs.CellLaws.{same_cell-true}
 use Rattle.mem_axioms.specs.Events.{accesses}
 use Rattle.mem_axioms.specs.Axioms.{is_coherent, is_seq_cst_ordered, meets_axioms}
 use Rattle.mem_axioms.specs.Races.{race, is_race_free}

@@ -5,9 +5,9 @@ use Rattle.mu_base.specs.declared.order.Order.{Order}
 use Rattle.mu_values.specs.declared.scalars.Scalar.{Scalar}
 use Rattle.mu_values.specs.SameScalar.{same_scalar}
 use Rattle.mu_values.specs.ScalarLaws.{same_scalar-refl}
-use Rattle.heap_cells.specs.declared.cells.CellId.{CellId}
-use Rattle.heap_cells.specs.SameCell.{same_cell}
-use Rattle.heap_cells.specs.CellLaws.{same_cell-true, same_cell-refl}
+use Rattle.mu_values.specs.declared.cells.CellId.{CellId}
+use Rattle.mu_values.specs.SameCell.{same_cell}
+use Rattle.mu_values.specs.CellLaws.{same_cell-true, same_cell-refl}
 use Rattle.mem_axioms.specs.Events.{accesses, modifies, position_of, stores, is_access, is_read, is_modification, on_one_cell}
 use Rattle.mem_axioms.specs.Logs.{event_at, newest}
 use Rattle.mem_axioms.specs.Form.{fits_form, has_form, is_value_at, value_at}

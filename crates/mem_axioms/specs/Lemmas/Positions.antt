@@ -5,11 +5,11 @@ use Rattle.mem_axioms.specs.Events.{accesses, modifies, position_of, order_of, i
 use Rattle.mem_axioms.specs.Logs.{event_at, count_events, newest}
 use Rattle.mem_axioms.specs.Synchronizes.{heads, released, continues, fences, releases}
 use Rattle.mem_axioms.specs.Form.{fits_form_by, has_form_by}
-use Rattle.heap_cells.specs.CellLaws.{same_cell-true}
+use Rattle.mu_values.specs.CellLaws.{same_cell-true}
 use Rattle.mem_axioms.specs.Lemmas.Numbers.{any-some, event-below, event-cases, event-older, event-newest}
 use Rattle.mem_axioms.specs.declared.types.Event.{Event}
 use Rattle.mem_axioms.specs.declared.types.Rule.{Rule}
-use Rattle.heap_cells.specs.declared.cells.CellId.{CellId}
+use Rattle.mu_values.specs.declared.cells.CellId.{CellId}
 use Rattle.mu_values.specs.declared.scalars.Scalar.{Scalar}
 use Rattle.mem_axioms.specs.declared.types.Kind.{Kind}
 use Rattle.mem_axioms.specs.declared.types.Kind.TheVariants.{Access, Fence, NewStack, NewThread, Leave, Enter, Wake, Woken}

@@ -4,9 +4,9 @@ use Rattle.std.proofs.lemmas.Bool.{eq-eqb, ne_eqb, eqb-true, and_from, and_parts
 use Rattle.mu_values.specs.declared.scalars.Scalar.{Scalar}
 use Rattle.mu_values.specs.SameScalar.{same_scalar}
 use Rattle.mu_values.specs.ScalarLaws.{same_scalar-refl, same_scalar-true}
-use Rattle.heap_cells.specs.declared.cells.CellId.{CellId}
-use Rattle.heap_cells.specs.SameCell.{same_cell}
-use Rattle.heap_cells.specs.CellLaws.{same_cell-true}
+use Rattle.mu_values.specs.declared.cells.CellId.{CellId}
+use Rattle.mu_values.specs.SameCell.{same_cell}
+use Rattle.mu_values.specs.CellLaws.{same_cell-true}
 use Rattle.mem_axioms.specs.Events.{accesses, modifies, position_of, value_of, stores}
 use Rattle.mem_axioms.specs.Logs.{event_at, newest}
 use Rattle.mem_axioms.specs.Form.{value_at, fits_form_by, has_form_by, is_value_at, fits_form, has_form, is_only_value, has_form_alone}

@@ -4,8 +4,8 @@ use Rattle.std.proofs.lemmas.List.{get_or_append_left}
 use Rattle.mu_base.specs.declared.order.Order.{Order}
 use Rattle.mu_values.specs.declared.scalars.Scalar.{Scalar}
 use Rattle.mu_values.specs.declared.scalars.Scalar.TheVariants.{Null}
-use Rattle.heap_cells.specs.declared.cells.CellId.{CellId}
-use Rattle.heap_cells.specs.CellLaws.{same_cell-true}
+use Rattle.mu_values.specs.declared.cells.CellId.{CellId}
+use Rattle.mu_values.specs.CellLaws.{same_cell-true}
 use Rattle.mem_axioms.specs.Events.{accesses}
 use Rattle.mem_axioms.specs.Form.{value_at}
 use Rattle.mem_axioms.specs.Axioms.{meets_axioms}

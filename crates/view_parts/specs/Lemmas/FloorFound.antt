@@ -3,7 +3,7 @@ use Rattle.std.proofs.Common.{◌≡◌, ℕ, ◌<◌, ◌≤◌, Bool, true, fa
 use Rattle.std.proofs.lemmas.Bool.{false≢true, ltb-true, lt-ltb, and_from, and_parts, or_cases, cases_eq, ne_eqb, eq-eqb, eqb-true}
 use Rattle.mu_base.specs.declared.order.Order.{Order}
 use Rattle.mu_values.specs.declared.scalars.Scalar.{Scalar}
-use Rattle.heap_cells.specs.declared.cells.CellId.{CellId}
+use Rattle.mu_values.specs.declared.cells.CellId.{CellId}
 use Rattle.mem_axioms.specs.Events.{accesses, position_of, order_of, is_seq_cst, is_seq_cst_fence}
 use Rattle.mem_axioms.specs.Logs.{event_at, newest, last_number, greatest_position}
 use Rattle.mem_axioms.specs.Form.{has_form, has_form_by}

@@ -1,8 +1,8 @@
 -- What an event takes, gains and gives, by what is kept.
 use Rattle.std.proofs.Common.{◌≡◌, ℕ, Bool, true, false, cond, ◌&&◌, List, length, refl, sym, ◌∙◌, slice_index}
 use Rattle.std.proofs.lemmas.Bool.{false≢true}
-use Rattle.heap_cells.specs.declared.cells.CellId.{CellId}
-use Rattle.heap_cells.specs.CellLaws.{same_cell-true, same_cell-refl}
+use Rattle.mu_values.specs.declared.cells.CellId.{CellId}
+use Rattle.mu_values.specs.CellLaws.{same_cell-true, same_cell-refl}
 use Rattle.mem_axioms.specs.Events.{accesses, position_taken, loads, is_atomic}
 use Rattle.mem_axioms.specs.Synchronizes.{acquires}
 use Rattle.mem_axioms.specs.declared.types.Event.{Event}

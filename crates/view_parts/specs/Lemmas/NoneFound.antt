@@ -2,7 +2,7 @@
 use Rattle.std.proofs.Common.{◌≡◌, ℕ, ◌≤◌, Bool, true, false, cond, ◌&&◌, eqb, List, [], ◌∷◌, length, refl, ap, ◌∙◌, arith}
 use Rattle.std.specs.Prelude.{◌+◌, ◌*◌, unwrap_or, replicate}
 use Rattle.std.proofs.lemmas.Bool.{le-ltb}
-use Rattle.heap_cells.specs.declared.cells.CellId.{CellId}
+use Rattle.mu_values.specs.declared.cells.CellId.{CellId}
 use Rattle.mem_axioms.specs.Events.{position_of}
 use Rattle.mem_axioms.specs.declared.types.Event.{Event}
 use Rattle.mem_axioms.specs.declared.types.Rule.{Rule}

@@ -2,7 +2,7 @@
 use Rattle.std.proofs.Common.{◌≡◌, ◌≢◌, ℕ, suc, ◌≤◌, Bool, true, false, cond, not, ◌&&◌, ◌||◌, eqb, ltb, leb, ◌-◌, List, ◌∷◌, length, Option, Some, None, slice_index, refl, sym, ap, ◌∙◌, inl, inr, arith}
 use Rattle.std.proofs.lemmas.Bool.{false≢true, le-leb, lt-ltb, le-ltb, leb-true, eqb-true, eq-eqb, cases_lt, and_from, and_parts}
 use Rattle.mu_values.specs.declared.scalars.Scalar.{Scalar}
-use Rattle.heap_cells.specs.declared.cells.CellId.{CellId}
+use Rattle.mu_values.specs.declared.cells.CellId.{CellId}
 use Rattle.mem_axioms.specs.Events.{accesses, is_atomic, order_of, is_modification, on_one_cell}
 use Rattle.mem_axioms.specs.Logs.{event_at, least_event}
 use Rattle.mem_axioms.specs.HappensBefore.{happens_before}

@@ -1,5 +1,5 @@
 use Rattle.std.proofs.Common.{◌≡◌, length}
-use Rattle.bundle_check.specs.Blocks.{bound_parameters}
+use Rattle.checked_code.specs.Blocks.{bound_parameters}
 use Rattle.bundle_check.proofs.blocks.bind_parameters.Given as goal
 
 abbrev pub invariant-each : goal.invariant-each

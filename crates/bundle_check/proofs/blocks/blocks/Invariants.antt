@@ -1,6 +1,6 @@
 use Rattle.std.proofs.Common.{◌≡◌, ◌++◌, length}
 use Rattle.demands.specs.Demands.{first_unmet}
-use Rattle.bundle_check.specs.Blocks.{blocks_demands, blocks_code}
+use Rattle.checked_code.specs.Blocks.{blocks_demands, blocks_code}
 use Rattle.bundle_check.proofs.blocks.blocks.Given as goal
 
 abbrev pub invariant-each : goal.invariant-each

@@ -1,6 +1,6 @@
 use Rattle.std.proofs.Common.{◌≡◌, length}
 use Rattle.demands.specs.Demands.{first_unmet}
-use Rattle.bundle_check.specs.Blocks.{parameter_demands}
+use Rattle.checked_code.specs.Blocks.{parameter_demands}
 use Rattle.bundle_check.proofs.blocks.parameters.Given as goal
 
 abbrev pub invariant-each : goal.invariant-each

@@ -1,5 +1,5 @@
 use Rattle.std.proofs.Common.{◌≡◌, ◌++◌, length}
-use Rattle.bundle_check.specs.Blocks.{parameter_classes}
+use Rattle.checked_code.specs.Blocks.{parameter_classes}
 use Rattle.bundle_check.proofs.bodies.classes_of.Given as goal
 
 abbrev pub invariant-each : goal.invariant-each

@@ -1,5 +1,5 @@
 use Rattle.std.proofs.Common.{◌≡◌, [], length}
-use Rattle.bundle_check.specs.Functions.{entries_from}
+use Rattle.checked_code.specs.Functions.{entries_from}
 use Rattle.bundle_check.proofs.bodies.entries.Given as goal
 
 abbrev pub invariant-each : goal.invariant-each

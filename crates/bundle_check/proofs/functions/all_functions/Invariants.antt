@@ -1,6 +1,6 @@
 use Rattle.std.proofs.Common.{◌≡◌, ◌++◌, length}
 use Rattle.demands.specs.Demands.{first_unmet}
-use Rattle.bundle_check.specs.Functions.{functions_demands, all_blocks}
+use Rattle.checked_code.specs.Functions.{functions_demands, all_blocks}
 use Rattle.bundle_check.proofs.functions.all_functions.Given as goal
 
 abbrev pub invariant-each : goal.invariant-each

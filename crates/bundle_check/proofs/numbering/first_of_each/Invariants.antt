@@ -1,5 +1,5 @@
 use Rattle.std.proofs.Common.{◌≡◌, ◌++◌, length}
-use Rattle.bundle_check.specs.Functions.{first_blocks}
+use Rattle.checked_code.specs.Functions.{first_blocks}
 use Rattle.bundle_check.proofs.numbering.first_of_each.Given as goal
 
 abbrev pub invariant-each : goal.invariant-each

@@ -1,5 +1,5 @@
 use Rattle.std.proofs.Common.{◌≡◌, ◌++◌, length}
-use Rattle.bundle_check.specs.Functions.{functions_from}
+use Rattle.checked_code.specs.Functions.{functions_from}
 use Rattle.bundle_check.proofs.numbering.functions.Given as goal
 
 abbrev pub invariant-each : goal.invariant-each

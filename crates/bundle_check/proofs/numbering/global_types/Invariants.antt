@@ -1,5 +1,5 @@
 use Rattle.std.proofs.Common.{◌≡◌, ◌++◌, length}
-use Rattle.bundle_check.specs.Answers.{global_classes}
+use Rattle.checked_code.specs.Answers.{global_classes}
 use Rattle.bundle_check.proofs.numbering.global_types.Given as goal
 
 abbrev pub invariant-each : goal.invariant-each

@@ -1,6 +1,6 @@
 use Rattle.std.proofs.Common.{◌≡◌, ℕ, ◌<◌, ◌≤◌, length, map}
 use Rattle.mu_values.specs.Constants.{value_at}
-use Rattle.bundle_constants.specs.Values.{told}
+use Rattle.checked_code.specs.ConstantValues.{told}
 use Rattle.bundle_constants.proofs.bundle.listed.Given as goal
 
 abbrev pub invariant-loop-n : goal.invariant-loop-n

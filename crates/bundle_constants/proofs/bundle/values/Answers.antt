@@ -4,11 +4,11 @@ use Rattle.mu_base.specs.Lists.{Roomy}
 use Rattle.mu_types.specs.Graph.{Table}
 use Rattle.mu_values.specs.declared.scalars.Scalar.{Scalar}
 use Rattle.mu_values.specs.Constants.{value_at}
-use Rattle.bundle_constants.specs.declared.constants.Constant.{Constant}
-use Rattle.bundle_constants.specs.Values.{told}
-use Rattle.bundle_constants.specs.Bundle.{constant_values}
-use Rattle.bundle_constants.specs.Members.{Lawful}
-use Rattle.bundle_constants.proofs.Answered.{AreHeld, lawful_held, values_held, if_ok}
+use Rattle.checked_code.specs.declared.constants.Constant.{Constant}
+use Rattle.checked_code.specs.ConstantValues.{told}
+use Rattle.checked_code.specs.Constants.{constant_values}
+use Rattle.checked_code.specs.ConstantMembers.{Lawful}
+use Rattle.checked_code.proofs.ConstantsAnswered.{AreHeld, lawful_held, values_held, if_ok}
 use Rattle.bundle_constants.proofs.bundle.values.Goals as goal
 
 pub make_all-requires-clause-lawful : goal.make_all-requires-clause-lawful

@@ -1,5 +1,5 @@
 use Rattle.std.proofs.Common.{◌≡◌, ◌++◌, length}
-use Rattle.bundle_constants.specs.Bundle.{constants_of}
+use Rattle.checked_code.specs.Constants.{constants_of}
 use Rattle.bundle_constants.proofs.constants.constants.Given as goal
 
 abbrev pub invariant-each : goal.invariant-each

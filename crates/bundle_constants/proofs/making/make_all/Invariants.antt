@@ -1,5 +1,5 @@
 use Rattle.std.proofs.Common.{length, vec_len}
-use Rattle.bundle_constants.specs.Members.{IsMaking, AreLeft}
+use Rattle.bundle_constants.specs.Making.{IsMaking, AreLeft}
 use Rattle.bundle_constants.proofs.making.make_all.Given as goal
 
 abbrev pub invariant-pass : goal.invariant-pass

@@ -1,5 +1,5 @@
 use Rattle.std.proofs.Common.{◌≡◌, ℕ, false, vec_len}
-use Rattle.bundle_constants.specs.Members.{is_made}
+use Rattle.checked_code.specs.ConstantMembers.{is_made}
 use Rattle.bundle_constants.proofs.making.none_done.Given as goal
 
 abbrev pub invariant-loop-n : goal.invariant-loop-n

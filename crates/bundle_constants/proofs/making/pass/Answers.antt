@@ -1,6 +1,6 @@
 use Rattle.std.proofs.Common.{◌≡◌, ◌<◌, ◌++◌, ◌∷◌, [], false, List, ℕ, length, slice_get, vec_len, refl, subst, sym, ◌∙◌}
 use Rattle.std.proofs.lemmas.Bool.{false≢true}
-use Rattle.bundle_constants.specs.Members.{is_ready_at}
+use Rattle.checked_code.specs.ConstantMembers.{is_ready_at}
 use Rattle.bundle_constants.proofs.Passes.{IsPass, kept_more, fewer_kept, is_empty}
 use Rattle.bundle_constants.proofs.making.pass.Goals as goal
 

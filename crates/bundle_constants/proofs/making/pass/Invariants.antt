@@ -1,5 +1,5 @@
 use Rattle.std.proofs.Common.{length, vec_len}
-use Rattle.bundle_constants.specs.Members.{IsMaking}
+use Rattle.bundle_constants.specs.Making.{IsMaking}
 use Rattle.bundle_constants.proofs.Passes.{IsPass}
 use Rattle.bundle_constants.proofs.making.pass.Given as goal
 

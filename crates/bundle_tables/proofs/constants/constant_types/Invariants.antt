@@ -1,6 +1,6 @@
 use Rattle.std.proofs.Common.{◌≡◌, ◌++◌, ◌<◌, length}
 use Rattle.std.specs.List.{All}
-use Rattle.bundle_tables.specs.Rules.{constant_types}
+use Rattle.checked_code.specs.Rules.{constant_types}
 use Rattle.bundle_tables.proofs.constants.constant_types.Given as goal
 
 abbrev pub invariant-each : goal.invariant-each

@@ -1,7 +1,7 @@
 use Rattle.std.proofs.Common.{Some, None}
 use Rattle.demands.specs.declared.fault.Fault.TheVariants.{At}
-use Rattle.bundle_tables.specs.Graph.{type_id}
-use Rattle.bundle_tables.specs.Rules.{literal_of}
+use Rattle.checked_code.specs.Graph.{type_id}
+use Rattle.checked_code.specs.Rules.{literal_of}
 use Rattle.bundle_tables.proofs.Literals.{literal_fault}
 use Rattle.bundle_tables.proofs.constants.judge_constant.Goals as goal
 

@@ -1,5 +1,5 @@
 use Rattle.std.proofs.Common.{◌≡◌, ◌++◌, length}
-use Rattle.bundle_tables.specs.Entries.{declared_signatures}
+use Rattle.checked_code.specs.Entries.{declared_signatures}
 use Rattle.bundle_tables.proofs.entries.declared_signatures.Given as goal
 
 abbrev pub invariant-each : goal.invariant-each

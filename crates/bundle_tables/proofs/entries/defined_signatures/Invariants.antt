@@ -1,5 +1,5 @@
 use Rattle.std.proofs.Common.{◌≡◌, ◌++◌, length}
-use Rattle.bundle_tables.specs.Entries.{defined_signatures}
+use Rattle.checked_code.specs.Entries.{defined_signatures}
 use Rattle.bundle_tables.proofs.entries.defined_signatures.Given as goal
 
 abbrev pub invariant-each : goal.invariant-each

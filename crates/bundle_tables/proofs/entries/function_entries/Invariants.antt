@@ -1,5 +1,5 @@
 use Rattle.std.proofs.Common.{◌≡◌, ◌++◌, length}
-use Rattle.bundle_tables.specs.Entries.{function_entries}
+use Rattle.checked_code.specs.Entries.{function_entries}
 use Rattle.bundle_tables.proofs.entries.function_entries.Given as goal
 
 abbrev pub invariant-each : goal.invariant-each

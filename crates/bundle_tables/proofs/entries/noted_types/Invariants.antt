@@ -1,5 +1,5 @@
 use Rattle.std.proofs.Common.{◌≡◌, ◌++◌, length}
-use Rattle.bundle_tables.specs.Entries.{noted_types}
+use Rattle.checked_code.specs.Entries.{noted_types}
 use Rattle.bundle_tables.proofs.entries.noted_types.Given as goal
 
 abbrev pub invariant-each : goal.invariant-each

@@ -1,5 +1,5 @@
 use Rattle.std.proofs.Common.{◌≡◌, ◌++◌, length}
-use Rattle.bundle_tables.specs.Entries.{signature_entries}
+use Rattle.checked_code.specs.Entries.{signature_entries}
 use Rattle.bundle_tables.proofs.entries.signature_entries.Given as goal
 
 abbrev pub invariant-each : goal.invariant-each

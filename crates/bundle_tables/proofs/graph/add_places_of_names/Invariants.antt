@@ -1,5 +1,5 @@
 use Rattle.std.proofs.Common.{◌≡◌, ◌++◌, length}
-use Rattle.bundle_tables.specs.Graph.{places_of_names}
+use Rattle.checked_code.specs.Graph.{places_of_names}
 use Rattle.bundle_tables.proofs.graph.add_places_of_names.Given as goal
 
 abbrev pub invariant-each : goal.invariant-each

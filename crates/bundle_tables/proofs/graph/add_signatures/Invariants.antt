@@ -1,6 +1,6 @@
 use Rattle.std.proofs.Common.{◌≡◌, ◌++◌, ◌+◌, ◌≤◌, length, map}
 use Rattle.bundle_tables.specs.Inner.{AllBelow}
-use Rattle.bundle_tables.specs.Graph.{signatures_of, signature_places}
+use Rattle.checked_code.specs.Graph.{signatures_of, signature_places}
 use Rattle.bundle_tables.proofs.graph.add_signatures.Given as goal
 
 abbrev pub invariant-each : goal.invariant-each

@@ -1,6 +1,6 @@
 use Rattle.std.proofs.Common.{◌≡◌, ◌++◌, ◌+◌, ◌≤◌, length, map}
 use Rattle.bundle_tables.specs.Inner.{AllBelow}
-use Rattle.bundle_tables.specs.Graph.{types_of, type_places}
+use Rattle.checked_code.specs.Graph.{types_of, type_places}
 use Rattle.bundle_tables.proofs.graph.add_types.Given as goal
 
 abbrev pub invariant-each : goal.invariant-each

@@ -1,6 +1,6 @@
 use Rattle.std.proofs.Common.{◌≡◌, ◌+◌, ◌++◌, List, map, ◌∙◌, ap}
-use Rattle.type_laws.specs.declared.definition.TypeDef.{TypeDef}
-use Rattle.bundle_tables.specs.Graph.{types_of, signatures_of, graph_of}
+use Rattle.type_definitions.specs.declared.definition.TypeDef.{TypeDef}
+use Rattle.checked_code.specs.Graph.{types_of, signatures_of, graph_of}
 use Rattle.bundle_tables.proofs.Counted.{is_graph, none_below}
 use Rattle.bundle_tables.proofs.graph.graph.Goals as goal
 

@@ -1,6 +1,6 @@
 use Rattle.std.proofs.Common.{◌≡◌, ◌++◌, ◌+◌, ◌<◌, length}
 use Rattle.std.specs.List.{All}
-use Rattle.bundle_tables.specs.Graph.{type_ids}
+use Rattle.checked_code.specs.Graph.{type_ids}
 use Rattle.bundle_tables.proofs.graph.type_ids.Given as goal
 
 abbrev pub invariant-each : goal.invariant-each

@@ -1,6 +1,6 @@
 use Rattle.std.proofs.Common.{◌≡◌, length}
 use Rattle.demands.specs.Demands.{first_unmet}
-use Rattle.bundle_tables.specs.Rules.{signatures_demands}
+use Rattle.checked_code.specs.Rules.{signatures_demands}
 use Rattle.bundle_tables.proofs.rules.judge_signatures.Given as goal
 
 abbrev pub invariant-each : goal.invariant-each

@@ -1,4 +1,4 @@
-use Rattle.bundle_tables.specs.Graph.{table_of}
+use Rattle.checked_code.specs.Graph.{table_of}
 use Rattle.bundle_tables.proofs.Faults.{accepted, refused, table_is, is_held}
 use Rattle.std.proofs.Common.{◌∙◌}
 use Rattle.bundle_tables.proofs.types.type_table.Goals as goal

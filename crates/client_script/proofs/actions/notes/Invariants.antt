@@ -6,4 +6,4 @@ use Rattle.client_script.proofs.Planning.{after}
 use Rattle.client_script.proofs.actions.notes.Given as goal
 
 abbrev pub invariant-loop-action : goal.invariant-loop-action
-invariant-loop-action l = noted (frames_in l.frames) (map action_meant l.actions) ≡ after l.notes (noted (frames_in l.frames) (map action_meant (drop l.action-index l.actions)))
+invariant-loop-action l = (l.copies ≡ frames_in l.frames) × (noted (frames_in l.frames) (map action_meant l.actions) ≡ after l.notes (noted (frames_in l.frames) (map action_meant (drop l.action-index l.actions))))

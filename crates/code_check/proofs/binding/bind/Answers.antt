@@ -1,7 +1,7 @@
 use Rattle.std.proofs.Common.{◌≡◌, ℕ, List, [], ◌∷◌, ◌++◌, Option, Some, None, IfSome, IfNone, refl, sym, ◌∙◌}
-use Rattle.demands.specs.Names.{Names}
-use Rattle.code_check.specs.declared.scopes.Variable.{Variable}
-use Rattle.code_check.specs.declared.scopes.Locals.{Locals}
+use Rattle.name_scopes.specs.Names.{Names}
+use Rattle.checked_code.specs.declared.scopes.Variable.{Variable}
+use Rattle.checked_code.specs.declared.scopes.Locals.{Locals}
 use Rattle.code_check.proofs.binding.bind.Goals as goal
 
 same_front : (a b : List ℕ) (x y : ℕ) → a ++ x ∷ [] ≡ b ++ y ∷ [] → a ≡ b

@@ -1,5 +1,5 @@
 use Rattle.std.proofs.Common.{◌≡◌, length}
-use Rattle.code_check.specs.Instructions.{bound_results}
+use Rattle.checked_code.specs.Instructions.{bound_results}
 use Rattle.code_check.proofs.binding.bind_listed.Given as goal
 
 abbrev pub invariant-each : goal.invariant-each

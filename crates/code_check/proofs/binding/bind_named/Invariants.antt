@@ -1,6 +1,6 @@
 use Rattle.std.proofs.Common.{◌≡◌, length}
-use Rattle.code_check.specs.Operands.{noted_list}
-use Rattle.code_check.specs.Instructions.{bound_results}
+use Rattle.checked_code.specs.Operands.{noted_list}
+use Rattle.checked_code.specs.Instructions.{bound_results}
 use Rattle.code_check.proofs.binding.bind_named.Given as goal
 
 abbrev pub invariant-each : goal.invariant-each

@@ -1,6 +1,6 @@
 use Rattle.std.proofs.Common.{◌≡◌, length, ◌++◌}
 use Rattle.demands.specs.Demands.{first_unmet}
-use Rattle.code_check.specs.Control.{case_demands, cases_code}
+use Rattle.checked_code.specs.Control.{case_demands, cases_code}
 use Rattle.code_check.proofs.control.cases.Given as goal
 
 abbrev pub invariant-each : goal.invariant-each

@@ -1,6 +1,6 @@
 use Rattle.std.proofs.Common.{◌≡◌, length, false, ◌++◌}
 use Rattle.demands.specs.Demands.{first_unmet}
-use Rattle.code_check.specs.Instructions.{insts_demands, insts_code, after_all, ends}
+use Rattle.checked_code.specs.Instructions.{insts_demands, insts_code, after_all, ends}
 use Rattle.code_check.proofs.instructions.insts.Given as goal
 
 abbrev pub invariant-each : goal.invariant-each

@@ -1,6 +1,6 @@
 use Rattle.std.proofs.Common.{◌≡◌, length, ◌++◌}
 use Rattle.demands.specs.Demands.{first_unmet}
-use Rattle.code_check.specs.Operands.{variable_demands, numbers_in}
+use Rattle.checked_code.specs.Operands.{variable_demands, numbers_in}
 use Rattle.code_check.proofs.operands.kept.Given as goal
 
 abbrev pub invariant-each : goal.invariant-each

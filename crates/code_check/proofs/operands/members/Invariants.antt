@@ -1,6 +1,6 @@
 use Rattle.std.proofs.Common.{◌≡◌, length, ◌++◌}
 use Rattle.demands.specs.Demands.{first_unmet}
-use Rattle.code_check.specs.Operands.{member_demands, sources_of}
+use Rattle.checked_code.specs.Operands.{member_demands, sources_of}
 use Rattle.code_check.proofs.operands.members.Given as goal
 
 abbrev pub invariant-each : goal.invariant-each

@@ -1,6 +1,6 @@
 use Rattle.std.proofs.Common.{◌≡◌, length, ◌++◌}
 use Rattle.demands.specs.Demands.{first_unmet}
-use Rattle.code_check.specs.Operands.{value_type_demands, noted_list}
+use Rattle.checked_code.specs.Operands.{value_type_demands, noted_list}
 use Rattle.code_check.proofs.operands.value_types.Given as goal
 
 abbrev pub invariant-each : goal.invariant-each

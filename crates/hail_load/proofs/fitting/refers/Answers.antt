@@ -1,5 +1,5 @@
 use Rattle.std.proofs.Common.{ap}
-use Rattle.type_laws.specs.Definition.{arguments}
+use Rattle.type_definitions.specs.Definition.{arguments}
 use Rattle.typed_heap.proofs.Found.{target_within}
 use Rattle.hail_load.proofs.fitting.refers.Goals as goal
 

@@ -1,5 +1,5 @@
 use Rattle.std.proofs.Common.{arith}
-use Rattle.demands.specs.Names.{found}
+use Rattle.name_scopes.specs.Names.{found}
 use Rattle.check_tables.specs.Lookups.{written_number}
 use Rattle.hail_load.specs.Code.{code_of}
 use Rattle.hail_load.proofs.Lagging.{fits_new, fits_newhybrid, new_shown, newhybrid_shown}

@@ -1,6 +1,6 @@
 use Rattle.std.proofs.Common.{◌≡◌, ℕ, zero, suc, ◌+◌, ◌<◌, List, [], ◌∷◌, ◌++◌, length, map, take, Some, slice_get, ap, ◌∙◌, sym, add-one}
 use Rattle.typed_heap.specs.Objects.{HeapObject, leaf_classes, object_of}
-use Rattle.bundle_constants.proofs.Members.{holds_at}
+use Rattle.checked_code.proofs.ConstantMembers.{holds_at}
 use Rattle.hail_load.specs.Code.{code_of}
 use Rattle.hail_load.proofs.Knowing.{is_known}
 use Rattle.hail_tests.proofs.loads.heap_of.Goals as goal

@@ -2,8 +2,8 @@ use Rattle.std.proofs.Common.{◌≡◌, ◌≤◌, ◌<◌, ◌+◌, ◌++◌, 
 use Rattle.std.specs.Prelude.{IsSomeAnd, slice_get, Option, if◌then◌else◌}
 use Rattle.mu_base.specs.Lists.{Roomy}
 use Rattle.typed_heap.specs.Places.{with_some}
-use Rattle.bundle_check.specs.declared.code.Function.{Function}
-use Rattle.bundle_check.specs.Checking.{bundle_tables}
+use Rattle.checked_code.specs.declared.blocks.Function.{Function}
+use Rattle.checked_code.specs.Checking.{bundle_tables}
 use Rattle.mu_model.specs.Types.{classes_given, classes_taken}
 use Rattle.frames.specs.Activations.{Activation}
 use Rattle.frames.specs.Chains.{StoredChain, frames_in}

@@ -1,4 +1,4 @@
-use Rattle.thread_acts.specs.Counting.{counted_so}
+use Rattle.memory_acts.specs.Counting.{counted_so}
 use Rattle.mu_step.proofs.options.options.Goals as goal
 
 pub returns-clause-count : goal.returns-clause-count

@@ -1,8 +1,8 @@
 use Rattle.std.proofs.Common.{◌≡◌, sym, subst}
-use Rattle.thread_acts.specs.Held.{Held}
-use Rattle.thread_acts.specs.Hand.{waits_none}
-use Rattle.thread_acts.specs.StepLaws.{GoesOn}
-use Rattle.thread_acts.specs.Counting.{stepping_count, waiting_one, going_count, counted_so}
+use Rattle.run_state.specs.Held.{Held}
+use Rattle.run_state.specs.Hand.{waits_none}
+use Rattle.run_state.specs.StepLaws.{GoesOn}
+use Rattle.memory_acts.specs.Counting.{stepping_count, waiting_one, going_count, counted_so}
 use Rattle.mu_step.proofs.options.turn_options.Goals as goal
 
 pub returns-in-Some : goal.returns-in-Some

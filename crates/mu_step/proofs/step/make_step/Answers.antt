@@ -1,10 +1,10 @@
 use Rattle.std.proofs.Common.{◌≡◌, IfOk, ◌∙◌, subst}
 use Rattle.mu_model.specs.Step.{step}
 use Rattle.model_numbers.specs.Numbered.{numbered}
-use Rattle.thread_acts.specs.Held.{configuration}
-use Rattle.thread_acts.specs.Outcome.{outcome_of}
-use Rattle.thread_acts.specs.Acting.{told}
-use Rattle.thread_acts.specs.Hand.{settled}
+use Rattle.run_state.specs.Held.{configuration}
+use Rattle.run_state.specs.Outcome.{outcome_of}
+use Rattle.run_state.specs.Acting.{told}
+use Rattle.run_state.specs.Hand.{settled}
 use Rattle.mu_step.proofs.step.make_step.Goals as goal
 
 pub returns-clause-ok : goal.returns-clause-ok

@@ -1,5 +1,5 @@
 use Rattle.std.proofs.Common.{◌≤◌, length, sym, append-nil, arith}
-use Rattle.bundle_check.specs.Checking.{bundle_blocks}
+use Rattle.checked_code.specs.Checking.{bundle_blocks}
 use Rattle.run_print.proofs.BlockNames.{no_block_named}
 use Rattle.run_print.proofs.names.block_text.Goals as goal
 

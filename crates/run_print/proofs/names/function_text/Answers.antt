@@ -1,5 +1,5 @@
 use Rattle.std.proofs.Common.{◌≤◌, length, sym, append-nil, arith}
-use Rattle.bundle_check.specs.Checking.{bundle_functions}
+use Rattle.checked_code.specs.Checking.{bundle_functions}
 use Rattle.run_print.proofs.FunctionNames.{no_function_named}
 use Rattle.run_print.proofs.names.function_text.Goals as goal
 

@@ -1,6 +1,6 @@
 use Rattle.std.proofs.Common.{subst}
-use Rattle.code_check.specs.declared.code.Form.TheVariants as forms
-use Rattle.bundle_check.specs.Checking.{bundle_tables}
+use Rattle.checked_code.specs.declared.code.Form.TheVariants as forms
+use Rattle.checked_code.specs.Checking.{bundle_tables}
 use Rattle.step_forms.specs.Asked.{lists_of}
 use Rattle.step_forms.specs.Classes.{FormIsThere}
 use Rattle.step_forms.proofs.Classes.{act_is_there, decided_is_there}

@@ -1,5 +1,5 @@
 use Rattle.std.proofs.Common.{◌≡◌, Some, take}
-use Rattle.bundle_check.specs.Checking.{bundle_tables}
+use Rattle.checked_code.specs.Checking.{bundle_tables}
 use Rattle.model_numbers.specs.Sources.{classes_at}
 use Rattle.step_forms.proofs.operands.read_classes.Given as goal
 

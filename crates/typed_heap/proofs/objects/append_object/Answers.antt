@@ -1,7 +1,7 @@
 use Rattle.std.proofs.Common.{◌≡◌, ◌<◌, ◌++◌, ℕ, List, length, sym, ◌∙◌, subst, refl, rules}
 use Rattle.std.specs.Vec.{vec_len}
 use Rattle.std.specs.List.{All}
-use Rattle.type_laws.specs.Leaves.{times}
+use Rattle.type_definitions.specs.Leaves.{times}
 use Rattle.typed_heap.proofs.Rows.{added_tail}
 use Rattle.typed_heap.proofs.objects.append_object.Goals as goal
 

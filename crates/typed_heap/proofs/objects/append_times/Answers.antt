@@ -1,7 +1,7 @@
 use Rattle.std.proofs.Common.{◌++◌, List, ℕ, ap, ◌∙◌}
 use Rattle.std.proofs.lemmas.List.{append_assoc}
-use Rattle.type_laws.specs.Leaves.{times}
-use Rattle.mu_types.proofs.Pushes.{times_more}
+use Rattle.type_definitions.specs.Leaves.{times}
+use Rattle.mu_types.specs.ListLaws.{times_more}
 use Rattle.typed_heap.proofs.objects.append_times.Goals as goal
 
 pub loop-i-preserved : goal.loop-i-preserved

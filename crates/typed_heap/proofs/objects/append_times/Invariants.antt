@@ -1,5 +1,5 @@
 use Rattle.std.proofs.Common.{◌≡◌, ◌++◌}
-use Rattle.type_laws.specs.Leaves.{times}
+use Rattle.type_definitions.specs.Leaves.{times}
 use Rattle.typed_heap.proofs.objects.append_times.Given as goal
 
 abbrev pub invariant-loop-i : goal.invariant-loop-i

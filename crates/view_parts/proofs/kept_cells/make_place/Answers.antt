@@ -1,5 +1,5 @@
 use Rattle.std.proofs.Common.{◌+◌, ◌∙◌, cond, ap, ℕ, length}
-use Rattle.heap_cells.specs.SameCell.{same_cell}
+use Rattle.mu_values.specs.SameCell.{same_cell}
 use Rattle.view_parts.specs.Lemmas.CellsKept.{cells-touched, cells-moved, place-below}
 use Rattle.view_parts.proofs.kept_cells.make_place.Goals as goal
 

@@ -1,8 +1,8 @@
 use Rattle.std.proofs.Common.{◌∙◌, ap, length}
 use Rattle.std.proofs.lemmas.List.{length-map}
 use Rattle.std.proofs.lemmas.Bool.{lt-ltb}
-use Rattle.type_laws.specs.Leaves.{leaves}
-use Rattle.type_laws.specs.Class.{class_of}
+use Rattle.type_definitions.specs.Leaves.{leaves}
+use Rattle.type_definitions.specs.Class.{class_of}
 use Rattle.check_tables.proofs.types.TypeTable.leaf_count.Goals as goal
 
 pub returns-then-t-self : goal.returns-then-t-self

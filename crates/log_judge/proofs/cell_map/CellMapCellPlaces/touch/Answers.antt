@@ -1,5 +1,5 @@
 use Rattle.std.proofs.Common.{◌≡◌, ◌+◌, ◌∙◌, ℕ, length, cond, ap, arith}
-use Rattle.heap_cells.specs.SameCell.{same_cell}
+use Rattle.mu_values.specs.SameCell.{same_cell}
 use Rattle.view_parts.specs.Lemmas.Owning.{owned-more}
 use Rattle.log_judge.specs.CellKeys.{number_in}
 use Rattle.log_judge.proofs.Keyed.{numbers-put}

@@ -1,8 +1,8 @@
-use Rattle.std.proofs.Common.{◌∙◌}
-use Rattle.seats.proofs.Waking.{timed_told}
+use Rattle.std.proofs.Common.{◌∙◌, ap}
+use Rattle.std.specs.List.{find}
+use Rattle.futex.specs.Waiting.{is_of, timed_cell_of}
+use Rattle.seats.specs.Seats.{Seats}
 use Rattle.seats.proofs.seats.Seats.timed.Goals as goal
 
 pub returns : goal.returns
-returns c =
-    let k = c.self.inside in
-    c.timed.ensures ∙ timed_told k.threads.stacks k.owns.items k.stacks k.waiters.waiters c.args.self.now c.args.thread c.self.view_is
+returns c = c.timed.ensures ∙ ap (λ (v : Seats). timed_cell_of (find (is_of c.args.thread) v.waiters)) c.self.view_is

@@ -1,7 +1,7 @@
-use Rattle.seats.proofs.Waking.{apart_told}
+use Rattle.std.proofs.Common.{subst}
+use Rattle.futex.specs.Kept.{AreApart}
+use Rattle.seats.specs.Seats.{Seats}
 use Rattle.seats.proofs.seats.Seats.waiters_are_apart.Goals as goal
 
 pub returns : goal.returns
-returns c =
-    let k = c.self.inside in
-    apart_told k.threads.stacks k.owns.items k.stacks k.waiters.waiters c.args.self.now c.self.view_is c.are_apart.ensures
+returns c = subst (λ (v : Seats). AreApart v.waiters) c.self.view_is c.are_apart.ensures

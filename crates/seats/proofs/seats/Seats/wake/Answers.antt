@@ -1,7 +1,8 @@
 use Rattle.std.proofs.Common.{ℕ, List, ap, sym, subst, length, ◌∙◌}
-use Rattle.futex.specs.Waiting.{oldest_at}
+use Rattle.futex.specs.Waiting.{oldest_at, threads_of}
+use Rattle.seats.specs.Seats.{Seats}
 use Rattle.seats.specs.Kept.{AllBelow, all_running}
-use Rattle.seats.proofs.Waking.{woken_made, held_are_left, woken_sound, woken_told, others_told}
+use Rattle.seats.proofs.Waking.{woken_made, held_are_left, woken_sound, others_told}
 use Rattle.seats.proofs.seats.Seats.wake.Goals as goal
 
 pub run_all_again-requires-clause-made : goal.run_all_again-requires-clause-made
@@ -21,9 +22,7 @@ invariant_of-self c =
     woken_sound k.threads c.run_all_again.new.threads k.stacks k.owns.items _ (oldest_at c.args.cell c.args.many k.waiters.waiters) k.waiters.waiters c.wake-woken.new.self.waiters c.self.invariant all c.wake-woken.ensures.others
 
 pub returns-clause-woken : goal.returns-clause-woken
-returns-clause-woken c =
-    let k = c.self.inside in
-    c.wake-woken.ensures.woken ∙ woken_told k.threads.stacks k.owns.items k.stacks k.waiters.waiters c.args.self.now c.args.cell c.args.many c.self.view_is
+returns-clause-woken c = c.wake-woken.ensures.woken ∙ ap (λ (v : Seats). threads_of (oldest_at c.args.cell c.args.many v.waiters)) c.self.view_is
 
 pub returns-clause-others : goal.returns-clause-others
 returns-clause-others c =

@@ -1,8 +1,7 @@
-use Rattle.std.proofs.Common.{◌∙◌}
-use Rattle.seats.proofs.Waking.{woken_told}
+use Rattle.std.proofs.Common.{◌∙◌, ap}
+use Rattle.futex.specs.Waiting.{oldest_at, threads_of}
+use Rattle.seats.specs.Seats.{Seats}
 use Rattle.seats.proofs.seats.Seats.waking.Goals as goal
 
 pub returns : goal.returns
-returns c =
-    let k = c.self.inside in
-    c.waking.ensures ∙ woken_told k.threads.stacks k.owns.items k.stacks k.waiters.waiters c.args.self.now c.args.cell c.args.many c.self.view_is
+returns c = c.waking.ensures ∙ ap (λ (v : Seats). threads_of (oldest_at c.args.cell c.args.many v.waiters)) c.self.view_is

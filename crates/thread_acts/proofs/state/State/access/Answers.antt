@@ -1,6 +1,6 @@
 use Rattle.std.proofs.Common.{Ok, Err}
-use Rattle.thread_acts.specs.AccessLaws.{access_is}
-use Rattle.thread_acts.proofs.AccessViews.{refused_by, there_so, answered_so}
+use Rattle.memory_acts.specs.AccessLaws.{access_is}
+use Rattle.memory_acts.specs.AccessViews.{refused_by, there_so, answered_so}
 use Rattle.thread_acts.proofs.state.State.access.Goals as goal
 
 pub access_cell-requires-clause-there : goal.access_cell-requires-clause-there

@@ -1,9 +1,9 @@
 use Rattle.std.proofs.Common.{◌∙◌, ap, arith}
 use Rattle.step_forms.specs.Asked.{access_of}
-use Rattle.thread_acts.specs.Held.{Held}
-use Rattle.thread_acts.specs.Hand.{hand_made}
-use Rattle.thread_acts.specs.AccessLaws.{kind_makes}
-use Rattle.thread_acts.proofs.AccessViews.{low, kind_there, goes_there, fits, room, picked}
+use Rattle.run_state.specs.Held.{Held}
+use Rattle.run_state.specs.Hand.{hand_made}
+use Rattle.memory_acts.specs.AccessLaws.{kind_makes}
+use Rattle.memory_acts.specs.AccessViews.{low, kind_there, goes_there, fits, room, picked}
 use Rattle.thread_acts.proofs.state.State.access_cell.Goals as goal
 
 pub kind_of-requires-clause-next : goal.kind_of-requires-clause-next

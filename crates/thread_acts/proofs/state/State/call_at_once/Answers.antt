@@ -1,4 +1,4 @@
-use Rattle.thread_acts.specs.ActLaws.{call_so}
+use Rattle.run_state.specs.ActLaws.{call_so}
 use Rattle.thread_acts.proofs.state.State.call_at_once.Goals as goal
 
 pub returns-in-Some-clause-made : goal.returns-in-Some-clause-made

@@ -1,4 +1,4 @@
-use Rattle.thread_acts.proofs.ObjectViews.{casts_at}
+use Rattle.object_acts.specs.ObjectViews.{casts_at}
 use Rattle.thread_acts.proofs.state.State.cast.Goals as goal
 
 pub cast-cast-requires-clause-there : goal.cast-cast-requires-clause-there

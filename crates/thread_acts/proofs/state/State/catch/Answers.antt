@@ -1,4 +1,4 @@
-use Rattle.thread_acts.proofs.ActViews.{caught_so}
+use Rattle.run_state.specs.ActViews.{caught_so}
 use Rattle.thread_acts.proofs.state.State.catch.Goals as goal
 
 pub returns-clause-ok : goal.returns-clause-ok

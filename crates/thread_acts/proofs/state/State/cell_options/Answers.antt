@@ -1,8 +1,8 @@
 use Rattle.std.proofs.Common.{◌∙◌, ap}
 use Rattle.step_forms.specs.Asked.{access_of}
-use Rattle.thread_acts.specs.Held.{Held}
-use Rattle.thread_acts.specs.Hand.{hand_made}
-use Rattle.thread_acts.proofs.CountViews.{counted}
+use Rattle.run_state.specs.Held.{Held}
+use Rattle.run_state.specs.Hand.{hand_made}
+use Rattle.memory_acts.specs.CountViews.{counted}
 use Rattle.thread_acts.proofs.state.State.cell_options.Goals as goal
 
 pub count_options-requires-clause-thread : goal.count_options-requires-clause-thread

@@ -1,6 +1,6 @@
 use Rattle.std.proofs.Common.{◌∙◌, ap}
-use Rattle.thread_acts.specs.Acting.{entered}
-use Rattle.thread_acts.proofs.ActViews.{entered_so}
+use Rattle.run_state.specs.Acting.{entered}
+use Rattle.run_state.specs.ActViews.{entered_so}
 use Rattle.thread_acts.proofs.state.State.enter_for_values.Goals as goal
 
 pub returns-clause-made : goal.returns-clause-made

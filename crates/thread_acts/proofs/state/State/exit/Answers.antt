@@ -1,4 +1,4 @@
-use Rattle.thread_acts.proofs.StackViews.{exits_so}
+use Rattle.stack_acts.specs.StackViews.{exits_so}
 use Rattle.thread_acts.proofs.state.State.exit.Goals as goal
 
 pub returns-clause-ok : goal.returns-clause-ok

@@ -1,4 +1,4 @@
-use Rattle.thread_acts.proofs.ActViews.{fault_within, fault_so}
+use Rattle.run_state.specs.ActViews.{fault_within, fault_so}
 use Rattle.thread_acts.proofs.state.State.fault.Goals as goal
 
 pub add_exception-requires : goal.add_exception-requires

@@ -1,4 +1,4 @@
-use Rattle.thread_acts.proofs.AccessViews.{fence_goes_there, fenced}
+use Rattle.memory_acts.specs.AccessViews.{fence_goes_there, fenced}
 use Rattle.thread_acts.proofs.state.State.fence.Goals as goal
 
 pub log_on-requires-clause-there : goal.log_on-requires-clause-there

@@ -1,4 +1,4 @@
-use Rattle.thread_acts.proofs.ObjectViews.{finds_at}
+use Rattle.object_acts.specs.ObjectViews.{finds_at}
 use Rattle.thread_acts.proofs.state.State.find.Goals as goal
 
 pub found-found-requires-clause-there : goal.found-found-requires-clause-there

@@ -1,4 +1,4 @@
-use Rattle.thread_acts.proofs.ActViews.{returned_last}
+use Rattle.run_state.specs.ActViews.{returned_last}
 use Rattle.thread_acts.proofs.state.State.finish.Goals as goal
 
 pub returns-clause-ok : goal.returns-clause-ok

@@ -1,5 +1,5 @@
 use Rattle.std.proofs.Common.{refl}
-use Rattle.thread_acts.proofs.ActViews.{gives_there, gave}
+use Rattle.run_state.specs.ActViews.{gives_there, gave}
 use Rattle.thread_acts.proofs.state.State.give.Goals as goal
 
 pub go_on-requires : goal.go_on-requires

@@ -1,5 +1,5 @@
 use Rattle.frames.specs.Chains.{chain_of}
-use Rattle.thread_acts.proofs.StackViews.{kills_there, killed_so}
+use Rattle.stack_acts.specs.StackViews.{kills_there, killed_so}
 use Rattle.thread_acts.proofs.state.State.kill_stack.Goals as goal
 
 pub go_on-requires : goal.go_on-requires

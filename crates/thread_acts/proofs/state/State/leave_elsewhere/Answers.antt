@@ -1,7 +1,7 @@
 use Rattle.std.proofs.Common.{◌∙◌, ap}
 use Rattle.frames.specs.Activations.{Activation}
 use Rattle.frames.specs.Chains.{chain_of}
-use Rattle.thread_acts.proofs.ActViews.{returns_there, returned_so}
+use Rattle.run_state.specs.ActViews.{returns_there, returned_so}
 use Rattle.thread_acts.proofs.state.State.leave_elsewhere.Goals as goal
 
 pub passing-requires : goal.passing-requires

@@ -1,6 +1,6 @@
 use Rattle.std.proofs.Common.{refl, ap}
 use Rattle.frames.specs.Chains.{chain_of}
-use Rattle.thread_acts.proofs.AccessViews.{logs_race, logs_on}
+use Rattle.memory_acts.specs.AccessViews.{logs_race, logs_on}
 use Rattle.thread_acts.proofs.state.State.log.Goals as goal
 
 pub returns-in-Some-clause-ok : goal.returns-in-Some-clause-ok

@@ -2,7 +2,7 @@ use Rattle.std.proofs.Common.{◌≡◌, Option, Some, None, MatchOption, IsNone
 use Rattle.frames.specs.Chains.{chain_of}
 use Rattle.mem_axioms.specs.declared.types.Race.{Race}
 use Rattle.mem_axioms.specs.Races.{race}
-use Rattle.thread_acts.proofs.AccessViews.{logs_race_kept, logs_next}
+use Rattle.memory_acts.specs.AccessViews.{logs_race_kept, logs_next}
 use Rattle.thread_acts.proofs.state.State.log_next.Goals as goal
 
 pub returns-in-Ok-Some-clause-ok : goal.returns-in-Ok-Some-clause-ok

@@ -1,9 +1,9 @@
 use Rattle.std.proofs.Common.{IsSome, ◌∙◌, ap, sym, subst}
 use Rattle.frames.specs.FrameOf.{frame_of}
-use Rattle.thread_acts.specs.Held.{Held}
-use Rattle.thread_acts.specs.Acting.{goes_on}
-use Rattle.thread_acts.specs.ActLaws.{goes_on_there}
-use Rattle.thread_acts.proofs.AccessViews.{logged_on, next_of}
+use Rattle.run_state.specs.Held.{Held}
+use Rattle.run_state.specs.Acting.{goes_on}
+use Rattle.run_state.specs.ActLaws.{goes_on_there}
+use Rattle.memory_acts.specs.AccessViews.{logged_on, next_of}
 use Rattle.thread_acts.proofs.state.State.log_on.Goals as goal
 
 pub next_place-requires : goal.next_place-requires

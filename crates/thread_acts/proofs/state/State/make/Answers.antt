@@ -1,7 +1,7 @@
 use Rattle.std.proofs.Common.{◌<◌, ◌^◌, subst, sym, ◌∙◌, ap}
 use Rattle.frames.specs.Chains.{chain_of}
-use Rattle.thread_acts.proofs.CellsAsked.{making_full}
-use Rattle.thread_acts.proofs.ObjectViews.{heap_same, full_here, made_there, gave_made, back_cells, back_objects, back_so, refused_there, refused_so}
+use Rattle.object_acts.specs.CellsAsked.{making_full}
+use Rattle.object_acts.specs.ObjectViews.{heap_same, full_here, made_there, gave_made, back_cells, back_objects, back_so, refused_there, refused_so}
 use Rattle.thread_acts.proofs.state.State.make.Goals as goal
 
 pub refuse_cells-requires-clause-there : goal.refuse_cells-requires-clause-there

@@ -1,9 +1,9 @@
 use Rattle.std.proofs.Common.{◌∙◌, ap}
 use Rattle.frames.specs.Chains.{chain_of}
-use Rattle.thread_acts.specs.Held.{Held}
-use Rattle.thread_acts.specs.Hand.{hand_made}
-use Rattle.thread_acts.specs.StackLaws.{stack_fits}
-use Rattle.thread_acts.proofs.StackViews.{makes_there, made_so}
+use Rattle.run_state.specs.Held.{Held}
+use Rattle.run_state.specs.Hand.{hand_made}
+use Rattle.stack_acts.specs.StackLaws.{stack_fits}
+use Rattle.stack_acts.specs.StackViews.{makes_there, made_so}
 use Rattle.thread_acts.proofs.state.State.make_stack.Goals as goal
 
 pub give_stack-requires : goal.give_stack-requires

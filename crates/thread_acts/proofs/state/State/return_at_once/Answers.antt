@@ -1,6 +1,6 @@
 use Rattle.frames.specs.FrameOf.{frame_of}
-use Rattle.thread_acts.specs.ActLaws.{goes_on_there}
-use Rattle.thread_acts.proofs.ActViews.{returns_there, returned_next}
+use Rattle.run_state.specs.ActLaws.{goes_on_there}
+use Rattle.run_state.specs.ActViews.{returns_there, returned_next}
 use Rattle.thread_acts.proofs.state.State.return_at_once.Goals as goal
 
 pub next_place-requires : goal.next_place-requires

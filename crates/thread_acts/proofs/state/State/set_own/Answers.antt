@@ -1,6 +1,6 @@
 use Rattle.frames.specs.Chains.{chain_of}
-use Rattle.thread_acts.specs.StackLaws.{own_sound}
-use Rattle.thread_acts.proofs.StackViews.{own_there, own_so}
+use Rattle.stack_acts.specs.StackLaws.{own_sound}
+use Rattle.stack_acts.specs.StackViews.{own_there, own_so}
 use Rattle.thread_acts.proofs.state.State.set_own.Goals as goal
 
 pub go_on-requires : goal.go_on-requires

@@ -1,7 +1,7 @@
 use Rattle.std.proofs.Common.{◌∙◌, refl, sym, ap, length}
-use Rattle.mu_model.specs.Configuration.{Waiter}
-use Rattle.thread_acts.specs.FutexLaws.{stopped_same}
-use Rattle.thread_acts.proofs.FutexViews.{goes_on_view, stop_again, sound_still, nothing_left, waits_race, waits_on}
+use Rattle.futex.specs.declared.waiters.Waiter.{Waiter}
+use Rattle.memory_acts.specs.FutexLaws.{stopped_same}
+use Rattle.memory_acts.specs.FutexViews.{goes_on_view, stop_again, sound_still, nothing_left, waits_race, waits_on}
 use Rattle.thread_acts.proofs.state.State.stand_waiting.Goals as goal
 
 pub stop-requires : goal.stop-requires

@@ -1,7 +1,7 @@
 use Rattle.std.proofs.Common.{◌∙◌, ap}
 use Rattle.frames.specs.Chains.{chain_of}
 use Rattle.trap_answers.specs.Watching.{Watching}
-use Rattle.thread_acts.specs.Starting.{state_first, start_is}
+use Rattle.run_start.specs.Starting.{state_first, start_is}
 use Rattle.thread_acts.proofs.state.State.start.Goals as goal
 
 pub returns-clause-first : goal.returns-clause-first

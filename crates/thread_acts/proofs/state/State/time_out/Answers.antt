@@ -1,5 +1,5 @@
 use Rattle.frames.specs.Chains.{chain_of}
-use Rattle.thread_acts.proofs.FutexViews.{stop_there, time_out_goes, timed_out_so}
+use Rattle.memory_acts.specs.FutexViews.{stop_there, time_out_goes, timed_out_so}
 use Rattle.thread_acts.proofs.state.State.time_out.Goals as goal
 
 pub stop-requires : goal.stop-requires

@@ -1,6 +1,6 @@
 use Rattle.std.proofs.Common.{Ok, Err}
-use Rattle.thread_acts.specs.FutexLaws.{wait_cell_there, wait_is}
-use Rattle.thread_acts.proofs.AccessViews.{refused_by, there_so, answered_so}
+use Rattle.memory_acts.specs.FutexLaws.{wait_cell_there, wait_is}
+use Rattle.memory_acts.specs.AccessViews.{refused_by, there_so, answered_so}
 use Rattle.thread_acts.proofs.state.State.wait.Goals as goal
 
 pub cell_there-requires : goal.cell_there-requires

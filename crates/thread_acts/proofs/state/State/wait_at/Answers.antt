@@ -1,7 +1,7 @@
 use Rattle.std.proofs.Common.{◌∙◌, ap, sym}
-use Rattle.thread_acts.specs.Held.{Held}
-use Rattle.thread_acts.specs.Hand.{hand_made}
-use Rattle.thread_acts.proofs.FutexViews.{wait_fits, wait_goes_on, waited_on, waited_here}
+use Rattle.run_state.specs.Held.{Held}
+use Rattle.run_state.specs.Hand.{hand_made}
+use Rattle.memory_acts.specs.FutexViews.{wait_fits, wait_goes_on, waited_on, waited_here}
 use Rattle.thread_acts.proofs.state.State.wait_at.Goals as goal
 
 pub stand_waiting-requires-clause-fits : goal.stand_waiting-requires-clause-fits

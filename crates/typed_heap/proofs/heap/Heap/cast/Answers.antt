@@ -1,8 +1,8 @@
 use Rattle.std.proofs.Common.{◌≡◌, IsSome, Some, length, slice_get, ◌∙◌, ap, subst}
 use Rattle.std.specs.Prelude.{Option}
-use Rattle.type_laws.specs.declared.definition.TypeDef.{TypeDef}
-use Rattle.type_laws.specs.declared.definition.TypeDef.TheVariants.{Iref}
-use Rattle.type_laws.specs.Definition.{arguments}
+use Rattle.type_definitions.specs.declared.definition.TypeDef.{TypeDef}
+use Rattle.type_definitions.specs.declared.definition.TypeDef.TheVariants.{Iref}
+use Rattle.type_definitions.specs.Definition.{arguments}
 use Rattle.mu_values.specs.declared.scalars.Scalar.{Scalar}
 use Rattle.mu_values.specs.declared.scalars.Scalar.TheVariants.{Place}
 use Rattle.typed_heap.specs.Heap.{HeapContents}

@@ -1,7 +1,7 @@
 use Rattle.std.proofs.Common.{◌≡◌, ℕ, ◌+◌, ◌++◌, List, length, map, take, drop, sym, ap, subst, ◌∙◌, refl, arith, rules}
 use Rattle.std.specs.List.{All}
 use Rattle.std.specs.Vec.{vec_len}
-use Rattle.mu_types.proofs.Leads.{lent_back}
+use Rattle.mu_types.specs.ListLaws.{lent_back}
 use Rattle.typed_heap.specs.declared.objects.Initial.{Initial}
 use Rattle.typed_heap.specs.Objects.{replaced}
 use Rattle.typed_heap.specs.Rows.{initial_of, begin, IsKnown, AreOwn, IsRowed}

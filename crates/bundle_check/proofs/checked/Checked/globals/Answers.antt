@@ -1,5 +1,0 @@
-use Rattle.bundle_check.proofs.Globals.{as_many_types}
-use Rattle.bundle_check.proofs.checked.Checked.globals.Goals as goal
-
-pub returns-clause-cells : goal.returns-clause-cells
-returns-clause-cells c = cc (as_many_types c.args.self.now)

@@ -1,4 +1,0 @@
-pub mod Blocks
-pub mod Functions
-pub mod Checking
-pub mod Answers

@@ -1,0 +1,5 @@
+use Rattle.bundle_laws.proofs.TypedOperands.{arguments_fit}
+use Rattle.bundle_laws.proofs.code.arguments_fit.Goals as goal
+
+pub returns : goal.returns
+returns c = arguments_fit

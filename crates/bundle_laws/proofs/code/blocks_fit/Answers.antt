@@ -1,0 +1,5 @@
+use Rattle.bundle_laws.proofs.TypedEndings.{block_fits}
+use Rattle.bundle_laws.proofs.code.blocks_fit.Goals as goal
+
+pub returns : goal.returns
+returns c = block_fits

@@ -1,0 +1,5 @@
+use Rattle.bundle_laws.proofs.TypedInstructions.{op_fits}
+use Rattle.bundle_laws.proofs.code.forms_fit.Goals as goal
+
+pub returns : goal.returns
+returns c = op_fits

@@ -1,0 +1,5 @@
+use Rattle.bundle_laws.proofs.TypedOperands.{operand_fits}
+use Rattle.bundle_laws.proofs.code.operands_fit.Goals as goal
+
+pub returns : goal.returns
+returns c = operand_fits

@@ -1,5 +1,0 @@
-use Rattle.code_check.proofs.TypedOperands.{exceptional_fits, normal_fits}
-use Rattle.code_check.proofs.laws.destinations_fit.Goals as goal
-
-pub returns : goal.returns
-returns c = λ p blocks f ls d body fits. (exceptional_fits p blocks f ls d body fits, normal_fits p blocks f ls d body fits)

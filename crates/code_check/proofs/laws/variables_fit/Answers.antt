@@ -1,5 +1,0 @@
-use Rattle.code_check.proofs.TypedInstructions.{after_fits, after_classes}
-use Rattle.code_check.proofs.laws.variables_fit.Goals as goal
-
-pub returns : goal.returns
-returns c = λ p f ls ended i fits m. (after_fits p ls i fits, after_classes p f ls ended i m)

@@ -1,0 +1,10 @@
+pub mod Elements
+pub mod Grammatical
+pub mod Firsts
+pub mod TokenJudging
+pub mod FirstUnmet
+pub mod TextAnswers
+pub mod Limitless
+pub mod OneAnswer
+pub mod Truth
+pub mod Threads

@@ -1,0 +1,14 @@
+pub mod Words
+pub mod Numbers
+pub mod Grammar
+pub mod Demands
+pub mod Texts
+pub mod Judged
+pub mod TextAnswers
+pub mod Meaning
+pub mod Answers
+pub mod Printed
+pub mod Laws
+pub mod Samples
+pub mod Examples
+pub mod FaultExamples

@@ -1,0 +1,5 @@
+pub mod Asked
+pub mod Answers
+pub mod Explored
+pub mod Parts
+pub mod Reading

@@ -1,2 +1,0 @@
-pub mod SameCell
-pub mod CellLaws

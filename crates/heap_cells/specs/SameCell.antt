@@ -1,6 +1,0 @@
--- Whether two cells are one.
-use Rattle.std.specs.Prelude.{Bool, ◌&&◌, ◌==◌}
-use Rattle.heap_cells.specs.declared.cells.CellId.{CellId}
-
-abbrev pub same_cell : CellId → CellId → Bool
-same_cell a b = (a.object == b.object) && (a.at == b.at)

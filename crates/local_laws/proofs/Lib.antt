@@ -1,0 +1,12 @@
+mod Counting
+mod Keeping
+mod Forms
+mod Answering
+mod Meeting
+mod Front
+mod Seeing
+mod Places
+mod Joining
+mod Scheduled
+mod Searching
+mod Looping

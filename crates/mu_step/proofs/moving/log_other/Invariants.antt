@@ -1,4 +1,0 @@
-use Rattle.mu_step.proofs.moving.log_other.Given as goal
-
-abbrev pub ghosts-commit_other : goal.ghosts-commit_other
-ghosts-commit_other g a = record { name = a.blank.name; parts = a.blank.parts }

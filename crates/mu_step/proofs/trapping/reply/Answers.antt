@@ -1,9 +1,0 @@
-use Rattle.std.proofs.Common.{ap, refl}
-use Rattle.client_hooks.specs.Plans.{end_planned}
-use Rattle.mu_step.specs.Trapping.{left_by, change_by}
-use Rattle.mu_step.proofs.TrapViews.{stop_answered}
-use Rattle.mu_step.proofs.trapping.reply.Goals as goal
-
-pub returns-in-Stop-clause-ok : goal.returns-in-Stop-clause-ok
-returns-in-Stop-clause-ok g c =
-    stop_answered c.args.code.now c.args.state.now _ (left_by c.args.code.now c.args.state.now c.args.trapped) (change_by c.args.state.now c.args.trapped) (end_planned c.args.end) _ c.requires.there (ap end_planned c.in-Stop.is) refl

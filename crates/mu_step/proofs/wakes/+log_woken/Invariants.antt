@@ -1,5 +1,0 @@
-use Rattle.std.proofs.Common.{length}
-use Rattle.mu_step.proofs.wakes.+log_woken.Given as goal
-
-abbrev pub decreases-log_woken : goal.decreases-log_woken
-decreases-log_woken g l = length l.woken.now

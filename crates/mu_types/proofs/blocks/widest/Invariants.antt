@@ -1,7 +1,0 @@
-use Rattle.std.proofs.Common.{◌≡◌, ℕ, ◌<◌, ◌≤◌, Some, length, slice_get}
-use Rattle.type_laws.specs.declared.definition.TypeDef.{TypeDef}
-use Rattle.type_laws.specs.Definition.{arguments}
-use Rattle.mu_types.proofs.blocks.widest.Given as goal
-
-abbrev pub invariant-loop-x : goal.invariant-loop-x
-invariant-loop-x l = (u : ℕ) (d : TypeDef) → u < l.x → slice_get l.definitions u ≡ Some d → length (arguments d) ≤ l.width

@@ -1,8 +1,0 @@
-use Rattle.std.proofs.Common.{◌≡◌, ◌++◌}
-use Rattle.type_laws.specs.Leaves.{times}
-use Rattle.mu_types.specs.Rows.{lists}
-use Rattle.mu_types.specs.Listings.{row_by}
-use Rattle.mu_types.proofs.listing.append_times.Given as goal
-
-abbrev pub invariant-loop-i : goal.invariant-loop-i
-invariant-loop-i l = l.out.items ≡ l.fn.out.items ++ times l.i (row_by (lists l.rows) l.number l.p)

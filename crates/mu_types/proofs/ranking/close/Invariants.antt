@@ -1,5 +1,0 @@
-use Rattle.std.proofs.Common.{vec_len}
-use Rattle.mu_types.proofs.ranking.close.Given as goal
-
-abbrev pub decreases-loop-y : goal.decreases-loop-y
-decreases-loop-y l = vec_len l.search.open

@@ -1,9 +1,0 @@
-use Rattle.std.proofs.Common.{vec_len}
-use Rattle.mu_types.specs.Targets.{TargetsFit}
-use Rattle.mu_types.proofs.refine.settle.Given as goal
-
-abbrev pub invariant-loop-b : goal.invariant-loop-b
-invariant-loop-b l = TargetsFit l.target l.n
-
-abbrev pub decreases-loop-b : goal.decreases-loop-b
-decreases-loop-b l = vec_len l.plan.parents

@@ -1,0 +1,4 @@
+pub mod CellsAsked
+pub mod Making
+pub mod ObjectLaws
+pub mod ObjectViews

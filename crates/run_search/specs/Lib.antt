@@ -1,0 +1,4 @@
+pub mod Given
+pub mod Playing
+pub mod Runs
+pub mod StepPaths

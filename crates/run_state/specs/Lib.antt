@@ -1,0 +1,14 @@
+pub mod ActLaws
+pub mod ActViews
+pub mod Acting
+pub mod AnsweredLines
+pub mod Hand
+pub mod Held
+pub mod Kept
+pub mod Lists
+pub mod Options
+pub mod Outcome
+pub mod Passing
+pub mod Remembering
+pub mod StepLaws
+pub mod Unwinding

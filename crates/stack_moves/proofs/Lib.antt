@@ -1,0 +1,2 @@
+mod EditedViews
+pub mod EnteringViews

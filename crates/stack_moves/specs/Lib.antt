@@ -1,0 +1,4 @@
+pub mod Editing
+pub mod Entering
+pub mod EnteringLaws
+pub mod SwapLaws

@@ -1,6 +1,0 @@
-use Rattle.std.proofs.Common.{slice_get}
-use Rattle.thread_acts.specs.Remembering.{SoFar}
-use Rattle.thread_acts.proofs.making.initial_scalars.Given as goal
-
-abbrev pub invariant-loop-at : goal.invariant-loop-at
-invariant-loop-at l = SoFar (slice_get l.heap.objects l.object) l.at l.value.members

@@ -1,5 +1,0 @@
-use Rattle.thread_acts.proofs.Passing.{optional_at}
-use Rattle.thread_acts.proofs.waiting.handler.Goals as goal
-
-pub returns-in_ok-read_goal-in-Some : goal.returns-in_ok-read_goal-in-Some
-returns-in_ok-read_goal-in-Some c = optional_at c.args.code.now _ _ _ _ _ c.of.ensures c.in-Some.is c.in_ok-read_goal-in-Some.ensures

@@ -1,5 +1,0 @@
-use Rattle.thread_acts.specs.Kept.{kept_even}
-use Rattle.thread_acts.proofs.waiting.kept.Goals as goal
-
-pub new-requires : goal.new-requires
-new-requires c = kept_even c.args.types.now c.of.result c.args.names.now _ c.in_ok-read_kept.ensures

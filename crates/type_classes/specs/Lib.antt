@@ -1,0 +1,13 @@
+pub mod Walks
+pub mod Levels
+pub mod Listings
+pub mod Keys
+pub mod Ordered
+pub mod RankedTypes
+pub mod Rounds
+pub mod Blocks
+pub mod Edges
+pub mod Leads
+pub mod Names
+pub mod Partitions
+pub mod Targets

@@ -1,0 +1,11 @@
+use Rattle.std.proofs.Common.{ap}
+use Rattle.frames.specs.Chains.{chain_of}
+use Rattle.wake_acts.proofs.WakeViews.{stood_there, back_again}
+use Rattle.wake_acts.proofs.wakes.stand_there.Goals as goal
+
+pub returns-clause-seats : goal.returns-clause-seats
+returns-clause-seats c =
+    stood_there c.args.seats.now _ _ c.args.thread c.args.stack c.args.place.block c.args.place.at c.args.values.now.values (chain_of c.exchange.new.frames) (chain_of c.args.frames.now) (chain_of c.stand.new.frames) c.requires c.exchange.ensures.frames c.exchange.ensures.seats (ap chain_of c.stand.ensures) c.exchange-2.ensures.seats
+
+pub returns-clause-frames : goal.returns-clause-frames
+returns-clause-frames c = back_again c.args.seats.now _ c.args.thread c.args.stack (chain_of c.exchange.new.frames) (chain_of c.args.frames.now) (chain_of c.exchange-2.new.frames) c.exchange.ensures.seats c.exchange.ensures.frames c.exchange-2.ensures.frames

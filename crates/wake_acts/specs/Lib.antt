@@ -1,0 +1,2 @@
+pub mod WakeLaws
+pub mod Waking
