@@ -1,12 +1,13 @@
 #!/bin/sh
-# Runs the program `mu` with the given words, in the caller's folder. Standard output and the status are the program's own.
+# Runs the program `mu` with the given words, in the caller's folder; of `explore ..` the program `mu_explore`. Standard output and the status
+# are the program's own.
 #
 #   mu WORDS..                answers: by the program that was proved and built from the sources as they are; where there is none, by
 #                             the same sources compiled without a proof, which standard error says
 #   mu --proved WORDS..       answers only by the proved program, and builds it where it is missing
-#   mu --build                proves and builds it, and does no more
-#   mu --gate                 proves and tests everything by `rt ci`, whose status it gives, and keeps the program that this built
-#   mu --install DIR          puts the proved program with all that belongs to it into DIR/bin and DIR/share (scripts/install)
+#   mu --build                proves and builds both programs, and does no more
+#   mu --gate                 proves and tests everything by `rt ci`, whose status it gives, and keeps the programs that this built
+#   mu --install DIR          puts the proved programs with all that belongs to them into DIR/bin and DIR/share (scripts/install)
 #   mu --uninstall DIR        removes what --install put there
 #   mu --help, mu --version   explain the words; say which program answers
 #   mu --OPTION.. WORDS..     each other option is one of tools/main.py
@@ -14,7 +15,7 @@
 # Where standard error is a terminal, a refusal and an ending that needs a word are explained there unasked.
 # Status 14: no program could be built, or it could not be asked.
 #
-# The same file is DIR/bin/mu after --install. There the program stands in DIR/share/mu, and nothing is ever built.
+# The same file is DIR/bin/mu after --install. There the programs stand in DIR/share/mu, and nothing is ever built.
 set -u
 unset CDPATH
 
@@ -38,7 +39,7 @@ out=$top/out
 share=$top
 if [ ! -d "$top/crates" ]; then
   share=$top/../share/mu
-  [ -x "$share/program" ] || fail "this is neither in a clone of the repository nor where --install put it"
+  [ -x "$share/program" ] && [ -x "$share/explorer" ] || fail "this is neither in a clone of the repository nor where --install put it"
 fi
 
 # Prints of each file and folder named on standard input what changes when it does: its number, its size and its time of change.
@@ -59,14 +60,36 @@ find_number() {
   sum_sources
 }
 
-# Sets `program` to the command that answers.
+# Sets `asked` to the program that answers these words: `explorer` where the first after all options and their values is `explore`, else
+# `program`.
+find_asked() {
+  asked=program
+  is_value=
+  for word do
+    if [ "$is_value" ]; then
+      is_value=
+      continue
+    fi
+    case $word in
+    --picture | --seed) is_value=yes ;;
+    --*) ;;
+    explore)
+      asked=explorer
+      return
+      ;;
+    *) return ;;
+    esac
+  done
+}
+
+# Sets `program` to the command that answers, by `asked`.
 find_program() {
   if [ "$share" != "$top" ]; then
-    program=$share/program
+    program=$share/$asked
     return
   fi
   find_number
-  program=$out/program-$number
+  program=$out/$asked-$number
   [ ! -x "$program" ] || return 0
   . "$top/scripts/building"
   if [ "$only_proved" ]; then
@@ -92,13 +115,14 @@ ask_tools() {
   exec "$program" "$@"
 }
 
-# Answers, and explains unasked what was answered.
+# Answers, and explains unasked what was answered, by a second call.
 answer_on_terminal() {
   "$program" "$@"
   status=$?
-  case $status in
-  # It ended well, its output could not be written, there was no memory, or no program: there is nothing to explain.
-  0 | 4 | 11 | 14) exit "$status" ;;
+  case $asked.$status in
+  # It ended well, its output could not be written, there was no memory, or no program: there is nothing to explain. And no search is
+  # made twice.
+  *.0 | *.4 | *.11 | *.14 | explorer.10) exit "$status" ;;
   esac
   for word do
     # A pipe cannot be read a second time.
@@ -115,6 +139,7 @@ answer_on_terminal() {
 }
 
 only_proved=
+find_asked "$@"
 case ${1-} in
 --build | --gate)
   [ $# -eq 1 ] || fail "$1 takes no further word"
@@ -136,9 +161,10 @@ case ${1-} in
     exec "$top/scripts/install" --uninstall "$2"
   fi
   only_proved=yes
+  asked=program
   find_program
   . "$top/scripts/building"
-  exec "$top/scripts/install" --install "$2" "$program" "$(print_version)"
+  exec "$top/scripts/install" --install "$2" "$program" "$out/explorer-$number" "$(print_version)"
   ;;
 --help)
   exec cat "$share/share/help"
