@@ -13,12 +13,18 @@ RUN_OPTIONS = {"--entry": "the name of a function, with its `@`", "--hail": "a f
                "--client": "a file with a client script",
                "--schedule": "a file with a schedule", "--steps": "a number from 0 to 1000000", "--cells": "a number from 0 to 1000000",
                "--release-sequences": "c11 or rmw", "--auto": None}
+# The options of `explore`, likewise.
+EXPLORE_OPTIONS = {**RUN_OPTIONS, "--runs": "a number from 1 to 100000000"}
+del EXPLORE_OPTIONS["--schedule"]
+OPTIONS = {"run": RUN_OPTIONS, "explore": EXPLORE_OPTIONS}
 JUDGE_OPTION = "--release-sequences"
 COMMANDS = {"check": "check FILE", "print": "print FILE", "trial": "trial N, with N from 1 to 1000", "run": "run FILE --entry @NAME",
-            "judge": "judge FILE", "join": "join FILE .., with 1 to 16 files"}
+            "explore": "explore FILE --entry @NAME", "judge": "judge FILE", "join": "join FILE .., with 1 to 16 files"}
 MOST_JOINED = 16
-MOST = {"--steps": 1_000_000, "--cells": 1_000_000}
+# The least and the greatest value of an option that has numbers.
+BOUNDS = {"--steps": (0, 1_000_000), "--cells": (0, 1_000_000), "--runs": (1, 100_000_000)}
 DEFAULT_STEPS, DEFAULT_CELLS = 200_000, 100_000
+DEFAULT_RUNS, DEFAULT_STEPS_OF_EACH = 1_000_000, 1_000
 # The files that a refusal may name besides the bundle, each with the option that names it.
 FILES = {"hail": "--hail", "client": "--client", "schedule": "--schedule"}
 
@@ -34,13 +40,13 @@ class Call(typing.NamedTuple):
     @classmethod
     def of_words(cls, words):
         """The call that words are, or None where the command has no file. The file of `judge` stands in the place of the bundle."""
-        if len(words) < 2 or words[0] not in ("check", "print", "run", "judge", "join"):
+        if len(words) < 2 or words[0] not in ("check", "print", "run", "explore", "judge", "join"):
             return None
         if words[0] == "join":
             return cls(words[0], words[1], {}, tuple(words[1:]))
         options, at = {}, 2
-        while words[0] in ("run", "judge") and at < len(words):
-            has_value = RUN_OPTIONS.get(words[at]) is not None
+        while words[0] in ("run", "explore", "judge") and at < len(words):
+            has_value = {**RUN_OPTIONS, **EXPLORE_OPTIONS}.get(words[at]) is not None
             options[words[at]] = words[at + 1] if has_value and at + 1 < len(words) else ""
             at += 2 if has_value else 1
         return cls(words[0], words[1], options)
@@ -146,7 +152,7 @@ def usage_fault(words):
         return 0, [f"`{words[0]}` is no command{near(words[0], COMMANDS)}", "expected: " + "; ".join(COMMANDS.values())]
     if len(words) == 1:
         return 1, [f"expected: {COMMANDS[words[0]]}"]
-    if words[0] == "run":
+    if words[0] in OPTIONS:
         return run_fault(words)
     if words[0] == "judge":
         return judge_fault(words)
@@ -172,21 +178,31 @@ def judge_fault(words):
 
 
 def run_fault(words):
-    """The word at fault of `run ..`."""
-    seen, at = set(), 2
+    """The word at fault of `run ..` or `explore ..`."""
+    options, seen, at = OPTIONS[words[0]], set(), 2
     while at < len(words):
         word = words[at]
-        if word not in RUN_OPTIONS:
-            return at, [f"`{word}` is no option of run{near(word, RUN_OPTIONS)}", "expected: one of " + " ".join(RUN_OPTIONS)]
+        if word not in options:
+            of_run = "; a search goes through all schedules" if word in RUN_OPTIONS else near(word, options)
+            return at, [f"`{word}` is no option of {words[0]}{of_run}", "expected: one of " + " ".join(options)]
         if word in seen:
             return at, [f"{word} stands twice; each option stands at most once"]
         seen.add(word)
-        if RUN_OPTIONS[word] is not None:
+        if options[word] is not None:
             at += 1
             if at == len(words):
-                return at, [f"expected: after {word} {RUN_OPTIONS[word]}"]
+                return at, [f"expected: after {word} {options[word]}"]
             value = words[at]
-            if word in MOST and not is_number(value, 0, MOST[word]) or word == "--release-sequences" and value not in ("c11", "rmw"):
-                return at, [f"expected: after {word} {RUN_OPTIONS[word]}"]
+            if word in BOUNDS and not is_number(value, *BOUNDS[word]) or word == "--release-sequences" and value not in ("c11", "rmw"):
+                return at, [f"expected: after {word} {options[word]}"]
         at += 1
     return len(words), ["expected: --entry @NAME, which names the function that the run begins with"]
+
+
+def explain_bounded(call):
+    """What a search that was bounded has used up, which its last line says."""
+    runs = call.options.get("--runs", DEFAULT_RUNS)
+    steps = call.options.get("--steps", DEFAULT_STEPS_OF_EACH)
+    return ["bounded: there may be further outcomes; the last line says what was used up",
+            f"  `runs` means that one is left after the {runs} that may be made; --runs N allows up to 100000000",
+            f"  `steps` means that a run came to its budget of {steps} steps; --steps N allows up to 1000000"]

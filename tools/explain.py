@@ -2,7 +2,8 @@
 
 The program writes its own standard output, and its status is the status of the call. Only where there is something to explain the
 program runs a second time, and what it prints then is read and not shown. So a file that cannot be read twice, as a pipe, is not
-explained. Where standard output is /dev/null it runs once.
+explained. Where standard output is /dev/null it runs once. A search that is bounded is not made twice: what it says is explained by the
+words.
 """
 import os
 import subprocess
@@ -33,7 +34,7 @@ def explain(program, _options, words):
     else:
         printed, status = None, subprocess.run([program, *words], check=False).returncode
     if status in EXPLAINED:
-        for line in explanation(program, words, command.output(program, words) if printed is None else printed):
+        for line in of_search(words, status) or explanation(program, words, command.output(program, words) if printed is None else printed):
             print(caret.printable(line), file=sys.stderr)
     return command.as_shell(status)
 
@@ -44,6 +45,11 @@ def is_printed_nowhere():
         return os.path.samestat(os.fstat(1), os.stat(os.devnull))
     except OSError:
         return False
+
+
+def of_search(words, status):
+    """The lines that explain a search that is bounded; none of another answer."""
+    return command.explain_bounded(command.Call.of_words(words)) if words[:1] == ["explore"] and status == command.BUDGET else []
 
 
 def explanation(program, words, printed):

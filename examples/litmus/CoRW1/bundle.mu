@@ -1,0 +1,18 @@
+// CoRW1. Asked: value 0 of thread 0 is 1.
+.typedef @i64 = int<64>
+.funcsig @r0 = () -> ()
+.funcsig @r1 = () -> (@i64)
+.const @c1 <@i64> = 1
+.global @x <@i64>
+.funcdef @p1 VERSION %v <@r0> {
+%e():
+  RET ()
+}
+.funcdef @main VERSION %v <@r1> {
+%e():
+  %s1 = COMMINST @uvm.new_stack <[@r0]> (@p1)
+  %t1 = NEWTHREAD %s1 PASS_VALUES<> ()
+  %r0 = LOAD RELAXED <@i64> @x
+  STORE RELAXED <@i64> @x @c1
+  RET (%r0)
+}

@@ -1,0 +1,23 @@
+// MP, message passing: a RELAXED write of the same thread follows the released flag. Asked: 2, and the old data. Yes by rmw.
+.typedef @i64 = int<64>
+.funcsig @r0 = () -> ()
+.funcsig @r2 = () -> (@i64 @i64)
+.const @c1 <@i64> = 1
+.const @c2 <@i64> = 2
+.global @x <@i64>
+.global @y <@i64>
+.funcdef @p1 VERSION %v <@r2> {
+%e():
+  %r0 = LOAD ACQUIRE <@i64> @y
+  %r1 = LOAD RELAXED <@i64> @x
+  RET (%r0 %r1)
+}
+.funcdef @main VERSION %v <@r0> {
+%e():
+  %s1 = COMMINST @uvm.new_stack <[@r2]> (@p1)
+  %t1 = NEWTHREAD %s1 PASS_VALUES<> ()
+  STORE RELAXED <@i64> @x @c1
+  STORE RELEASE <@i64> @y @c1
+  STORE RELAXED <@i64> @y @c2
+  RET ()
+}

@@ -1,0 +1,20 @@
+// SB+rmws. Asked: value 1 of thread 0 is 0, value 1 of thread 1 is 0.
+.typedef @i64 = int<64>
+.funcsig @r2 = () -> (@i64 @i64)
+.const @c1 <@i64> = 1
+.global @x <@i64>
+.global @y <@i64>
+.funcdef @p1 VERSION %v <@r2> {
+%e():
+  %r0 = ATOMICRMW ACQ_REL XCHG <@i64> @y @c1
+  %r1 = LOAD ACQUIRE <@i64> @x
+  RET (%r0 %r1)
+}
+.funcdef @main VERSION %v <@r2> {
+%e():
+  %s1 = COMMINST @uvm.new_stack <[@r2]> (@p1)
+  %t1 = NEWTHREAD %s1 PASS_VALUES<> ()
+  %r0 = ATOMICRMW ACQ_REL XCHG <@i64> @x @c1
+  %r1 = LOAD ACQUIRE <@i64> @y
+  RET (%r0 %r1)
+}
