@@ -3,7 +3,7 @@ use Rattle.std.proofs.Common.{◌≡◌, Err, List, None}
 use Rattle.demands.specs.declared.fault.Fault.{Fault}
 use Rattle.demands.specs.declared.fault.Fault.TheVariants.{Memory, At}
 use Rattle.demands.specs.Demands.{Demands, ◌⨾◌, first_unmet, Judges}
-use Rattle.demands.proofs.Meeting as meeting
+use Rattle.demands.specs.Lemmas.Meeting as meeting
 use Rattle.ir_tree.specs.declared.items.Item.{Item}
 use Rattle.bundle_names.specs.Globals.{globals_of}
 use Rattle.checked_code.specs.Rules.{item_demands}

@@ -13,7 +13,7 @@ use Rattle.checked_code.specs.declared.constants.Constant.{Constant}
 use Rattle.bundle_constants.specs.declared.making.Making.{Making}
 use Rattle.checked_code.specs.ConstantMembers.{members_of, is_made, is_ready, is_ready_at, value_by, value_of, Lawful}
 use Rattle.bundle_constants.specs.Making.{IsMaking, AreLeft}
-use Rattle.checked_code.proofs.ConstantMembers.{none_stuck, constant_at, not_ready, kind_low, holds_at, value_same, settled_at}
+use Rattle.checked_code.specs.Lemmas.ConstantMembers.{none_stuck, constant_at, not_ready, kind_low, holds_at, value_same, settled_at}
 
 -- ---- one pass, where so many were left: those that are still to be looked at, and those that are kept
 pub record IsPass (many total : ℕ) (cs : List Constant) (done : List Bool) (left kept : List ℕ) : Type 0 where

@@ -4,10 +4,10 @@ use Rattle.std.specs.List.{All}
 use Rattle.std.proofs.lemmas.Option.{slice_get_within}
 use Rattle.std.proofs.lemmas.List.Elements.{All-nil, All-cons}
 use Rattle.checked_code.specs.Checking.{bundle_tables}
-use Rattle.bundle_laws.proofs.Tables.{tables_fit}
+use Rattle.bundle_laws.specs.Lemmas.Tables.{tables_fit}
 use Rattle.mu_model.specs.Types.{type_graph}
 use Rattle.bundle_facts.specs.Facts.{WidthsAreNarrow, GlobalsAreTypes}
-use Rattle.bundle_facts.proofs.Accepted.{widths_are_allowed, irefs_are_defined}
+use Rattle.bundle_facts.specs.Lemmas.Accepted.{widths_are_allowed, irefs_are_defined}
 
 all_from : {A : Type 0} (P : A → Type 0) (xs : List A) → ((n : ℕ) (x : A) → slice_get xs n ≡ Some x → P x) → All P xs
 all_from P [] h = All-nil P

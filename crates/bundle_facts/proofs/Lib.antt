@@ -1,14 +1,1 @@
-pub mod Told
-pub mod Shapes
-pub mod Completed
-pub mod References
-pub mod Every
-pub mod Accepted
-pub mod Names
-pub mod Signatures
-pub mod Functions
-pub mod Constants
-pub mod FirstBlocks
-pub mod Derived
 pub mod Classes
-pub mod Spelled

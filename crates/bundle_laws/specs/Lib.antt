@@ -2,3 +2,4 @@ pub mod Typed
 pub mod TypedLaws
 pub mod Accepted
 pub mod Laws
+pub mod Lemmas

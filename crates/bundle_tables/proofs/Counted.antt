@@ -6,7 +6,7 @@ use Rattle.type_definitions.specs.Same.{IsGraph}
 use Rattle.bundle_names.specs.declared.globals.Globals.{Globals}
 use Rattle.bundle_names.specs.Globals.{globals_of}
 use Rattle.checked_code.specs.Graph.{graph_of}
-use Rattle.checked_code.proofs.Counted.{graph_counted}
+use Rattle.checked_code.specs.Lemmas.Counted.{graph_counted}
 use Rattle.bundle_tables.specs.Inner.{AllBelow}
 
 pub is_graph : (g : Globals) (is : List Item) (ds : List TypeDef) → g ≡ globals_of is → ds ≡ graph_of g is → AllBelow (g.counts.written + g.counts.signatures) ds → IsGraph ds

@@ -4,7 +4,7 @@ use Rattle.demands.specs.declared.fault.Fault.{Fault}
 use Rattle.demands.specs.declared.fault.Fault.TheVariants.{Memory, At}
 use Rattle.demands.specs.Demands.{Demands, first_unmet, as_kind, Judges, Meets}
 use Rattle.demands.specs.Laws.{fault_as}
-use Rattle.demands.proofs.Meeting.{carried}
+use Rattle.demands.specs.Lemmas.Meeting.{carried}
 use Rattle.ir_tree.specs.declared.items.Item.{Item}
 use Rattle.type_definitions.specs.declared.definition.TypeDef.{TypeDef}
 use Rattle.type_definitions.specs.declared.definition.TypeDef.TheVariants.{Int, Void, StackRef, ThreadRef}
@@ -21,7 +21,7 @@ use Rattle.check_tables.specs.declared.fault.CheckKind.TheVariants.{Types}
 use Rattle.check_tables.specs.Held.{IsHeld}
 use Rattle.checked_code.specs.Graph.{graph_of, table_of, places_of, type_demands}
 use Rattle.bundle_tables.specs.Inner.{fault_of}
-use Rattle.checked_code.proofs.Counted.{graph_counted}
+use Rattle.checked_code.specs.Lemmas.Counted.{graph_counted}
 
 -- the demands on the graph are those on the types
 demands_same : (g : Globals) (is : List Item) (w : Written) → w.definitions ≡ graph_of g is → w.places ≡ places_of is → as_kind Types (written_demands w) ≡ type_demands g is

@@ -3,7 +3,7 @@ use Rattle.std.proofs.Common.{◌≡◌, ℕ, List, Option, ◌∙◌, ap}
 use Rattle.demands.specs.declared.fault.Fault.{Fault}
 use Rattle.demands.specs.Demands.{first_unmet, as_kind}
 use Rattle.demands.specs.Laws.{fault_as}
-use Rattle.demands.proofs.Meeting.{carried}
+use Rattle.demands.specs.Lemmas.Meeting.{carried}
 use Rattle.mu_types.specs.Graph.{Table}
 use Rattle.mu_values.specs.declared.literals.Literal.{Literal}
 use Rattle.mu_values.specs.declared.literals.ConstKind.{ConstKind}

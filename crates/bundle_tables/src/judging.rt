@@ -16,7 +16,7 @@ use ir_tree::Item;
 use std::alloc::Global;
 
 /// Constants, signatures and globals, where the types are judged.
-#[tactic(auto, using(checked_code::proofs::Counted::written_within, checked_code::proofs::Counted::constants_counted))]
+#[tactic(auto, using(checked_code::specs::Lemmas::Counted::written_within, checked_code::specs::Lemmas::Counted::constants_counted))]
 fn judge_others(alloc: Global, tables: &Tables, items: &[Item]) -> Result<(), CheckFault>
     requires types { tables.now.types ≡ table_of tables.now.globals items.now }
     requires globals { tables.now.globals ≡ globals_of items.now }

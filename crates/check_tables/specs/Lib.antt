@@ -3,3 +3,4 @@ pub mod Held
 pub mod Lookups
 pub mod TypeTests
 pub mod Laws
+pub mod Lemmas

@@ -1,6 +1,1 @@
-pub mod ConstantMembers
-pub mod ConstantsAccepted
-pub mod ConstantsFitting
-pub mod ConstantsAnswered
 pub mod Globals
-pub mod Counted

@@ -20,3 +20,4 @@ pub mod Blocks
 pub mod Functions
 pub mod Checking
 pub mod Answers
+pub mod Lemmas

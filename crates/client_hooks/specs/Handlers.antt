@@ -18,6 +18,6 @@ ResumesAsked p view (Rebind t w) = ⊥
 ResumesAsked p view Exit = ⊥
 ResumesAsked p view Stop = ⊥
 
--- nothing is recorded, no frame is popped or pushed, and then the trapped stack is entered so
+-- nothing is recorded, no frame is popped or pushed, and then the trapped stack is entered so; watchpoints may be set and unset
 abbrev pub OnlyResumes : Tables → View → Answer → Type 0
 OnlyResumes p view a = (a.notes ≡ []) × (a.edit ≡ no_edit) × ResumesAsked p view a.reply

@@ -5,4 +5,6 @@ pub mod Told
 pub mod Chains
 pub mod Handlers
 pub mod Laws
+pub mod Ways
 pub mod AutoAnswers
+pub mod Lemmas

@@ -3,10 +3,9 @@ ghost use Rattle.std.specs.Prelude.{◌≡◌};
 ghost use Rattle.mu_model.specs.Clients.{Pass, Resume};
 ghost use Rattle.mu_model.specs.Answers.{blank, plain_answer};
 
-use crate::client::Client;
 use crate::copying::copy_values;
-use crate::determined::Determined;
-use crate::hook::{Handler, Hook};
+use crate::determined::DeterminedHandler;
+use crate::hook::Handler;
 use crate::notes::{Notes, Watches};
 use crate::reply::{NO_EDIT, Reply, ReplyEnd, With};
 use crate::view::TrapView;
@@ -45,12 +44,17 @@ impl Handler for PassBlank {
     ghost resumes = { λ _. blank_resumes };
 }
 
-impl Determined for Hook<PassBlank> {
-    ghost use Rattle.client_hooks.specs.Laws.{auto_client, blank_is_auto, auto_stays};
+impl DeterminedHandler for PassBlank {
+    ghost use Rattle.std.specs.Prelude.{Some};
+    ghost use Rattle.std.proofs.Common.{ap};
+    ghost use Rattle.client_hooks.specs.Laws.{auto_client, auto_stays};
+    ghost use Rattle.client_hooks.specs.Ways.{by_entries};
+
+    ghost way = { by_entries };
 
     ghost stands_for = { λ _. auto_client };
 
-    ghost answers = { λ _ p view o h. blank_is_auto p view o h };
+    ghost answers = { λ _ _ _ _ h. ap Some h };
 
-    ghost goes_on = { λ _ _ _. auto_stays };
+    ghost stays = { λ _. auto_stays };
 }

@@ -20,7 +20,7 @@ pub use blank::PassBlank;
 pub use chain::Chain;
 pub use client::Client;
 pub use copying::copy_values;
-pub use determined::Determined;
+pub use determined::{Determined, DeterminedHandler};
 pub use hook::{Handler, Hook};
 pub use laws::{blank_hooks_are_auto, hooks_go_on, hooks_resume};
 pub use notes::{Notes, Watch, Watches};

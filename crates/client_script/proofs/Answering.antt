@@ -6,18 +6,18 @@ use Rattle.text_forms.specs.Tokens.{Tok, IsText}
 use Rattle.text_forms.specs.Derives.{Derives}
 use Rattle.text_forms.specs.First.{IsFirstFault}
 use Rattle.text_forms.specs.Reading.{whole}
-use Rattle.text_forms.proofs.Whole.{whole_ok, whole_fault}
+use Rattle.text_forms.specs.Lemmas.Whole.{whole_ok, whole_fault}
 use Rattle.demands.specs.declared.fault.Fault as unmet
 use Rattle.demands.specs.declared.fault.Fault.TheVariants.{At}
 use Rattle.demands.specs.Demands.{first_unmet, or_else}
-use Rattle.demands.proofs.Meeting.{all_met}
+use Rattle.demands.specs.Lemmas.Meeting.{all_met}
 use Rattle.ir_lex.specs.declared.token.Token.{Token}
 use Rattle.ir_lex.specs.declared.token.LexFault.{LexFault}
 use Rattle.ir_lex.specs.Texts.{Lexes}
 use Rattle.ir_lex.specs.Seen.{seen}
 use Rattle.ir_lex.specs.Walk.{tokens_from}
-use Rattle.ir_lex.proofs.Cursors.{tokens_are_seen, texts_end}
-use Rattle.ir_lex.proofs.Lists.{one_list}
+use Rattle.ir_lex.specs.Lemmas.Cursors.{tokens_are_seen, texts_end}
+use Rattle.ir_lex.specs.Lemmas.Lists.{one_list}
 use Rattle.ir_tree.specs.declared.items.Item.{Item}
 use Rattle.bundle_names.specs.Globals.{globals_of}
 use Rattle.client_script.specs.declared.fault.ScriptKind.{ScriptKind}
@@ -28,7 +28,7 @@ use Rattle.client_script.specs.Demands.{token_demands}
 use Rattle.client_script.specs.Meaning.{entries_meant}
 use Rattle.client_script.specs.Texts.{tokens_before, demands_by, entries_in}
 use Rattle.client_script.specs.ScriptAnswers.{IsAnswer, script_read, grammar_first, token_first, answer_by, TextsAreAnswered}
-use Rattle.client_script.proofs.Grammatical.{is_grammar}
+use Rattle.client_script.specs.Lemmas.Grammatical.{is_grammar}
 use Rattle.client_script.proofs.FirstUnmet.{unmet_is, front_live, derived_live, fault_place, front_is}
 
 -- the tokens of a text by its rules

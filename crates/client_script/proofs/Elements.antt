@@ -1,6 +1,6 @@
 -- The elements of the grammar's lists.
 use Rattle.std.proofs.Common.{List, refl}
-use Rattle.text_forms.proofs.Loops.{IsPlain}
+use Rattle.text_forms.specs.Lemmas.Loops.{IsPlain}
 use Rattle.ir_lex.specs.TokenForms.{mark, name, numeral}
 use Rattle.ir_tree.specs.declared.items.Item.{Item}
 use Rattle.ir_tree.specs.Lists.{global}

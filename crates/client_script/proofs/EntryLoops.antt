@@ -7,7 +7,7 @@ use Rattle.text_forms.specs.Tokens.{Tok, at}
 use Rattle.text_forms.specs.Forms.{until}
 use Rattle.text_forms.specs.Reading.{read, ◌>>=◌}
 use Rattle.text_forms.specs.Answers.{Gives, GivesAll, with_front}
-use Rattle.text_forms.proofs.Loops as loops
+use Rattle.text_forms.specs.Lemmas.Loops as loops
 use Rattle.ir_tree.specs.declared.items.Item.{Item}
 use Rattle.client_script.specs.declared.tree.Entry.{Entry}
 use Rattle.client_script.specs.Grammar.{entry, script}

@@ -9,11 +9,11 @@ use Rattle.text_forms.specs.Forms.{Form}
 use Rattle.text_forms.specs.Derives.{Derives}
 use Rattle.text_forms.specs.Limits.{unlimited, Live}
 use Rattle.text_forms.specs.First.{IsDead, IsPast}
-use Rattle.text_forms.proofs.Unlimited.{derives_unlimited}
+use Rattle.text_forms.specs.Lemmas.Unlimited.{derives_unlimited}
 use Rattle.demands.specs.declared.fault.Fault as unmet
 use Rattle.demands.specs.Demands.{AllMet, first_unmet, or_else}
 use Rattle.name_scopes.specs.Names.{Names}
-use Rattle.demands.proofs.Meeting.{all_met}
+use Rattle.demands.specs.Lemmas.Meeting.{all_met}
 use Rattle.bundle_names.specs.declared.globals.Sort.{Sort}
 use Rattle.client_script.specs.declared.fault.ScriptKind.{ScriptKind}
 use Rattle.client_script.specs.Demands.{token_demand, token_demands, last_symbol}

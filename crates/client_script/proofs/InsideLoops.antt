@@ -7,7 +7,7 @@ use Rattle.text_forms.specs.Tokens.{Tok, at, first}
 use Rattle.text_forms.specs.Forms.{Form, lines, no_flag}
 use Rattle.text_forms.specs.Reading.{read}
 use Rattle.text_forms.specs.Answers.{Gives, kept}
-use Rattle.text_forms.proofs.Lists.{goes_on_by, is_done_by, fails_by, close_fails_by, steady_read}
+use Rattle.text_forms.specs.Lemmas.Lists.{goes_on_by, is_done_by, fails_by, close_fails_by, steady_read}
 use Rattle.ir_tree.specs.declared.items.Item.{Item}
 use Rattle.client_script.specs.declared.tree.Action.{Action}
 use Rattle.client_script.specs.declared.tree.Edit.{Edit}

@@ -1,5 +1,4 @@
 pub mod Elements
-pub mod Grammatical
 pub mod InsideLoops
 pub mod EntryLoops
 pub mod TokenJudging
@@ -7,8 +6,6 @@ pub mod FirstUnmet
 pub mod Answering
 pub mod Limitless
 pub mod OneAnswer
-pub mod ToldValues
-pub mod Partial
 pub mod Naming
 pub mod Planning
 pub mod Passing

@@ -13,7 +13,7 @@ use Rattle.mu_model.specs.Operands.{all_some}
 use Rattle.mu_model.specs.Answers.{typed, typed_value_at, argument_value, with_of, reply_of, edit_of, entry_answer, answer_of, plain_answer, notes_of}
 use Rattle.client_hooks.specs.Told.{IsTold, is_kept, is_held, AreTold, EntersWithTold, RepliesTold, PushIsHeld, AnswerIsTold}
 use Rattle.client_script.specs.ScriptClients.{named_by, named_with, named_in, named_push, entry_names, values_named, client_of}
-use Rattle.client_script.proofs.Partial.{there, in_head, in_first, in_second}
+use Rattle.client_script.specs.Lemmas.Partial.{there, in_head, in_first, in_second}
 
 -- some values are among others
 abbrev Within : List Classed → List Classed → Type 0

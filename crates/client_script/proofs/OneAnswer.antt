@@ -10,8 +10,8 @@ use Rattle.text_forms.specs.Tokens.{Tok, IsText}
 use Rattle.text_forms.specs.Reading.{whole}
 use Rattle.text_forms.specs.Limits.{Live}
 use Rattle.text_forms.specs.First.{IsDead, IsPast, IsFirstFault}
-use Rattle.text_forms.proofs.Whole.{whole_only, whole_fault, fault_only}
-use Rattle.text_forms.proofs.Ends.{places_rise}
+use Rattle.text_forms.specs.Lemmas.Whole.{whole_only, whole_fault, fault_only}
+use Rattle.text_forms.specs.Lemmas.Ends.{places_rise}
 use Rattle.demands.specs.declared.fault.Fault as unmet
 use Rattle.demands.specs.declared.fault.Fault.TheVariants.{At}
 use Rattle.demands.specs.Demands.{Demands, none, demand, ◌⨾◌, AllMet, first_unmet, or_else}
@@ -19,7 +19,7 @@ use Rattle.name_scopes.specs.Names.{Names}
 use Rattle.ir_lex.specs.Seen.{seen}
 use Rattle.ir_lex.specs.Walk.{tokens_from}
 use Rattle.ir_lex.specs.TokenForms.{mark, name, numeral}
-use Rattle.ir_lex.proofs.Cursors.{tokens_are_seen, texts_end}
+use Rattle.ir_lex.specs.Lemmas.Cursors.{tokens_are_seen, texts_end}
 use Rattle.ir_tree.specs.declared.items.Item.{Item}
 use Rattle.ir_tree.specs.Lists.{global}
 use Rattle.bundle_names.specs.declared.globals.Sort.{Sort}
@@ -32,7 +32,7 @@ use Rattle.client_script.specs.Demands.{token_demand, token_demands, last_symbol
 use Rattle.client_script.specs.Meaning.{entries_meant}
 use Rattle.client_script.specs.Texts.{tokens_before, demands_by, entries_in}
 use Rattle.client_script.specs.ScriptAnswers.{Answer, IsAnswer, script_read, grammar_first, token_first, answer_by, script_answer, AnswerIsOne}
-use Rattle.client_script.proofs.Grammatical.{is_grammar}
+use Rattle.client_script.specs.Lemmas.Grammatical.{is_grammar}
 use Rattle.client_script.proofs.Limitless.{limitless, no_passes}
 use Rattle.client_script.proofs.FirstUnmet.{front_live, fault_place, not_below}
 use Rattle.client_script.proofs.Answering.{texts_are_answered}

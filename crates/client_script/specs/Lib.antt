@@ -14,3 +14,4 @@ pub mod Laws
 pub mod Samples
 pub mod Examples
 pub mod FaultExamples
+pub mod Lemmas

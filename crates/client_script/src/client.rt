@@ -103,6 +103,10 @@ impl Client for Script {
 }
 
 impl Determined for Script {
+    ghost use Rattle.client_hooks.specs.Ways.{by_entries};
+
+    ghost way = { by_entries };
+
     ghost stands_for = { client_of };
 
     ghost answers = { λ _ _ _ _ h. h };

@@ -156,7 +156,7 @@ fn argument(cursor: &mut Cursor, alloc: Global, code: &Shared) -> Result<Argumen
 }
 
 /// The arguments up to `)`
-#[tactic(auto, using(ir_lex::proofs::Cursors::one_goes_on))]
+#[tactic(auto, using(ir_lex::specs::Lemmas::Cursors::one_goes_on))]
 fn arguments(
     cursor: &mut Cursor,
     alloc: Global,

@@ -87,6 +87,10 @@ impl Client for RunClient {
 }
 
 impl Determined for RunClient {
+    ghost use Rattle.client_hooks.specs.Ways.{by_entries};
+
+    ghost way = { by_entries };
+
     ghost stands_for = { λ k. k };
 
     ghost answers = { λ _ _ _ _ h. h };

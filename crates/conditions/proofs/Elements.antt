@@ -1,7 +1,7 @@
 -- The elements of the grammar's lists.
 use Rattle.std.proofs.Common.{ℕ, refl}
 use Rattle.name_scopes.specs.Names.{Names}
-use Rattle.text_forms.proofs.Loops.{IsPlain}
+use Rattle.text_forms.specs.Lemmas.Loops.{IsPlain}
 use Rattle.ir_lex.specs.TokenForms.{mark, numeral}
 use Rattle.conditions.specs.Grammar.{value, told, telling, word, worded, global, last, atom, list, lists, claim, condition}
 

@@ -6,5 +6,4 @@ pub mod FirstUnmet
 pub mod TextAnswers
 pub mod Limitless
 pub mod OneAnswer
-pub mod Truth
 pub mod Threads

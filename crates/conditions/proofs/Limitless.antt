@@ -5,7 +5,7 @@ use Rattle.text_forms.specs.Tokens.{Tok}
 use Rattle.text_forms.specs.Forms.{every, Form, token, nothing, never, both, on, made, left_out, past, many, lines}
 use Rattle.text_forms.specs.Derives.{Derives, Elements}
 use Rattle.text_forms.specs.Passing.{Leads, Passes}
-use Rattle.text_forms.proofs.Tests.{and_true, every_at}
+use Rattle.text_forms.specs.Lemmas.Tests.{and_true, every_at}
 
 abbrev pub limitless : {A : Type 0} → Form A → Bool
 limitless (token xs) = true

@@ -10,8 +10,8 @@ use Rattle.text_forms.specs.Tokens.{Tok, IsText}
 use Rattle.text_forms.specs.Reading.{whole}
 use Rattle.text_forms.specs.Limits.{Live}
 use Rattle.text_forms.specs.First.{IsDead, IsPast, IsFirstFault}
-use Rattle.text_forms.proofs.Whole.{whole_only, whole_fault, fault_only}
-use Rattle.text_forms.proofs.Ends.{places_rise}
+use Rattle.text_forms.specs.Lemmas.Whole.{whole_only, whole_fault, fault_only}
+use Rattle.text_forms.specs.Lemmas.Ends.{places_rise}
 use Rattle.demands.specs.declared.fault.Fault as unmet
 use Rattle.demands.specs.declared.fault.Fault.TheVariants.{At}
 use Rattle.demands.specs.Demands.{Demands, none, demand, ◌⨾◌, AllMet, first_unmet, or_else}
@@ -19,7 +19,7 @@ use Rattle.name_scopes.specs.Names.{Names}
 use Rattle.ir_lex.specs.Seen.{seen}
 use Rattle.ir_lex.specs.Walk.{tokens_from}
 use Rattle.ir_lex.specs.TokenForms.{mark, numeral}
-use Rattle.ir_lex.proofs.Cursors.{tokens_are_seen, texts_end}
+use Rattle.ir_lex.specs.Lemmas.Cursors.{tokens_are_seen, texts_end}
 use Rattle.conditions.specs.declared.fault.ConditionKind.{ConditionKind}
 use Rattle.conditions.specs.declared.fault.ConditionKind.TheVariants.{Text}
 use Rattle.conditions.specs.declared.tree.Condition.{Condition}

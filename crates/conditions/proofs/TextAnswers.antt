@@ -6,19 +6,19 @@ use Rattle.text_forms.specs.Tokens.{Tok, IsText}
 use Rattle.text_forms.specs.Derives.{Derives}
 use Rattle.text_forms.specs.First.{IsFirstFault}
 use Rattle.text_forms.specs.Reading.{whole}
-use Rattle.text_forms.proofs.Whole.{whole_ok, whole_fault}
+use Rattle.text_forms.specs.Lemmas.Whole.{whole_ok, whole_fault}
 use Rattle.demands.specs.declared.fault.Fault as unmet
 use Rattle.demands.specs.declared.fault.Fault.TheVariants.{At}
 use Rattle.demands.specs.Demands.{first_unmet, or_else}
 use Rattle.name_scopes.specs.Names.{Names}
-use Rattle.demands.proofs.Meeting.{all_met}
+use Rattle.demands.specs.Lemmas.Meeting.{all_met}
 use Rattle.ir_lex.specs.declared.token.Token.{Token}
 use Rattle.ir_lex.specs.declared.token.LexFault.{LexFault}
 use Rattle.ir_lex.specs.Texts.{Lexes}
 use Rattle.ir_lex.specs.Seen.{seen}
 use Rattle.ir_lex.specs.Walk.{tokens_from}
-use Rattle.ir_lex.proofs.Cursors.{tokens_are_seen, texts_end}
-use Rattle.ir_lex.proofs.Lists.{one_list}
+use Rattle.ir_lex.specs.Lemmas.Cursors.{tokens_are_seen, texts_end}
+use Rattle.ir_lex.specs.Lemmas.Lists.{one_list}
 use Rattle.conditions.specs.declared.fault.ConditionKind.{ConditionKind}
 use Rattle.conditions.specs.declared.fault.ConditionKind.TheVariants.{Text}
 use Rattle.conditions.specs.declared.tree.Condition.{Condition}

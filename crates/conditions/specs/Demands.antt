@@ -16,7 +16,7 @@ use Rattle.conditions.specs.Words.{claim_of, ending_of, thread_of}
 use Rattle.conditions.specs.Numbers.{is_count}
 use Rattle.conditions.specs.Grammar.{words}
 
--- ---- what a token is to the one behind it
+-- ---- how a token is judged by the token that follows it
 
 -- of a word, where it is the thread of that number or none
 abbrev pub word_stands : Before → Option ℕ → Before

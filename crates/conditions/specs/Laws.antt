@@ -42,7 +42,7 @@ Says is is_not (answers.Yes n) = is
 Says is is_not (answers.No n) = is_not
 Says is is_not answers.Unknown = Unit {0}
 
--- yes is said of a true condition alone, and no of a false one
+-- the answer is yes only for a true condition, and no only for a false one
 abbrev pub AnswersAreTrue : (Outcome → Type 0) → Type 0
 AnswersAreTrue Shows = (found : List Outcome) (complete : Bool) (c : Condition) → Covers Shows found complete → Says (IsTrueOf Shows c.claim c.lists) (IsFalseOf Shows c.claim c.lists) (answer_of c found complete)
 

@@ -12,3 +12,4 @@ pub mod Laws
 pub mod Samples
 pub mod Examples
 pub mod FaultExamples
+pub mod Lemmas

@@ -15,7 +15,7 @@ pub struct Returned {
     pub values: Listing<Value>,
 }
 
-/// What is seen of a run. Where it was cut short, that is its ending alone, and the lists are empty.
+/// What is seen of a run. Of a run that was cut short only the ending is seen: both lists are empty.
 #[derive(Drop)]
 pub struct Outcome {
     /// The threads that returned, with what they returned; those that exited are not among them

@@ -19,7 +19,7 @@ use ir_lex::{Cursor, Number};
 use name_scopes::Scope;
 use text_forms::{FaultKind, Symbol};
 
-/// Nothing stands behind a token of these.
+/// No token follows one of these.
 const LAST: [Symbol; 5] = [
     Symbol::End,
     Symbol::BadByte,
@@ -28,7 +28,7 @@ const LAST: [Symbol; 5] = [
     Symbol::TooLong,
 ];
 
-/// What a word is to the token behind it, where it is that thread or none.
+/// How a word is judged by the token that follows it, where the word names that thread or no thread.
 fn word_stands(before: Before, thread: Option<u32>) -> Before
     ensures { result ≡ word_stands before thread }
 {
@@ -38,7 +38,7 @@ fn word_stands(before: Before, thread: Option<u32>) -> Before
     }
 }
 
-/// What a token is to the one behind it.
+/// How a token is judged by the token that follows it.
 fn after(before: Before, cursor: &Cursor) -> Before
     requires { goes_on_behind cursor.now ≡ true }
     ensures { result ≡ after before (first cursor.now) }

@@ -25,7 +25,7 @@ pub fn answer_is_one()
     ensures { AnswerIsOne }
 {}
 
-/// Of a search whose outcomes were found, yes is said of a true condition alone, and no of a false one.
+/// Where a search found these outcomes, the answer is yes only for a true condition, and no only for a false one.
 pub fn answers_are_true<S: Search>()
     ensures { AnswersAreTrue S.shows }
 {}

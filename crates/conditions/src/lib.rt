@@ -23,3 +23,4 @@ pub use laws::{
 pub use printing::append_answer;
 pub use reading::read_conditions;
 pub use tree::{Atom, Claim, Condition, Ending, Value};
+pub use words::{ending_of, thread_of};

@@ -89,7 +89,7 @@ fn telling(cursor: &mut Cursor) -> Result<Option<(u32, Value)>, ReadError>
 }
 
 /// What a word of a list stands for.
-#[tactic(auto, using(ir_lex::proofs::Cursors::among_goes_on), unfolding(crate::specs::Grammar::word))]
+#[tactic(auto, using(ir_lex::specs::Lemmas::Cursors::among_goes_on), unfolding(crate::specs::Grammar::word))]
 fn word(cursor: &mut Cursor) -> Result<Word, ReadError>
     ensures { Gives result cursor.new (read word cursor.old) }
 {
@@ -101,7 +101,7 @@ fn word(cursor: &mut Cursor) -> Result<Word, ReadError>
     Ok(word)
 }
 
-/// What a word asks, with a number and a value behind it or alone.
+/// What a word asks, either with a number and a value after it or with nothing after it.
 fn atom_of(word: Word, told: Option<(u32, Value)>) -> Atom
     ensures { result ≡ atom_of word told }
 {
@@ -133,7 +133,7 @@ fn global_in(names: &Scope<u32>, name: &[u8]) -> u32
 }
 
 /// `G`, as the number of the global
-#[tactic(auto, using(ir_lex::proofs::Cursors::among_goes_on), unfolding(crate::specs::Grammar::global))]
+#[tactic(auto, using(ir_lex::specs::Lemmas::Cursors::among_goes_on), unfolding(crate::specs::Grammar::global))]
 fn global(cursor: &mut Cursor, names: &Scope<u32>) -> Result<u32, ReadError>
     ensures { Gives result cursor.new (read (global names.now) cursor.old) }
 {
@@ -169,7 +169,7 @@ fn atom(cursor: &mut Cursor, names: &Scope<u32>) -> Result<Atom, ReadError>
 }
 
 /// The members of a list up to `)`
-#[tactic(auto, using(ir_lex::proofs::Cursors::one_goes_on))]
+#[tactic(auto, using(ir_lex::specs::Lemmas::Cursors::one_goes_on))]
 fn atoms(cursor: &mut Cursor, alloc: Global, names: &Scope<u32>) -> Result<Listing<Atom>, ReadError>
     ensures { Gives result cursor.new (read (until (symbols.Close ∷ []) (atom names.now)) cursor.old) }
 {
@@ -190,8 +190,8 @@ fn list(cursor: &mut Cursor, alloc: Global, names: &Scope<u32>) -> Result<Listin
     atoms(cursor, alloc, names)
 }
 
-/// The lists behind the first one, up to `}`
-#[tactic(auto, using(ir_lex::proofs::Cursors::one_goes_on))]
+/// The lists after the first one, up to `}`
+#[tactic(auto, using(ir_lex::specs::Lemmas::Cursors::one_goes_on))]
 fn more_lists(
     cursor: &mut Cursor,
     alloc: Global,
@@ -223,7 +223,7 @@ fn lists(
 }
 
 /// The word that a condition begins with.
-#[tactic(auto, using(ir_lex::proofs::Cursors::one_goes_on), unfolding(crate::specs::Grammar::claim))]
+#[tactic(auto, using(ir_lex::specs::Lemmas::Cursors::one_goes_on), unfolding(crate::specs::Grammar::claim))]
 fn claim(cursor: &mut Cursor) -> Result<Claim, ReadError>
     ensures { Gives result cursor.new (read claim cursor.old) }
 {
@@ -246,7 +246,7 @@ fn condition(cursor: &mut Cursor, alloc: Global, names: &Scope<u32>) -> Result<C
     Ok(Condition { claim, lists })
 }
 
-/// The conditions behind the first one, up to the end of the text
+/// The conditions after the first one, up to the end of the text
 fn more_conditions(
     cursor: &mut Cursor,
     alloc: Global,

@@ -1,3 +1,4 @@
 pub mod Demands
 pub mod Laws
 pub mod Examples
+pub mod Lemmas

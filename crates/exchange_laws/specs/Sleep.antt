@@ -12,7 +12,7 @@ At x (suc k) (y ∷ ys) = At x k ys
 abbrev pub Member : {A : Type 0} → A → List A → Type 0
 Member x xs = (k : ℕ) × At x k xs
 
-in-filter : {A : Type 0} (test : A → Bool) (x : A) (k : ℕ) (xs : List A) → At x k (filter test xs) → (test x ≡ true) × Member x xs
+pub in-filter : {A : Type 0} (test : A → Bool) (x : A) (k : ℕ) (xs : List A) → At x k (filter test xs) → (test x ≡ true) × Member x xs
 in-filter test x k [] h = absurd h
 in-filter {A} test x k (y ∷ xs) h = go (λ m. in-filter test x m xs) (test y) refl k h
   where
@@ -21,12 +21,12 @@ in-filter {A} test x k (y ∷ xs) h = go (λ m. in-filter test x m xs) (test y) 
     go ih true p (suc m) h = let q = ih m h in (q.0, (suc q.1.0, q.1.1))
     go ih false p m h = let q = ih m h in (q.0, (suc q.1.0, q.1.1))
 
-in-append : {A : Type 0} (x : A) (k : ℕ) (xs ys : List A) → At x k (xs ++ ys) → Member x xs ⊎ Member x ys
+pub in-append : {A : Type 0} (x : A) (k : ℕ) (xs ys : List A) → At x k (xs ++ ys) → Member x xs ⊎ Member x ys
 in-append x k [] ys h = inr (k, h)
 in-append x zero (y ∷ xs) ys h = inl (zero, h)
 in-append x (suc k) (y ∷ xs) ys h = elim (in-append x k xs ys h) [ inl p ↦ inl (suc p.0, p.1) | inr p ↦ inr p ]
 
-in-take : {A : Type 0} (x : A) (j k : ℕ) (xs : List A) → At x j (take k xs) → (j < k) × At x j xs
+pub in-take : {A : Type 0} (x : A) (j k : ℕ) (xs : List A) → At x j (take k xs) → (j < k) × At x j xs
 in-take x j zero xs h = absurd h
 in-take x j (suc k) [] h = absurd h
 in-take x zero (suc k) (y ∷ xs) h = (omega arith, h)

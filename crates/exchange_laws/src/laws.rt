@@ -2,7 +2,7 @@
 ghost use Rattle.exchange_laws.specs.Theorems.{FormStays, HappensBeforeStays, BeforeStays, AxiomsStay, RacesStay, RaceFreeStays, LaterRacesStay, ChoicesStay, OptionsStay, FloorStays, BothStillFit};
 
 /// Two neighbouring independent events of a log may be exchanged: happens-before, the axioms, races and the options of every later access
-/// stay the same, up to the numbers of the two events.
+/// stay the same, up to the numbers of the two events. Which earlier event a race names may differ.
 pub fn order_does_not_matter()
     ensures form { FormStays }
     ensures happens_before { HappensBeforeStays }

@@ -1,11 +1,13 @@
 -- What the runs of a search are given, file by file.
-use Rattle.std.proofs.Common.{◌≡◌, ◌∙◌, ℕ, ◌≤◌, List, [], refl, sym, ap, subst, Option, None}
-use Rattle.std.specs.Prelude.{Vec, Ok, Err}
+use Rattle.std.proofs.Common.{◌≡◌, ◌∙◌, ℕ, ◌≤◌, List, [], refl, sym, ap, subst, Option, Some, None}
+use Rattle.std.specs.Prelude.{Vec, Result, Ok, Err}
 use Rattle.std.specs.declared.alloc.Global.{Global}
 use Rattle.ir_tree.specs.declared.items.Item.{Item}
 use Rattle.typed_heap.specs.Objects.{HeapObject}
 use Rattle.typed_heap.specs.Heap.{HeapContents}
 use Rattle.mu_base.specs.Outcome.{got}
+use Rattle.name_scopes.specs.Names.{Names}
+use Rattle.conditions.specs.declared.tree.Condition.{Condition}
 use Rattle.mu_model.specs.Clients.{Client as Answerer}
 use Rattle.seen_runs.specs.Seen.{global_names}
 use Rattle.seen_runs.specs.Finals.{finals_in}
@@ -13,17 +15,19 @@ use Rattle.seen_runs.specs.declared.globals.Final.{Final}
 use Rattle.mu_texts.specs.declared.what.What.{What}
 use Rattle.mu_texts.specs.declared.what.What.TheVariants.{Hail, Client, Schedule}
 use Rattle.mu_texts.specs.declared.stop.Stop.{Stop}
+use Rattle.mu_texts.specs.declared.stop.Stop.TheVariants.{Line, Memory}
 use Rattle.mu_texts.specs.Answer.{Part, entered, loaded, client_part, started}
 use Rattle.mu_texts.specs.Comes.{Comes, Fills, CanBegin}
 use Rattle.mu_command.specs.declared.job.RunJob.{RunJob}
 use Rattle.mu_command.specs.Job.{word}
 use Rattle.mu_command.specs.Allowed.{Seen, AllowsFile}
 use Rattle.mu_command.specs.Parts.{IsLoaded, IsBegun, OfFile, OfRun, SameSlot}
-use Rattle.mu_command.proofs.Files.{was_judged, was_filled}
-use Rattle.mu_command.proofs.Beginnings.{not_entered, all_begun}
+use Rattle.mu_command.specs.Lemmas.Files.{was_judged, was_filled}
+use Rattle.mu_command.specs.Lemmas.Beginnings.{not_entered, all_begun}
 use Rattle.run_search.specs.Given.{Given, objects_of, client_of, IsReady}
 use Rattle.explore.specs.declared.finding.Filled.{Filled}
-use Rattle.explore.specs.Parts.{IsGiven, HasFilled, IsFilledBy, started_of, as_started}
+use Rattle.explore.specs.Conditions.{condition_part}
+use Rattle.explore.specs.Parts.{IsGiven, HasFilled, IsFilledBy, IsConditionLoaded, AreAsked, started_of, as_started}
 
 -- a file was fetched, and its text, by these bytes, is refused or comes to something
 module _ {A : Type 0} (seen : Seen) (words : List (List ℕ)) (what : What) (n : Option ℕ) (part : List ℕ → Part A) (text : Vec ℕ Global) (bytes : List ℕ) (h : IsLoaded seen words what n (Ok text)) (same : bytes ≡ text.items) where
@@ -99,3 +103,19 @@ module _ (r : RunJob) (code : List Item) (n : ℕ) (filled : Filled) (client : V
         let by_objects : Begins (objects_of (loaded code r.cells filled.hail.items)) k = subst (λ os. Begins os k) (sym (ap objects_of h.loads)) base in
         let by_both : Begins (objects_of (loaded code r.cells filled.hail.items)) (client_of (client_part code r.auto client.items)) = subst (λ k. Begins (objects_of (loaded code r.cells filled.hail.items)) k) (sym (ap client_of e)) by_objects in
         subst (λ (g : Given). OfRun last words r code (Ok (started_of g))) (sym same) by_both
+
+-- the file of conditions is not named; it was not fetched; it was, and its text was judged
+module _ (seen : Seen) (words : List (List ℕ)) (names : Names ℕ) where
+  pub not_named : (cs : List Condition) → cs ≡ [] → AreAsked seen words None names (Ok cs)
+  not_named cs e = record { outcome = got []; allowed = refl; comes = ap Ok (sym e) }
+
+  pub not_fetched : (n : ℕ) (stop : Stop) → IsConditionLoaded seen words n (Err stop) → AreAsked seen words (Some n) names (Err stop)
+  not_fetched n Memory h = tt
+  not_fetched n (Line text status) h = record { outcome = h.0; allowed = h.1; comes = rw h.2 refl }
+
+  pub was_asked : (n : ℕ) (bytes : Vec ℕ Global) (r : Result (List Condition) Stop) → IsConditionLoaded seen words n (Ok bytes) → Comes (condition_part names bytes.items) r → AreAsked seen words (Some n) names r
+  was_asked n bytes (Ok cs) h c = record { outcome = got bytes.items; allowed = h; comes = c }
+  was_asked n bytes (Err (Line text status)) h c = record { outcome = got bytes.items; allowed = h; comes = c }
+  was_asked n bytes (Err Memory) h c = tt
+
+pub ruleset conditions_file = (not_named, not_fetched, was_asked)

@@ -7,14 +7,14 @@ use Rattle.mu_command.specs.declared.options.Options.{Options}
 use Rattle.mu_command.specs.Job.{word, given_once, most_steps, with_auto as run_with_auto, OptionsAreThere}
 use Rattle.explore.specs.declared.options.SearchOptions.{SearchOptions}
 use Rattle.explore.specs.declared.search.Search.{Search}
-use Rattle.explore.specs.Asked.{usual_steps, with_runs, with_run, with_option, with_auto, with_all, search_from, search_with}
-use Rattle.explore.specs.Reading.{SearchIsThere}
+use Rattle.explore.specs.Asked.{usual_steps, with_runs, with_condition, with_run, with_option, with_auto, with_all, search_from, search_with}
+use Rattle.explore.specs.Reading.{SearchIsThere, SearchOptionsAreThere}
 
 -- whether a name is that of the option without a value
 abbrev is_auto : List ℕ → Bool
 is_auto name = bytes_eq name (codes "--auto")
 
--- a name with a value, and then those behind them
+-- a name with a value, and then those after them
 with_value : (options : SearchOptions) (n : ℕ) (name value : List ℕ) (words : List (List ℕ)) → is_auto name ≡ false →
     with_all options n (name ∷ value ∷ words) ≡ option_and_then (λ more. with_all more (n + 2) words) (with_option options name (n + 1) value)
 with_value options n name value words other = rw other refl
@@ -22,7 +22,7 @@ with_value options n name value words other = rw other refl
 without_value : (options : SearchOptions) (n : ℕ) (name : List ℕ) → is_auto name ≡ false → with_all options n (name ∷ []) ≡ None
 without_value options n name other = rw other refl
 
--- `--auto`, and then those behind it
+-- `--auto`, and then those after it
 same_again : (o : Option SearchOptions) → o ≡ option_and_then (λ more. Some more) o
 same_again None = refl
 same_again (Some options) = refl
@@ -84,37 +84,44 @@ auto_so count options there = so options.auto
     so true = tt
     so false = record { entry = there.entry; hail = there.hail; client = there.client; schedule = there.schedule; steps = there.steps }
 
-pub mapped_there : (count : ℕ) (options : SearchOptions) (o : Option Options) → IfSome o (OptionsAreThere count) → IfSome (with_run options o) (λ (more : SearchOptions). OptionsAreThere count more.run)
-mapped_there count options None h = tt
-mapped_there count options (Some run) h = h
+pub mapped_there : (count : ℕ) (options : SearchOptions) (o : Option Options) → IfSome options.condition (λ n. n < count) → IfSome o (OptionsAreThere count) → IfSome (with_run options o) (SearchOptionsAreThere count)
+mapped_there count options None c h = tt
+mapped_there count options (Some run) c h = record { run = h; condition = c }
 
-pub auto_there : (count : ℕ) (options : SearchOptions) (o : Option SearchOptions) → OptionsAreThere count options.run → o ≡ with_auto options → IfSome o (λ (more : SearchOptions). OptionsAreThere count more.run)
+pub auto_there : (count : ℕ) (options : SearchOptions) (o : Option SearchOptions) → SearchOptionsAreThere count options → o ≡ with_auto options → IfSome o (SearchOptionsAreThere count)
 auto_there count options o there e =
-    subst (λ (o : Option SearchOptions). IfSome o (λ (more : SearchOptions). OptionsAreThere count more.run)) (sym e) (mapped_there count options (run_with_auto options.run) (auto_so count options.run there))
+    subst (λ (o : Option SearchOptions). IfSome o (SearchOptionsAreThere count)) (sym e) (mapped_there count options (run_with_auto options.run) there.condition (auto_so count options.run there.run))
 
-pub run_there : (count : ℕ) (options : SearchOptions) (o : Option Options) (r : Option SearchOptions) → IfSome o (OptionsAreThere count) → r ≡ with_run options o → IfSome r (λ (more : SearchOptions). OptionsAreThere count more.run)
-run_there count options o r h e = subst (λ (r : Option SearchOptions). IfSome r (λ (more : SearchOptions). OptionsAreThere count more.run)) (sym e) (mapped_there count options o h)
+pub run_there : (count : ℕ) (options : SearchOptions) (o : Option Options) (r : Option SearchOptions) → SearchOptionsAreThere count options → IfSome o (OptionsAreThere count) → r ≡ with_run options o → IfSome r (SearchOptionsAreThere count)
+run_there count options o r there h e = subst (λ (r : Option SearchOptions). IfSome r (SearchOptionsAreThere count)) (sym e) (mapped_there count options o there.condition h)
 
-pub runs_there : (count : ℕ) (options : SearchOptions) (value : Option ℕ) (r : Option SearchOptions) → OptionsAreThere count options.run → r ≡ with_runs options value → IfSome r (λ (more : SearchOptions). OptionsAreThere count more.run)
-runs_there count options value r there e = subst (λ (r : Option SearchOptions). IfSome r (λ (more : SearchOptions). OptionsAreThere count more.run)) (sym e) (by (given_once options.runs value))
+pub runs_there : (count : ℕ) (options : SearchOptions) (value : Option ℕ) (r : Option SearchOptions) → SearchOptionsAreThere count options → r ≡ with_runs options value → IfSome r (SearchOptionsAreThere count)
+runs_there count options value r there e = subst (λ (r : Option SearchOptions). IfSome r (SearchOptionsAreThere count)) (sym e) (by (given_once options.runs value))
   where
-    by : (o : Option ℕ) → IfSome (option_map (λ (n : ℕ). record options { runs = Some n }) o) (λ (more : SearchOptions). OptionsAreThere count more.run)
+    by : (o : Option ℕ) → IfSome (option_map (λ (n : ℕ). record options { runs = Some n }) o) (SearchOptionsAreThere count)
     by None = tt
-    by (Some n) = there
+    by (Some n) = record { run = there.run; condition = there.condition }
+
+pub condition_there : (count : ℕ) (options : SearchOptions) (n : ℕ) (r : Option SearchOptions) → SearchOptionsAreThere count options → n < count → r ≡ with_condition options (Some n) → IfSome r (SearchOptionsAreThere count)
+condition_there count options n r there low e = subst (λ (r : Option SearchOptions). IfSome r (SearchOptionsAreThere count)) (sym e) (by options.condition)
+  where
+    by : (o : Option ℕ) → IfSome (option_map (λ (n : ℕ). record options { condition = Some n }) (given_once o (Some n))) (SearchOptionsAreThere count)
+    by None = record { run = there.run; condition = low }
+    by (Some m) = tt
 
 -- so are those of the search
 few_steps : (o : Option ℕ) → IfSome o (λ n. n ≤ most_steps) → unwrap_or o usual_steps ≤ most_steps
 few_steps None h = omega arith
 few_steps (Some n) h = h
 
-pub search_there : (count : ℕ) (options : SearchOptions) (r : Option Search) → 2 ≤ count → OptionsAreThere count options.run → r ≡ search_with options → IfSome r (SearchIsThere count)
-search_there count options r two there e = subst (λ (r : Option Search). IfSome r (SearchIsThere count)) (sym e) (by options.run.entry there.entry)
+pub search_there : (count : ℕ) (options : SearchOptions) (r : Option Search) → 2 ≤ count → SearchOptionsAreThere count options → r ≡ search_with options → IfSome r (SearchIsThere count)
+search_there count options r two there e = subst (λ (r : Option Search). IfSome r (SearchIsThere count)) (sym e) (by options.run.entry there.run.entry)
   where
     by : (o : Option ℕ) → IfSome o (λ n. n < count) → IfSome (option_map (search_from options) o) (SearchIsThere count)
     by None h = tt
-    by (Some n) h = record { run = record { file = omega (arith, two); entry = h; hail = there.hail; client = there.client; schedule = tt; budget = few_steps options.run.steps there.steps }; schedule = refl }
+    by (Some n) h = record { run = record { file = omega (arith, two); entry = h; hail = there.run.hail; client = there.run.client; schedule = tt; budget = few_steps options.run.steps there.run.steps }; schedule = refl; condition = there.condition }
 
-pub ruleset adding = (run_there, runs_there)
+pub ruleset adding = (run_there, runs_there, condition_there)
 
 pub ruleset asking = (search_there)
 

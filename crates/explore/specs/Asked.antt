@@ -20,7 +20,7 @@ abbrev pub most_runs : ℕ
 most_runs = 100000000
 
 abbrev pub none_given : SearchOptions
-none_given = record { run = no_options; runs = None }
+none_given = record { run = no_options; runs = None; condition = None }
 
 -- one run at least
 abbrev pub runs_asked : List ℕ → Option ℕ
@@ -29,14 +29,18 @@ runs_asked text = option_and_then from_one (number_up_to most_runs text)
 abbrev pub with_runs : SearchOptions → Option ℕ → Option SearchOptions
 with_runs options value = option_map (λ n. record options { runs = Some n }) (given_once options.runs value)
 
+abbrev pub with_condition : SearchOptions → Option ℕ → Option SearchOptions
+with_condition options value = option_map (λ n. record options { condition = Some n }) (given_once options.condition value)
+
 abbrev pub with_run : SearchOptions → Option Options → Option SearchOptions
 with_run options more = option_map (λ (run : Options). record options { run = run }) more
 
--- the options with one more, of that name: `--runs`, or one of those of `run` but for `--schedule`; its value is the word with number n
+-- the options with one more, of that name: `--runs`, `--condition`, or one of those of `run` but for `--schedule`; its value is the word with number n
 abbrev pub with_option : SearchOptions → List ℕ → ℕ → List ℕ → Option SearchOptions
 with_option options name n value =
     if bytes_eq name (codes "--runs") then with_runs options (runs_asked value)
-    else (if bytes_eq name (codes "--schedule") then None else with_run options (run_with_option options.run name n value))
+    else (if bytes_eq name (codes "--condition") then with_condition options (Some n)
+    else (if bytes_eq name (codes "--schedule") then None else with_run options (run_with_option options.run name n value)))
 
 abbrev pub with_auto : SearchOptions → Option SearchOptions
 with_auto options = with_run options (run_with_auto options.run)
@@ -66,19 +70,24 @@ search_from options entry =
         cells = unwrap_or options.run.cells usual_cells;
       };
       runs = unwrap_or options.runs usual_runs;
+      condition = options.condition;
     }
 
 abbrev pub search_with : SearchOptions → Option Search
 search_with options = option_map (search_from options) options.run.entry
 
 -- `explore FILE` with options in any order, each at most once: `--entry NAME`, which is required, `--hail F`, `--client F`, `--auto`,
--- `--release-sequences c11` or `rmw`, `--steps N`, `--cells N` and `--runs N`. All other words ask for nothing.
+-- `--release-sequences c11` or `rmw`, `--steps N`, `--cells N`, `--runs N` and `--condition F`. All other words ask for nothing.
 unfoldable pub search_of : List (List ℕ) → Option Search
 search_of words = if nat_le 2 (length words) && is_word words 0 (codes "explore") then option_and_then search_with (with_all none_given 2 (drop 2 words)) else None
 
--- its files are those of a run
+-- its files are those of a run, and that of conditions
 abbrev pub run_of : Search → Job
 run_of s = Run s.run
 
 abbrev pub runs_of : Option Search → Option Job
 runs_of o = option_map run_of o
+
+abbrev pub condition_of : Option Search → Option ℕ
+condition_of None = None
+condition_of (Some s) = s.condition

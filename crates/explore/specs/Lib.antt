@@ -1,4 +1,5 @@
 pub mod Asked
+pub mod Conditions
 pub mod Answers
 pub mod Explored
 pub mod Parts

@@ -3,15 +3,17 @@ ghost use Rattle.std.specs.Prelude.{◌≡◌};
 
 use mu_command::Options;
 
-/// What the options of a search say, as far as they are given: those of its runs, and how many runs are made at most.
+/// What the options of a search say, as far as they are given: those of its runs, how many runs are made at most, and the word that names a
+/// file of conditions.
 #[derive(Clone, Copy, Debug, PartialEq, Eq)]
 pub struct SearchOptions {
     pub run: Options,
     pub runs: Option<u32>,
+    pub condition: Option<usize>,
 }
 
 impl SearchOptions {
-    ghost use Rattle.explore.specs.Asked.{none_given, with_runs, with_run};
+    ghost use Rattle.explore.specs.Asked.{none_given, with_runs, with_condition, with_run};
 
     /// None of them is given.
     pub fn none() -> SearchOptions
@@ -20,6 +22,7 @@ impl SearchOptions {
         SearchOptions {
             run: Options::none(),
             runs: None,
+            condition: None,
         }
     }
 
@@ -30,6 +33,19 @@ impl SearchOptions {
         match (self.runs, value) {
             (None, Some(value)) => Some(SearchOptions {
                 runs: Some(value),
+                ..self
+            }),
+            _ => None,
+        }
+    }
+
+    /// These, with a file of conditions; None where there is one already.
+    pub fn with_condition(self, value: Option<usize>) -> Option<SearchOptions>
+        ensures { result ≡ with_condition self value }
+    {
+        match (self.condition, value) {
+            (None, Some(value)) => Some(SearchOptions {
+                condition: Some(value),
                 ..self
             }),
             _ => None,

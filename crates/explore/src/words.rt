@@ -1,8 +1,8 @@
 // Reads the words of the command line.
 ghost use Rattle.std.specs.Prelude.{◌≡◌, ◌<◌, ◌≤◌, IfSome, length, drop};
-ghost use Rattle.mu_command.specs.Job.{word, OptionsAreThere};
+ghost use Rattle.mu_command.specs.Job.{word};
 ghost use Rattle.explore.specs.Asked.{none_given, runs_asked, with_option, with_auto, with_all, search_with, search_of};
-ghost use Rattle.explore.specs.Reading.{SearchIsThere};
+ghost use Rattle.explore.specs.Reading.{SearchIsThere, SearchOptionsAreThere};
 
 use crate::options::SearchOptions;
 use crate::search::Search;
@@ -30,12 +30,14 @@ fn runs_asked(text: &[u8]) -> Option<u32>
 #[tactic(auto, using(crate::proofs::Reading::adding))]
 fn with_option(words: &Words, options: SearchOptions, name: &str, n: usize) -> Option<SearchOptions>
     requires value { n < length words.now }
-    requires there { OptionsAreThere (length words.now) options.run }
+    requires there { SearchOptionsAreThere (length words.now) options }
     ensures more { result ≡ with_option options name.now n (word words.now n) }
-    ensures there { IfSome result (λ more. OptionsAreThere (length words.now) more.run) }
+    ensures there { IfSome result (SearchOptionsAreThere (length words.now)) }
 {
     if name == "--runs" {
         options.with_runs(runs_asked(words.word(n).as_bytes()))
+    } else if name == "--condition" {
+        options.with_condition(Some(n))
     } else if name == "--schedule" {
         None
     } else {
@@ -55,7 +57,7 @@ fn with_auto(options: SearchOptions) -> Option<SearchOptions>
 fn all_options(words: &Words) -> Option<SearchOptions>
     requires { 2 ≤ length words.now }
     ensures all { result ≡ with_all none_given 2 (drop 2 words.now) }
-    ensures there { IfSome result (λ more. OptionsAreThere (length words.now) more.run) }
+    ensures there { IfSome result (SearchOptionsAreThere (length words.now)) }
 {
     let count = words.len();
     let mut options = SearchOptions::none();
@@ -100,6 +102,7 @@ fn search_with(options: SearchOptions) -> Option<Search>
             cells: options.run.cells.unwrap_or(USUAL_CELLS),
         },
         runs: options.runs.unwrap_or(USUAL_RUNS),
+        condition: options.condition,
     })
 }
 

@@ -8,7 +8,7 @@ use Rattle.typed_heap.specs.Objects.{HeapObject, replaced, filled, with_filled}
 use Rattle.typed_heap.specs.Heap.{cells_of}
 use Rattle.hail_load.specs.Answering.{AreWhole}
 use Rattle.hail_load.specs.Fills.{blank, begun, cell, entry, Given}
-use Rattle.checked_code.proofs.ConstantMembers.{holds_at}
+use Rattle.checked_code.specs.Lemmas.ConstantMembers.{holds_at}
 use Rattle.hail_load.proofs.Filling.{filled_whole}
 use Rattle.hail_load.proofs.Stepping.{set_long}
 

@@ -1,6 +1,6 @@
 -- The elements of the grammar's lists.
 use Rattle.std.proofs.Common.{refl}
-use Rattle.text_forms.proofs.Loops.{IsPlain}
+use Rattle.text_forms.specs.Lemmas.Loops.{IsPlain}
 use Rattle.ir_lex.specs.TokenForms.{mark, numeral}
 use Rattle.hail_load.specs.Sources.{index}
 

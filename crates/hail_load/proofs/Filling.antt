@@ -3,7 +3,7 @@ use Rattle.std.proofs.Common.{◌≡◌, ℕ, ◌+◌, ◌≤◌, List, length, 
 use Rattle.std.specs.Prelude.{◌++◌}
 use Rattle.std.proofs.lemmas.List.{length-append, length-take, length-drop}
 use Rattle.std.proofs.lemmas.List.Elements.{All-set}
-use Rattle.checked_code.proofs.ConstantMembers.{holds_at}
+use Rattle.checked_code.specs.Lemmas.ConstantMembers.{holds_at}
 use Rattle.mu_values.specs.declared.scalars.Scalar.{Scalar}
 use Rattle.typed_heap.specs.Objects.{HeapObject, replaced, filled, with_filled}
 use Rattle.hail_load.specs.Answering.{AreWhole}

@@ -5,16 +5,14 @@ pub mod Filling
 pub mod Grammatical
 pub mod Indexing
 pub mod Judging
-pub mod Knowing
 pub mod Lagging
 pub mod Loads
 pub mod Making
 pub mod MemberLoops
 pub mod Naming
+pub mod Rooms
 pub mod Nested
-pub mod Referring
 pub mod Runs
 pub mod ScriptLoops
 pub mod Settling
 pub mod Stepping
-pub mod Steps

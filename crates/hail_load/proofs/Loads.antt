@@ -14,7 +14,7 @@ use Rattle.hail_load.specs.Fitting.{Store}
 use Rattle.hail_load.specs.Loading.{Loaded, done}
 use Rattle.hail_load.specs.LoadAnswers.{Holds, Loads, loaded_from}
 use Rattle.hail_load.specs.Answering.{Makes, IsSame, store_of}
-use Rattle.hail_load.proofs.Steps.{load_more, load_refused}
+use Rattle.hail_load.specs.Lemmas.Steps.{load_more, load_refused}
 
 -- as far as so many commands are done
 abbrev pub IsSoFar : Code → HeapContents → List Command → ℕ → HeapContents → Names Made → Type 0

@@ -1,12 +1,12 @@
 -- What fills make of objects.
-use Rattle.std.proofs.Common.{◌≡◌, ℕ, zero, suc, ◌+◌, ◌-◌, ◌^◌, ◌<◌, ◌≤◌, List, [], ◌∷◌, ◌++◌, ◌⊎◌, inl, inr, length, Option, Some, None, slice_get, refl, sym, ap, subst, ◌∙◌, arith, length-append, get_or-set_same, get_or-set_other, ◌≢◌, append_assoc, take, get_or, add-one}
+use Rattle.std.proofs.Common.{◌≡◌, ℕ, zero, suc, ◌+◌, ◌*◌, ◌-◌, ◌^◌, ◌<◌, ◌≤◌, List, [], ◌∷◌, ◌++◌, ◌⊎◌, inl, inr, length, Option, Some, None, slice_get, refl, sym, ap, subst, ◌∙◌, arith, length-append, get_or-set_same, get_or-set_other, ◌≢◌, append_assoc, take, get_or, add-one}
 use Rattle.std.specs.Prelude.{slice_set, slice_index_or, replicate}
 use Rattle.std.proofs.lemmas.Bool.{cases_order}
 use Rattle.std.proofs.lemmas.List.{append-nil, get_or_default}
 use Rattle.std.proofs.lemmas.Option.{slice_get_past}
 use Rattle.std.proofs.Math.Seq.{take-suc}
 use Rattle.std.proofs.lemmas.List.Folds.{sum_by-replicate}
-use Rattle.std.proofs.lemmas.List.Sums.{sum_by-set}
+use Rattle.std.proofs.lemmas.List.Sums.{sum_by-set, sum_by-cons}
 use Rattle.mu_values.specs.declared.scalars.Scalar.{Scalar}
 use Rattle.typed_heap.specs.Objects.{HeapObject, filled, with_filled}
 use Rattle.typed_heap.specs.Heap.{HeapContents, cells_of}
@@ -14,7 +14,8 @@ use Rattle.hail_load.specs.declared.gathered.Run.{Run}
 use Rattle.hail_load.specs.declared.fills.Fill.{Fill}
 use Rattle.hail_load.specs.declared.fills.Fills.{Fills}
 use Rattle.hail_load.specs.Answering.{AreWhole}
-use Rattle.hail_load.specs.Fills.{fills_of, made, Every, Fits, HasRow, entry, row_of, one_if_zero, uncovered, uncovered_in, AreSteps, Walked, blank, cell, Given, Lags}
+use Rattle.hail_load.specs.Rooms.{KeepsCells}
+use Rattle.hail_load.specs.Fills.{fills_of, made, Every, Fits, HasRow, entry, row_of, one_if_zero, uncovered, uncovered_in, AreSteps, Walked, blank, cell, Given, AsLong, Lags}
 use Rattle.hail_load.specs.Gathered.{scalars_in, gathered}
 use Rattle.hail_load.proofs.Cells.{same_objects, same_long, same_cells, blank_filled, cell_in, cell_out, whole_filled, nothing_filled, both_filled}
 use Rattle.hail_load.proofs.Stepping.{set_long, walk_steps, zeros_open}
@@ -231,6 +232,7 @@ lags_more h f g gs l rows cells fills fits has = record {
   cells = cells ∙ l.cells ∙ sym (ap (λ (xs : List (List ℕ)). uncovered_in xs) rows);
   room = omega (arith, cells, l.room);
   few = (let long = ap (λ (xs : List (List ℕ)). length xs) rows in omega (arith, long, l.few));
+  long = subst (λ (xs : List (List ℕ)). (n : ℕ) → AsLong (row_of xs n) (slice_get h.objects n)) (sym rows) l.long;
 }
 
 pub runs_added : (os : List HeapObject) (fs new : List Fill) (n at : ℕ) (rs : List Run) → AreWhole os → Every (Fits os) fs → n < length os → at + length (gathered rs) ≤ cells_of (slice_get os n) → new ≡ fs ++ fills_of n at rs →
@@ -243,6 +245,28 @@ runs_added os fs new n at rs h t there l e =
 pub past_filled : (os : List HeapObject) (fs : List Fill) (n at : ℕ) (ss : List Scalar) → length os ≤ n → made os fs ≡ with_filled (made os fs) n at ss (slice_get (made os fs) n)
 past_filled os fs n at ss l = ap (λ (p : Option HeapObject). with_filled (made os fs) n at ss p) (sym (slice_get_past (made os fs) n (omega (arith, l, made_long os fs))))
 
+no_row : (o : Option HeapObject) → AsLong [] o
+no_row o = record { cells = λ l. absurd (omega (arith, l)); narrow = omega arith }
+
+-- objects that keep their cells
+pub long_kept : (os ps : List HeapObject) (rows : List (List ℕ)) → KeepsCells os ps → ((n : ℕ) → AsLong (row_of rows n) (slice_get os n)) → (n : ℕ) → AsLong (row_of rows n) (slice_get ps n)
+long_kept os ps rows keeps h n =
+    let l = h n in
+    record { cells = λ k. (let is = l.cells k in is ∙ sym (keeps n (omega (arith, k, is)))); narrow = l.narrow }
+
+-- how many cells have rows
+uncovered_low : (row : List ℕ) → uncovered row ≤ length row
+uncovered_low [] = omega arith
+uncovered_low (zero ∷ row) = let more = uncovered_low row in omega (arith, more, sum_by-cons one_if_zero 0 row)
+uncovered_low (suc k ∷ row) = let more = uncovered_low row in omega (arith, more, sum_by-cons one_if_zero (suc k) row)
+
+pub cells_low : (rows : List (List ℕ)) → ((n : ℕ) → length (row_of rows n) < 2 ^ 32) → uncovered_in rows ≤ 4294967295 * length rows
+cells_low [] h = omega arith
+cells_low (r ∷ rows) h =
+    let more = cells_low rows (λ n. h (suc n)) in
+    let first = h 0 in
+    omega (arith, more, first, uncovered_low r, sum_by-cons uncovered r rows)
+
 -- nothing is filled yet
 pub lags_none : (h : HeapContents) (f : Fills) → AreWhole h.objects → f.fills.items ≡ [] → f.rows.items ≡ [] → f.cells ≡ 0 → Lags h f
 lags_none h f whole fills rows cells = record {
@@ -253,4 +277,5 @@ lags_none h f whole fills rows cells = record {
   cells = cells ∙ sym (ap (λ (xs : List (List ℕ)). uncovered_in xs) rows);
   room = omega (arith, cells);
   few = (let long = ap (λ (xs : List (List ℕ)). length xs) rows in omega (arith, long));
+  long = subst (λ (xs : List (List ℕ)). (n : ℕ) → AsLong (row_of xs n) (slice_get h.objects n)) (sym rows) (λ n. no_row (slice_get h.objects n));
 }

@@ -11,7 +11,7 @@ use Rattle.text_forms.specs.Tokens.{Tok, at, first, rest_of}
 use Rattle.text_forms.specs.Forms.{Form, both, made, lines, one_flag}
 use Rattle.text_forms.specs.Reading.{read}
 use Rattle.text_forms.specs.Answers.{Gives, kept, with_front}
-use Rattle.text_forms.proofs.Lists.{kept_twice, goes_on_by, is_done_by, fails_by, steady_read}
+use Rattle.text_forms.specs.Lemmas.Lists.{kept_twice, goes_on_by, is_done_by, fails_by, steady_read}
 use Rattle.ir_lex.specs.TokenForms.{mark}
 use Rattle.hail_load.specs.declared.tree.Piece.{Piece}
 use Rattle.hail_load.specs.declared.tree.Piece.TheVariants as pieces

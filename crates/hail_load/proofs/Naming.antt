@@ -8,7 +8,7 @@ use Rattle.ir_lex.specs.declared.name.Name.{Name}
 use Rattle.type_definitions.specs.declared.definition.TypeDef.{TypeDef}
 use Rattle.bundle_names.specs.declared.globals.Sort.{Sort}
 use Rattle.bundle_names.specs.declared.globals.Sort.TheVariants as sorts
-use Rattle.checked_code.proofs.ConstantMembers.{holds_at}
+use Rattle.checked_code.specs.Lemmas.ConstantMembers.{holds_at}
 use Rattle.hail_load.specs.declared.parts.Made.{Made}
 use Rattle.hail_load.specs.declared.parts.Part.TheVariants.{Value}
 use Rattle.hail_load.specs.declared.parts.Spot.{Spot}

@@ -7,7 +7,7 @@ use Rattle.text_forms.specs.Forms.{Form}
 use Rattle.text_forms.specs.Begins.{empties, begins, goes_on, decides, steady}
 use Rattle.text_forms.specs.Reading.{read}
 use Rattle.text_forms.specs.Answers.{kept}
-use Rattle.text_forms.proofs.Loops.{IsPlain}
+use Rattle.text_forms.specs.Lemmas.Loops.{IsPlain}
 use Rattle.ir_lex.specs.TokenForms.{mark, name, numeral}
 use Rattle.ir_tree.specs.Lists.{globals, global}
 use Rattle.hail_load.specs.declared.tree.Piece.{Piece}

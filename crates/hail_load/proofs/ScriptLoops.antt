@@ -9,8 +9,8 @@ use Rattle.text_forms.specs.Tokens.{Tok, at, first, rest_of}
 use Rattle.text_forms.specs.Forms.{Form, lines, one_flag}
 use Rattle.text_forms.specs.Reading.{read, ◌>>=◌}
 use Rattle.text_forms.specs.Answers.{Gives, GivesAll, kept}
-use Rattle.text_forms.proofs.Lists.{goes_on_by, is_done_by, fails_by, steady_read}
-use Rattle.text_forms.proofs.Loops.{IsPlain}
+use Rattle.text_forms.specs.Lemmas.Lists.{goes_on_by, is_done_by, fails_by, steady_read}
+use Rattle.text_forms.specs.Lemmas.Loops.{IsPlain}
 use Rattle.ir_lex.specs.TokenForms.{mark, name, numeral}
 use Rattle.ir_tree.specs.Lists.{global, bracketed}
 use Rattle.hail_load.specs.declared.tree.Piece.{Piece}

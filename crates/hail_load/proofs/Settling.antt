@@ -1,14 +1,15 @@
 -- Rows of objects, and fills that are settled, the newest first.
-use Rattle.std.proofs.Common.{◌≡◌, ◌≢◌, ℕ, zero, suc, ◌+◌, ◌-◌, ◌<◌, ◌≤◌, List, [], ◌∷◌, ◌++◌, ◌⊎◌, inl, inr, length, Option, Some, None, slice_get, refl, sym, ap, subst, ◌∙◌, arith, get_or-set_same, get_or-set_other}
+use Rattle.std.proofs.Common.{◌≡◌, ◌≢◌, ℕ, zero, suc, ◌+◌, ◌-◌, ◌^◌, ◌<◌, ◌≤◌, List, [], ◌∷◌, ◌++◌, ◌⊎◌, inl, inr, length, Option, Some, None, slice_get, refl, sym, ap, subst, ◌∙◌, arith, get_or-set_same, get_or-set_other}
 use Rattle.std.specs.Prelude.{slice_set, slice_index_or, replicate}
 use Rattle.std.proofs.lemmas.Bool.{cases_order}
-use Rattle.std.proofs.lemmas.List.{get_or_default}
+use Rattle.std.proofs.lemmas.List.{get_or_default, length-replicate}
 use Rattle.std.proofs.lemmas.List.Folds.{sum_by-replicate}
 use Rattle.std.proofs.lemmas.List.Sums.{sum_by-set}
 use Rattle.typed_heap.specs.Objects.{HeapObject, with_filled}
+use Rattle.typed_heap.specs.Heap.{cells_of}
 use Rattle.hail_load.specs.declared.fills.Fill.{Fill}
 use Rattle.hail_load.specs.Answering.{AreWhole}
-use Rattle.hail_load.specs.Fills.{made, Every, Fits, HasRow, entry, row_of, one_if_zero, uncovered, uncovered_in, AreSteps, Walked, blank, cell, Given}
+use Rattle.hail_load.specs.Fills.{made, Every, Fits, HasRow, entry, row_of, one_if_zero, uncovered, uncovered_in, AreSteps, Walked, blank, cell, Given, AsLong}
 use Rattle.hail_load.specs.Gathered.{scalars_in}
 use Rattle.hail_load.proofs.Stepping.{set_long, walk_steps, zeros_open}
 use Rattle.hail_load.proofs.Cells.{same_objects}
@@ -18,6 +19,10 @@ use Rattle.hail_load.proofs.Making.{fits_same, all_same, every_last, made_last, 
 
 row_here : (rows : List (List ℕ)) (n m : ℕ) (row : List ℕ) → n < length rows → m ≡ n → row_of (slice_set rows n row) m ≡ row
 row_here rows n m row l e = ap (λ (j : ℕ). row_of (slice_set rows n row) j) e ∙ get_or-set_same rows n row [] l
+
+-- the row that is put there
+pub row_put : (rows : List (List ℕ)) (n many : ℕ) (row : List ℕ) → n < length rows → row ≡ replicate many 0 → length (row_of (slice_set rows n row) n) ≡ many
+row_put rows n many row l e = ap (λ (xs : List ℕ). length xs) (row_here rows n n row l refl ∙ e) ∙ length-replicate many 0
 
 row_elsewhere : (rows : List (List ℕ)) (n m : ℕ) (row : List ℕ) → m ≢ n → row_of (slice_set rows n row) m ≡ row_of rows m
 row_elsewhere rows n m row d = get_or-set_other rows n m row [] d
@@ -68,6 +73,13 @@ row_grown was rows n row l same none =
 pub row_zeros : (was rows : List (List ℕ)) (n many : ℕ) → n < length rows → ((m : ℕ) → row_of rows m ≡ row_of was m) → ((m k : ℕ) → entry (row_of was m) k ≡ 0) → (m k : ℕ) → entry (row_of (slice_set rows n (replicate many 0)) m) k ≡ 0
 row_zeros was rows n many l same none =
     by_row (λ m xs. (k : ℕ) → entry xs k ≡ 0) rows n (replicate many 0) l (λ k. zeros_open many k) (λ m k. ap (λ (xs : List ℕ). entry xs k) (same m) ∙ none m k)
+
+pub row_long : (was rows : List (List ℕ)) (n many : ℕ) (os : List HeapObject) → n < length rows → ((m : ℕ) → row_of rows m ≡ row_of was m) → many ≡ cells_of (slice_get os n) → many < 2 ^ 32 → ((m : ℕ) → AsLong (row_of was m) (slice_get os m)) →
+    (m : ℕ) → AsLong (row_of (slice_set rows n (replicate many 0)) m) (slice_get os m)
+row_long was rows n many os l same size narrow h =
+    let long = length-replicate many 0 in
+    by_row (λ m xs. AsLong xs (slice_get os m)) rows n (replicate many 0) l (record { cells = λ k. long ∙ size; narrow = omega (arith, long, narrow) })
+    (λ m. subst (λ (xs : List ℕ). AsLong xs (slice_get os m)) (sym (same m)) (h m))
 
 pub row_cells : (rows : List (List ℕ)) (n many : ℕ) → n < length rows → length (row_of rows n) ≡ 0 → uncovered_in (slice_set rows n (replicate many 0)) ≡ uncovered_in rows + many
 row_cells rows n many l none = let put = fewer_uncovered rows n (replicate many 0) l in omega (arith, put, none_long (row_of rows n) none, zeros_uncovered many)

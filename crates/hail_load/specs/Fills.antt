@@ -94,6 +94,11 @@ pub record Given (old new : List HeapObject) (row : List ℕ) (object at to : �
 abbrev pub shown : HeapContents → Fills → HeapContents
 shown h f = record { objects = made h.objects f.fills.items; left = h.left; spare = h.spare }
 
+-- a row has no cells yet, or those of its object, which a number tells
+pub record AsLong (row : List ℕ) (o : Option HeapObject) : Type 0 where
+  pub cells : 0 < length row → length row ≡ cells_of o
+  pub narrow : length row < 2 ^ 32
+
 -- all fills can be settled
 pub record Lags (h : HeapContents) (f : Fills) : Type 0 where
   pub whole : AreWhole h.objects
@@ -103,3 +108,4 @@ pub record Lags (h : HeapContents) (f : Fills) : Type 0 where
   pub cells : f.cells ≡ uncovered_in f.rows.items
   pub room : f.cells ≤ h.spare
   pub few : length f.rows.items ≤ length h.objects
+  pub long : (n : ℕ) → AsLong (row_of f.rows.items n) (slice_get h.objects n)

@@ -10,6 +10,7 @@ pub mod Parts
 pub mod Fitting
 pub mod Judging
 pub mod Loading
+pub mod Rooms
 pub mod Known
 pub mod Answering
 pub mod Gathered
@@ -22,3 +23,4 @@ pub mod Samples
 pub mod TextExamples
 pub mod TargetExamples
 pub mod SourceExamples
+pub mod Lemmas

@@ -122,6 +122,17 @@ fn settle_cells(heap: &mut Heap, fill: &Fill, row: &mut [u32])
     }
 }
 
+/// How many cells an object has. It takes 32 bits to tell that, and to tell how many objects there are.
+fn cells_in(heap: &Heap, object: u32) -> u32
+    requires { object < length heap.now.objects }
+    ensures is { result ≡ cells_of (slice_get heap.now.objects object) }
+    ensures narrow { cells_of (slice_get heap.now.objects object) < 2 ^ 32 }
+    ensures few { length heap.now.objects < 2 ^ 32 }
+{
+    let _objects = heap.objects();
+    heap.size(object)
+}
+
 /// Adds empty rows, up to that of an object.
 fn reach(rows: &mut Vec<Row>, alloc: Global, object: usize) -> Result<(), AllocError>
     ensures same { (n : ℕ) → row_of rows.new.items n ≡ row_of rows.old.items n }
@@ -191,13 +202,15 @@ impl<'a> Fills<'a> {
         ensures left { heap.new.left ≡ heap.old.left }
         ensures fills { self.new.fills.items ≡ self.old.fills.items }
         ensures there { OnOk result (object < length self.new.rows.items) }
+        ensures row { OnOk result (length (row_of self.new.rows.items object) ≡ cells_of (slice_get heap.old.objects object)) }
+        ensures narrow { cells_of (slice_get heap.old.objects object) < 2 ^ 32 }
     {
+        let size = cells_in(heap, object);
         reach(&mut self.rows, self.alloc, object as usize)?;
         if self.rows[object as usize].len() > 0 {
             return Ok(());
         }
-        let size = heap.size(object);
-        let cells = self.cells.checked_add(size as usize).ok_or(AllocError)?;
+        let cells = self.cells + size as usize;
         heap.reserve(cells)?;
         self.rows[object as usize] = Row::uncovered(self.alloc, size)?;
         self.cells = cells;
@@ -228,9 +241,11 @@ impl<'a> Fills<'a> {
         spot: Spot,
         runs: &[Run<'a>],
     ) -> Result<(), AllocError>
-        requires { Lags heap.old self.old }
+        requires lags { Lags heap.old self.old }
+        requires room { spot.at + length (gathered runs.now) ≤ cells_of (slice_get heap.old.objects spot.object) }
         ensures lags { Lags heap.new self.new }
         ensures filled { OnOk result (made heap.new.objects self.new.fills.items ≡ with_filled (made heap.old.objects self.old.fills.items) spot.object spot.at (gathered runs.now) (slice_get (made heap.old.objects self.old.fills.items) spot.object)) }
+        ensures objects { heap.new.objects ≡ heap.old.objects }
         ensures left { heap.new.left ≡ heap.old.left }
         ensures err { OnErr result (made heap.new.objects self.new.fills.items ≡ made heap.old.objects self.old.fills.items) }
     {
@@ -238,14 +253,7 @@ impl<'a> Fills<'a> {
         if object >= heap.objects() {
             return Ok(());
         }
-        let many = length_of(runs)?;
-        if !has_room(heap, spot, many) {
-            return Err(AllocError);
-        }
         self.open(heap, object)?;
-        if at as usize + many > self.rows[object as usize].len() {
-            return Err(AllocError);
-        }
         self.push_all(object, at, runs)?;
         Ok(())
     }
@@ -263,25 +271,4 @@ impl<'a> Fills<'a> {
             rows[fill.object as usize].settle(heap, &fill);
         }
     }
-}
-
-/// How many scalars runs have in all.
-fn length_of(runs: &[Run]) -> Result<usize, AllocError>
-    ensures { IfOk result (λ n. n ≡ length (gathered runs.now)) }
-{
-    let mut many: usize = 0;
-    for run in runs {
-        many = many.checked_add(run.len()).ok_or(AllocError)?;
-    }
-    Ok(many)
-}
-
-/// Whether a part that begins at a spot has room for so many scalars. Each part has as many cells as a source that fits it has scalars.
-fn has_room(heap: &Heap, spot: Spot, many: usize) -> bool
-    requires { spot.object < length heap.now.objects }
-    ensures cells { IsTrue result → spot.at + many ≤ cells_of (slice_get heap.now.objects spot.object) }
-    ensures few { IsTrue result → spot.at + many < 2 ^ 32 }
-{
-    let size = heap.size(spot.object) as usize;
-    many <= size && spot.at as usize <= size - many
 }

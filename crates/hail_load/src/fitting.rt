@@ -9,6 +9,7 @@ ghost use Rattle.mu_values.specs.Constants.{width_of, is_reference};
 ghost use Rattle.typed_heap.specs.Fits.{signature_classes};
 ghost use Rattle.hail_load.specs.Code.{code_of};
 ghost use Rattle.hail_load.specs.Known.{IsKnown};
+ghost use Rattle.hail_load.specs.Rooms.{AreRoomy};
 ghost use Rattle.hail_load.specs.Parts.{target_spot};
 ghost use Rattle.hail_load.specs.Fitting.{is_class, is_iref, refers, object_fits, place_in_fits, where_fits, number_scalars, named_scalars, object_scalars, place_scalars, next_indexes, scalars_of};
 ghost use Rattle.hail_load.specs.Answering.{Makes, AreThere, behind, called, store_of};
@@ -287,6 +288,7 @@ fn place(
 ) -> Result<(), LoadFault>
     requires known { IsKnown (code_of scene.code.now) }
     requires made { AreThere (code_of scene.code.now).graph scene.made.now }
+    requires roomy { AreRoomy (code_of scene.code.now) scene.heap.now.objects scene.made.now }
     requires t { t < length (code_of scene.code.now).graph }
     ensures { Makes (behind scalars.old (place_scalars (code_of scene.entry.code.now) scene.entry.heap.now.objects t place (target_spot (code_of scene.entry.code.now) scene.entry.made.now root.now (next_indexes more.now)))) scalars.new result }
 {
@@ -296,7 +298,7 @@ fn place(
             place,
         });
     }
-    let spot = reference_spot(scene.code, scene.made, root, more)?;
+    let spot = reference_spot(scene.code, scene.heap, scene.made, root, more)?;
     let scalar = Scalar::Place {
         object: spot.object,
         at: spot.at,
@@ -315,6 +317,7 @@ pub(crate) fn scalars_of<'code>(
 ) -> Result<(), LoadFault>
     requires known { IsKnown (code_of scene.code.now) }
     requires made { AreThere (code_of scene.code.now).graph scene.made.now }
+    requires roomy { AreRoomy (code_of scene.code.now) scene.heap.now.objects scene.made.now }
     requires t { t < length (code_of scene.code.now).graph }
     ensures { Makes (behind scalars.old (scalars_of (code_of scene.entry.code.now) (store_of scene.entry.heap.now scene.entry.made.now) t piece.now more.now)) scalars.new result }
 {

@@ -1,13 +1,15 @@
 // The parts that indexes lead to.
-ghost use Rattle.std.specs.Prelude.{◌≡◌, ℕ, ◌+◌, ◌<◌, ◌∷◌, [], Ok, Err, Some, length, map, slice_get, sum_by, IfOk, IfSome};
+ghost use Rattle.std.specs.Prelude.{◌≡◌, ◌+◌, ◌*◌, ◌^◌, ◌<◌, ◌∷◌, [], Err, Some, length, map, slice_get, sum_by, IfOk};
 ghost use Rattle.demands.specs.declared.fault.Fault.TheVariants.{At};
-ghost use Rattle.type_definitions.specs.Definition.{arguments};
 ghost use Rattle.std.specs.List.{All};
 ghost use Rattle.type_definitions.specs.Leaves.{times};
+ghost use Rattle.type_definitions.specs.Definition.{arguments};
 ghost use Rattle.type_definitions.specs.Same.{IsGraph};
+ghost use Rattle.typed_heap.specs.Objects.{leaf_classes};
 ghost use Rattle.hail_load.specs.declared.parts.Part.TheVariants.{Value};
 ghost use Rattle.hail_load.specs.Parts.{size_of, parts_of, value_parts, hybrid_parts, part_with, index_into, indexed};
 ghost use Rattle.hail_load.specs.Fitting.{next_indexes};
+ghost use Rattle.hail_load.specs.Rooms.{AreSized, FitsANumber};
 ghost use Rattle.hail_load.specs.Answering.{Tells, IsThere};
 ghost use Rattle.hail_load.specs.PartsSoFar.{field_spot};
 
@@ -36,55 +38,41 @@ fn wrong_type(index: &Index) -> Result<Spot, LoadFault>
     })
 }
 
-/// How many leaves fields have together, where a number tells that.
-fn leaves_before(classes: &Classes, fields: &[u32]) -> Option<usize>
-    requires { All (λ t. t < length classes.now.definitions) fields.now }
-    ensures { IfSome result (λ n. n ≡ sum_by (size_of classes.now.definitions) (map Value fields.now)) }
+/// How many leaves fields have together.
+#[tactic(auto, using(crate::proofs::Rooms::field_within))]
+fn leaves_before(classes: &Classes, fields: &[u32]) -> u32
+    requires fields { All (λ t. t < length classes.now.definitions) fields.now }
+    requires few { sum_by (size_of classes.now.definitions) (map Value fields.now) < 2 ^ 32 }
+    ensures { result ≡ sum_by (size_of classes.now.definitions) (map Value fields.now) }
 {
-    let mut sum: usize = 0;
+    let mut sum: u32 = 0;
     for t in fields {
-        sum = sum.checked_add(classes.leaves(*t).len())?;
+        sum += classes.leaves(*t).len() as u32;
     }
-    Some(sum)
+    sum
 }
 
-/// The offset that is so many leaves further on, where there can be one.
-fn offset(at: u32, by: u128) -> Option<u32>
-    ensures { IfSome result (λ n. n ≡ at + by) }
+/// A part that begins so many leaves further on.
+fn further(spot: Spot, by: u32, part: Part) -> Spot
+    requires { spot.at + by < 2 ^ 32 }
+    ensures { result ≡ record { object = spot.object; at = spot.at + by; part = part } }
 {
-    let offset = u128::from(at).checked_add(by)?;
-    u32::try_from(offset).ok()
-}
-
-/// A part that begins so many leaves further on. No object has so many that there is no number for them.
-fn further(spot: Spot, by: Option<u128>, part: Part) -> Result<Spot, LoadFault>
-    ensures told { (n : ℕ) → IfSome by (λ k. k ≡ n) → Tells (Ok (record { object = spot.object; at = spot.at + n; part = part })) result }
-    ensures part { IfOk result (λ s. s.part ≡ part) }
-{
-    let Some(by) = by else {
-        return Err(LoadFault::Memory);
-    };
-    match offset(spot.at, by) {
-        Some(at) => Ok(Spot {
-            object: spot.object,
-            at,
-            part,
-        }),
-        None => Err(LoadFault::Memory),
+    Spot {
+        object: spot.object,
+        at: spot.at + by,
+        part,
     }
 }
 
 /// A field that is there.
-fn field(classes: &Classes, spot: Spot, fields: &[u32], n: usize) -> Result<Spot, LoadFault>
+fn field(classes: &Classes, spot: Spot, fields: &[u32], n: usize) -> Spot
     requires fields { All (λ t. t < length classes.now.definitions) fields.now }
     requires there { n < length fields.now }
-    ensures told { Tells (Ok (field_spot classes.now.definitions spot fields.now n)) result }
-    ensures part { IfOk result (λ s. IsThere classes.now.definitions s.part) }
+    requires room { spot.at + sum_by (size_of classes.now.definitions) (map Value fields.now) < 2 ^ 32 }
+    ensures is { result ≡ field_spot classes.now.definitions spot fields.now n }
+    ensures part { IsThere classes.now.definitions result.part }
 {
-    let before = match leaves_before(classes, &fields[..n]) {
-        Some(before) => Some(before as u128),
-        None => None,
-    };
+    let before = leaves_before(classes, &fields[..n]);
     further(spot, before, Part::Value(fields[n]))
 }
 
@@ -97,16 +85,13 @@ fn struct_part(
     index: &Index,
 ) -> Result<Spot, LoadFault>
     requires fields { All (λ t. t < length classes.now.definitions) fields.now }
+    requires room { spot.at + sum_by (size_of classes.now.definitions) (map Value fields.now) < 2 ^ 32 }
     ensures told { Tells (part_with classes.now.definitions spot (map Value fields.now) index.now (slice_get (map Value fields.now) index.now.number.number.magnitude)) result }
     ensures part { IfOk result (λ s. IsThere classes.now.definitions s.part) }
 {
     if index.number.number.magnitude < fields.len() as u128 {
-        field(
-            classes,
-            spot,
-            fields,
-            index.number.number.magnitude as usize,
-        )
+        let n = index.number.number.magnitude as usize;
+        Ok(field(classes, spot, fields, n))
     } else {
         out_of_range(index)
     }
@@ -121,14 +106,15 @@ fn element(
     many: u128,
     index: &Index,
 ) -> Result<Spot, LoadFault>
-    requires { t < length classes.now.definitions }
+    requires t { t < length classes.now.definitions }
+    requires room { spot.at + many * length (leaf_classes classes.now.definitions t) < 2 ^ 32 }
     ensures told { Tells (part_with classes.now.definitions spot (times many (Value t ∷ [])) index.now (slice_get (times many (Value t ∷ [])) index.now.number.number.magnitude)) result }
     ensures part { IfOk result (λ s. IsThere classes.now.definitions s.part) }
 {
     let n = index.number.number.magnitude;
     if n < many {
-        let before = n.checked_mul(classes.leaves(t).len() as u128);
-        further(spot, before, Part::Value(t))
+        let before = n * classes.leaves(t).len() as u128;
+        Ok(further(spot, before as u32, Part::Value(t)))
     } else {
         out_of_range(index)
     }
@@ -143,7 +129,8 @@ fn hybrid_part(
     many: u128,
     index: &Index,
 ) -> Result<Spot, LoadFault>
-    requires { All (λ y. y < length classes.now.definitions) (arguments definition.now) }
+    requires parts { All (λ y. y < length classes.now.definitions) (arguments definition.now) }
+    requires room { FitsANumber classes.now.definitions spot.at definition.now }
     ensures told { Tells (index_into classes.now.definitions spot index.now (hybrid_parts (Some definition.now) many)) result }
     ensures part { IfOk result (λ s. IsThere classes.now.definitions s.part) }
 {
@@ -153,20 +140,17 @@ fn hybrid_part(
     let fixed = fixed.as_slice();
     let n = index.number.number.magnitude;
     if n < fixed.len() as u128 {
-        field(classes, spot, fixed, n as usize)
+        Ok(field(classes, spot, fixed, n as usize))
     } else if n == fixed.len() as u128 {
-        let before = match leaves_before(classes, fixed) {
-            Some(before) => Some(before as u128),
-            None => None,
-        };
-        further(
+        let before = leaves_before(classes, fixed);
+        Ok(further(
             spot,
             before,
             Part::Elements {
                 of_type: *element,
                 many,
             },
-        )
+        ))
     } else {
         out_of_range(index)
     }
@@ -179,7 +163,8 @@ fn value_part(
     definition: &TypeDef,
     index: &Index,
 ) -> Result<Spot, LoadFault>
-    requires { All (λ y. y < length classes.now.definitions) (arguments definition.now) }
+    requires parts { All (λ y. y < length classes.now.definitions) (arguments definition.now) }
+    requires room { FitsANumber classes.now.definitions spot.at definition.now }
     ensures told { Tells (index_into classes.now.definitions spot index.now (value_parts (Some definition.now))) result }
     ensures part { IfOk result (λ s. IsThere classes.now.definitions s.part) }
 {
@@ -190,13 +175,16 @@ fn value_part(
     }
 }
 
-/// The part that an index leads to. It takes time for the fields before it.
-#[tactic(auto, using(type_definitions::proofs::Depth::args_within))]
+/// The part that an index leads to, which has no more leaves behind it than there were. It takes time for the fields before it.
+#[tactic(auto, using(type_definitions::specs::Lemmas::Depth::args_within))]
 fn follow(classes: &Classes, spot: Spot, index: &Index) -> Result<Spot, LoadFault>
     requires graph { IsGraph classes.now.definitions }
+    requires sizes { AreSized classes.now.definitions }
     requires part { IsThere classes.now.definitions spot.part }
+    requires room { spot.at + size_of classes.now.definitions spot.part < 2 ^ 32 }
     ensures told { Tells (index_into classes.now.definitions spot index.now (parts_of classes.now.definitions spot.part)) result }
     ensures part { IfOk result (λ s. IsThere classes.now.definitions s.part) }
+    ensures room { IfOk result (λ s. s.at + size_of classes.now.definitions s.part < 2 ^ 32) }
 {
     match spot.part {
         Part::Value(t) => value_part(classes, spot, classes.definition(t), index),
@@ -214,7 +202,9 @@ fn follow(classes: &Classes, spot: Spot, index: &Index) -> Result<Spot, LoadFaul
 /// The part that some indexes lead to, one after the other.
 pub(crate) fn indexed(classes: &Classes, from: Spot, indexes: &[Index]) -> Result<Spot, LoadFault>
     requires graph { IsGraph classes.now.definitions }
+    requires sizes { AreSized classes.now.definitions }
     requires part { IsThere classes.now.definitions from.part }
+    requires room { from.at + size_of classes.now.definitions from.part < 2 ^ 32 }
     ensures told { Tells (indexed classes.now.definitions from indexes.now) result }
     ensures part { IfOk result (λ s. IsThere classes.now.definitions s.part) }
 {
@@ -230,7 +220,9 @@ pub(crate) fn indexed(classes: &Classes, from: Spot, indexes: &[Index]) -> Resul
 /// The part that the indexes at the head of some pieces lead to.
 pub(crate) fn indexed_by(classes: &Classes, from: Spot, pieces: &[Piece]) -> Result<Spot, LoadFault>
     requires graph { IsGraph classes.now.definitions }
+    requires sizes { AreSized classes.now.definitions }
     requires part { IsThere classes.now.definitions from.part }
+    requires room { from.at + size_of classes.now.definitions from.part < 2 ^ 32 }
     ensures told { Tells (indexed classes.now.definitions from (next_indexes pieces.now)) result }
     ensures part { IfOk result (λ s. IsThere classes.now.definitions s.part) }
 {

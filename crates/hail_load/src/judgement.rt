@@ -6,6 +6,7 @@ ghost use Rattle.type_definitions.specs.Leaves.{times};
 ghost use Rattle.hail_load.specs.declared.parts.Part.TheVariants.{Value};
 ghost use Rattle.hail_load.specs.Code.{code_of};
 ghost use Rattle.hail_load.specs.Known.{IsKnown};
+ghost use Rattle.hail_load.specs.Rooms.{AreRoomy};
 ghost use Rattle.hail_load.specs.Parts.{value_parts, hybrid_parts, parts_of};
 ghost use Rattle.hail_load.specs.Judging.{piece_place, wanted_by, part_scalars, judged};
 ghost use Rattle.hail_load.specs.Answering.{Makes, GoesOn, behind, before, IsThere, AreThere, store_of};
@@ -142,6 +143,7 @@ fn part_scalars<'code>(
 ) -> Result<(), LoadFault>
     requires known { IsKnown (code_of scene.code.now) }
     requires made { AreThere (code_of scene.code.now).graph scene.made.now }
+    requires roomy { AreRoomy (code_of scene.code.now) scene.heap.now.objects scene.made.now }
     requires part { IsThere (code_of scene.code.now).graph part }
     ensures { Makes (behind scalars.old (part_scalars (code_of scene.entry.code.now) (store_of scene.entry.heap.now scene.entry.made.now) part piece.now more.now)) scalars.new result }
 {
@@ -162,6 +164,7 @@ fn judge_piece<'code>(
 ) -> Result<(), LoadFault>
     requires known { IsKnown (code_of scene.code.now) }
     requires made { AreThere (code_of scene.code.now).graph scene.made.now }
+    requires roomy { AreRoomy (code_of scene.code.now) scene.heap.now.objects scene.made.now }
     requires parts { All (IsThere (code_of scene.code.now).graph) parts.old }
     ensures told { GoesOn (behind scalars.old (judged (code_of scene.entry.code.now) (store_of scene.entry.heap.now scene.entry.made.now) parts.old (piece.now ∷ more.now))) (behind scalars.new (judged (code_of scene.entry.code.now) (store_of scene.entry.heap.now scene.entry.made.now) parts.new more.now)) result }
     ensures parts { OnOk result (All (IsThere (code_of scene.entry.code.now).graph) parts.new) }
@@ -189,6 +192,7 @@ pub(crate) fn judge<'code>(
 ) -> Result<(), LoadFault>
     requires known { IsKnown (code_of scene.code.now) }
     requires made { AreThere (code_of scene.code.now).graph scene.made.now }
+    requires roomy { AreRoomy (code_of scene.code.now) scene.heap.now.objects scene.made.now }
     requires part { IsThere (code_of scene.code.now).graph part }
     ensures { Makes (behind scalars.old (judged (code_of scene.entry.code.now) (store_of scene.entry.heap.now scene.entry.made.now) (part ∷ []) source.now)) scalars.new result }
 {

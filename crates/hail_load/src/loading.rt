@@ -7,6 +7,7 @@ ghost use Rattle.check_tables.specs.Lookups.{written_number};
 ghost use Rattle.hail_load.specs.declared.parts.Part.TheVariants.{Value, Hybrid};
 ghost use Rattle.hail_load.specs.Code.{code_of};
 ghost use Rattle.hail_load.specs.Known.{IsKnown};
+ghost use Rattle.hail_load.specs.Rooms.{AreRoomy, KeepsCells};
 ghost use Rattle.hail_load.specs.Loading.{make, new_of, newhybrid_of, init_of, done};
 ghost use Rattle.hail_load.specs.LoadAnswers.{AreGlobals, Loads};
 ghost use Rattle.hail_load.specs.Answering.{Makes, AreThere, AreWhole, IsSame, not_made, store_of};
@@ -100,6 +101,8 @@ fn make_object(
     ensures more { length heap.old.objects ≤ length heap.new.objects }
     ensures spare { heap.new.spare ≡ heap.old.spare }
     ensures there { OnOk result (AreThere (code_of loader.entry.code.now).graph made.old → AreThere (code_of loader.entry.code.now).graph made.new) }
+    ensures roomy { OnOk result (AreRoomy (code_of loader.entry.code.now) heap.old.objects made.old → AreRoomy (code_of loader.entry.code.now) heap.new.objects made.new) }
+    ensures cells { KeepsCells heap.old.objects heap.new.objects }
 {
     name_next(loader.alloc, heap, made, naming.name, Part::Value(t))?;
     match heap.new_object(loader.code.classes(), t) {
@@ -125,6 +128,8 @@ fn make_hybrid(
     ensures more { length heap.old.objects ≤ length heap.new.objects }
     ensures spare { heap.new.spare ≡ heap.old.spare }
     ensures there { OnOk result (AreThere (code_of loader.entry.code.now).graph made.old → AreThere (code_of loader.entry.code.now).graph made.new) }
+    ensures roomy { OnOk result (AreRoomy (code_of loader.entry.code.now) heap.old.objects made.old → AreRoomy (code_of loader.entry.code.now) heap.new.objects made.new) }
+    ensures cells { KeepsCells heap.old.objects heap.new.objects }
 {
     name_next(
         loader.alloc,
@@ -178,6 +183,8 @@ fn new_object(
     ensures more { length heap.old.objects ≤ length heap.new.objects }
     ensures spare { heap.new.spare ≡ heap.old.spare }
     ensures there { OnOk result (AreThere (code_of loader.entry.code.now).graph made.old → AreThere (code_of loader.entry.code.now).graph made.new) }
+    ensures roomy { OnOk result (AreRoomy (code_of loader.entry.code.now) heap.old.objects made.old → AreRoomy (code_of loader.entry.code.now) heap.new.objects made.new) }
+    ensures cells { KeepsCells heap.old.objects heap.new.objects }
 {
     match loader.code.tables().type_named(of_type) {
         Some(t) => if is_no_hybrid(loader.code.classes().definition(t)) {
@@ -205,6 +212,8 @@ fn new_hybrid(
     ensures more { length heap.old.objects ≤ length heap.new.objects }
     ensures spare { heap.new.spare ≡ heap.old.spare }
     ensures there { OnOk result (AreThere (code_of loader.entry.code.now).graph made.old → AreThere (code_of loader.entry.code.now).graph made.new) }
+    ensures roomy { OnOk result (AreRoomy (code_of loader.entry.code.now) heap.old.objects made.old → AreRoomy (code_of loader.entry.code.now) heap.new.objects made.new) }
+    ensures cells { KeepsCells heap.old.objects heap.new.objects }
 {
     match loader.code.tables().type_named(of_type) {
         Some(t) => if is_hybrid(loader.code.classes().definition(t)) {
@@ -229,13 +238,15 @@ fn init<'a>(
 ) -> Result<(), LoadFault>
     requires known { IsKnown (code_of loader.code.now) }
     requires made { AreThere (code_of loader.code.now).graph made.now }
+    requires roomy { AreRoomy (code_of loader.code.now) heap.old.objects made.now }
     requires lags { Lags heap.old fills.old }
     ensures made { Makes (init_of (code_of loader.entry.code.now) (store_of (shown heap.old fills.old) made.now) target.now source.now) (store_of (shown heap.new fills.new) made.now) result }
     ensures err { OnErr result (IsSame (shown heap.old fills.old) (shown heap.new fills.new)) }
     ensures lags { Lags heap.new fills.new }
+    ensures objects { heap.new.objects ≡ heap.old.objects }
 {
     let code = loader.code;
-    let spot = target_spot(code, made, &target.root, target.indexes.as_slice())?;
+    let spot = target_spot(code, heap, made, &target.root, target.indexes.as_slice())?;
     let scene = Scene { code, heap, made };
     scalars.clear();
     judge(loader.alloc, scene, spot.part, source, scalars)?;
@@ -254,11 +265,13 @@ fn perform<'a>(
 ) -> Result<(), LoadFault>
     requires known { IsKnown (code_of loader.code.now) }
     requires there { AreThere (code_of loader.code.now).graph made.old }
+    requires roomy { AreRoomy (code_of loader.code.now) heap.old.objects made.old }
     requires lags { Lags heap.old fills.old }
     ensures made { Makes (done (code_of loader.entry.code.now) (store_of (shown heap.old fills.old) made.old) command.now) (store_of (shown heap.new fills.new) made.new) result }
     ensures err { OnErr result (IsSame (shown heap.old fills.old) (shown heap.new fills.new)) }
     ensures lags { Lags heap.new fills.new }
     ensures there { OnOk result (AreThere (code_of loader.entry.code.now).graph made.new) }
+    ensures roomy { OnOk result (AreRoomy (code_of loader.entry.code.now) heap.new.objects made.new) }
 {
     match command {
         Command::New {
@@ -297,6 +310,7 @@ fn perform_all<'a>(
     commands: &[Command],
 ) -> Result<(), LoadFault>
     requires known { IsKnown (code_of loader.code.now) }
+    requires globals { AreGlobals (code_of loader.code.now) heap.old.objects }
     requires lags { Lags heap.old fills.old }
     ensures loads { Loads (code_of loader.entry.code.now) commands.now (shown heap.old fills.old) (shown heap.new fills.new) result }
     ensures lags { Lags heap.new fills.new }
@@ -310,7 +324,7 @@ fn perform_all<'a>(
 }
 
 /// Tells what is known of the code of a bundle; it does nothing.
-#[tactic(auto, using(crate::proofs::Knowing::is_known))]
+#[tactic(auto)]
 fn tell_known(code: &Checked)
     ensures { IsKnown (code_of code.now) }
 {

@@ -77,7 +77,7 @@ pub fn index(cursor: &mut Cursor) -> Result<Index, ReadError>
 }
 
 /// The indexes up to `=`.
-#[tactic(auto, using(ir_lex::proofs::Cursors::one_goes_on))]
+#[tactic(auto, using(ir_lex::specs::Lemmas::Cursors::one_goes_on))]
 fn indexes(cursor: &mut Cursor, alloc: Global) -> Result<Listing<Index>, ReadError>
     ensures { Gives result cursor.new (read (until (symbols.Equals ∷ []) index) cursor.old) }
 {

@@ -25,7 +25,7 @@ fn checked(alloc: Global, text: &[u8]) -> Result<Checked, Fail> {
 }
 
 /// A heap with the objects of the globals.
-#[tactic(auto, using(hail_load::proofs::Knowing::is_known))]
+#[tactic(auto, using(hail_load::specs::Lemmas::Knowing::is_known))]
 fn heap_of(alloc: Global, code: &Checked, cells: u32) -> Result<Heap, AllocError>
     ensures { IfOk result (λ heap. AreGlobals (code_of code.now) heap.objects) }
 {

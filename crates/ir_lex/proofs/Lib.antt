@@ -1,12 +1,4 @@
 pub mod GapSteps
 pub mod Values
-pub mod Prefixes
-pub mod Longest
-pub mod Meanings
-pub mod GapLemmas
-pub mod Judging
-pub mod Nexts
-pub mod Lists
 pub mod Worked
-pub mod Cursors
 pub mod SeenWorked

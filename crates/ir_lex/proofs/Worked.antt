@@ -5,7 +5,7 @@ use Rattle.ir_lex.specs.Numerals.{nought, decimal, octal, hexadecimal, plain, pl
 use Rattle.ir_lex.specs.Examples.{Kinds, Gaps, Refused, Numbers}
 use Rattle.ir_lex.specs.Scanner.{gap_len, next_of}
 use Rattle.ir_lex.specs.Walk.{tokens_within}
-use Rattle.ir_lex.proofs.Lists.{LexesAs, lexed}
+use Rattle.ir_lex.specs.Lemmas.Lists.{LexesAs, lexed}
 
 -- the tokens of a text
 here : (text : List ℕ) → LexesAs text 0 (tokens_within (suc (length text)) text 0)

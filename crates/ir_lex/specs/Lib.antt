@@ -14,3 +14,4 @@ pub mod TokenForms
 pub mod Examples
 pub mod SeenLaws
 pub mod SeenExamples
+pub mod Lemmas

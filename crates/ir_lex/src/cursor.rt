@@ -222,7 +222,7 @@ impl<'a> Cursor<'a> {
 
 impl<'a> Cursor<'a> {
     /// Takes a mark, a word or a directive, and gives its place.
-    #[tactic(auto, using(crate::proofs::Cursors::one_goes_on), unfolding(crate::specs::TokenForms::mark))]
+    #[tactic(auto, using(crate::specs::Lemmas::Cursors::one_goes_on), unfolding(crate::specs::TokenForms::mark))]
     pub fn mark(&mut self, symbol: Symbol) -> Result<usize, ReadError>
         requires { is_last symbol ≡ false }
         ensures read { Gives result self.new (read (mark symbol) self.old) }
@@ -237,7 +237,7 @@ impl<'a> Cursor<'a> {
     }
 
     /// Takes one of several words, and gives which.
-    #[tactic(auto, using(crate::proofs::Cursors::among_goes_on), unfolding(crate::specs::TokenForms::choice))]
+    #[tactic(auto, using(crate::specs::Lemmas::Cursors::among_goes_on), unfolding(crate::specs::TokenForms::choice))]
     pub fn choice(&mut self, symbols: &[Symbol]) -> Result<Symbol, ReadError>
         requires { none_last symbols.now ≡ true }
         ensures read { Gives result self.new (read (choice symbols.now) self.old) }
@@ -252,7 +252,7 @@ impl<'a> Cursor<'a> {
     }
 
     /// Takes a name of one of these kinds. Out of memory is a refusal too.
-    #[tactic(auto, using(crate::proofs::Cursors::among_goes_on), unfolding(crate::specs::TokenForms::name))]
+    #[tactic(auto, using(crate::specs::Lemmas::Cursors::among_goes_on), unfolding(crate::specs::TokenForms::name))]
     pub fn name(&mut self, alloc: Global, symbols: &[Symbol]) -> Result<Name, ReadError>
         requires { none_last symbols.now ≡ true }
         ensures read { Gives result self.new (read (name symbols.now) self.old) }

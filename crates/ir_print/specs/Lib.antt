@@ -17,3 +17,4 @@ pub mod Laws
 pub mod Samples
 pub mod InstructionExamples
 pub mod Examples
+pub mod Lemmas

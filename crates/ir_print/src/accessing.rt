@@ -30,7 +30,7 @@ fn weak(out: &mut Vec<u8>, space: &[u8], weak: bool) -> Result<(), AllocError>
     Ok(())
 }
 
-#[tactic(auto, using(crate::proofs::Texts::text_append), unfolding(crate::specs::Accesses::stored_words))]
+#[tactic(auto, using(crate::specs::Lemmas::Texts::text_append), unfolding(crate::specs::Accesses::stored_words))]
 fn store_operands(
     out: &mut Vec<u8>,
     of_type: &Name,
@@ -47,7 +47,7 @@ fn store_operands(
     Ok(())
 }
 
-#[tactic(auto, using(crate::proofs::Texts::text_append), unfolding(crate::specs::Accesses::exchanged_words))]
+#[tactic(auto, using(crate::specs::Lemmas::Texts::text_append), unfolding(crate::specs::Accesses::exchanged_words))]
 fn exchange_operands(
     out: &mut Vec<u8>,
     of_type: &Name,
@@ -66,7 +66,7 @@ fn exchange_operands(
     Ok(())
 }
 
-#[tactic(auto, using(crate::proofs::Texts::text_append), unfolding(crate::specs::Accesses::access_words))]
+#[tactic(auto, using(crate::specs::Lemmas::Texts::text_append), unfolding(crate::specs::Accesses::access_words))]
 pub fn access(out: &mut Vec<u8>, space: &[u8], access: &Access) -> Result<(), AllocError>
     ensures { OnOk result (out.new.items ≡ out.old.items ++ text (access_words space.now access.now)) }
 {

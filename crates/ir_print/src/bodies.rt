@@ -12,7 +12,7 @@ use ir_lex::Name;
 use ir_tree::{Block, BlockHead, Inst, Parameter};
 use std::alloc::AllocError;
 
-#[tactic(auto, using(crate::proofs::Texts::text_append), unfolding(crate::specs::Bodies::pair_words))]
+#[tactic(auto, using(crate::specs::Lemmas::Texts::text_append), unfolding(crate::specs::Bodies::pair_words))]
 fn pair(out: &mut Vec<u8>, space: &[u8], parameter: &Parameter) -> Result<(), AllocError>
     ensures { OnOk result (out.new.items ≡ out.old.items ++ text (pair_words space.now parameter.now)) }
 {
@@ -38,7 +38,7 @@ fn more_pairs(out: &mut Vec<u8>, parameters: &[Parameter]) -> Result<(), AllocEr
     Ok(())
 }
 
-#[tactic(auto, using(crate::proofs::Texts::text_append), unfolding(crate::specs::Words::listed))]
+#[tactic(auto, using(crate::specs::Lemmas::Texts::text_append), unfolding(crate::specs::Words::listed))]
 fn pairs(out: &mut Vec<u8>, parameters: &[Parameter]) -> Result<(), AllocError>
     ensures { OnOk result (out.new.items ≡ out.old.items ++ text (listed pair_words parameters.now)) }
 {
@@ -67,7 +67,7 @@ fn optional_handler(out: &mut Vec<u8>, handler: &Option<Name>) -> Result<(), All
     Ok(())
 }
 
-#[tactic(auto, using(crate::proofs::Texts::text_append), unfolding(crate::specs::Bodies::head_words))]
+#[tactic(auto, using(crate::specs::Lemmas::Texts::text_append), unfolding(crate::specs::Bodies::head_words))]
 fn head(out: &mut Vec<u8>, space: &[u8], head: &BlockHead) -> Result<(), AllocError>
     ensures { OnOk result (out.new.items ≡ out.old.items ++ text (head_words space.now head.now)) }
 {
@@ -96,7 +96,7 @@ fn insts(out: &mut Vec<u8>, insts: &[Inst]) -> Result<(), AllocError>
     Ok(())
 }
 
-#[tactic(auto, using(crate::proofs::Texts::text_append), unfolding(crate::specs::Bodies::block_words))]
+#[tactic(auto, using(crate::specs::Lemmas::Texts::text_append), unfolding(crate::specs::Bodies::block_words))]
 fn block(out: &mut Vec<u8>, space: &[u8], block: &Block) -> Result<(), AllocError>
     ensures { OnOk result (out.new.items ≡ out.old.items ++ text (block_words space.now block.now)) }
 {
@@ -122,7 +122,7 @@ fn blocks(out: &mut Vec<u8>, blocks: &[Block]) -> Result<(), AllocError>
 }
 
 /// Appends blocks between braces, behind a space.
-#[tactic(auto, using(crate::proofs::Texts::text_append), unfolding(crate::specs::Bodies::body_words))]
+#[tactic(auto, using(crate::specs::Lemmas::Texts::text_append), unfolding(crate::specs::Bodies::body_words))]
 pub fn body(out: &mut Vec<u8>, listed: &[Block]) -> Result<(), AllocError>
     ensures { OnOk result (out.new.items ≡ out.old.items ++ text (body_words listed.now)) }
 {

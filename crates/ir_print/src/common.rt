@@ -10,7 +10,7 @@ use ir_tree::{CommonInst, Operand};
 use std::alloc::AllocError;
 use text_forms::Symbol;
 
-#[tactic(auto, using(crate::proofs::Texts::text_append), unfolding(crate::specs::CommonForms::one_value_words))]
+#[tactic(auto, using(crate::specs::Lemmas::Texts::text_append), unfolding(crate::specs::CommonForms::one_value_words))]
 fn one_value(out: &mut Vec<u8>, space: &[u8], operand: &Operand) -> Result<(), AllocError>
     ensures { OnOk result (out.new.items ≡ out.old.items ++ text (one_value_words space.now operand.now)) }
 {
@@ -20,7 +20,7 @@ fn one_value(out: &mut Vec<u8>, space: &[u8], operand: &Operand) -> Result<(), A
     Ok(())
 }
 
-#[tactic(auto, using(crate::proofs::Texts::text_append), unfolding(crate::specs::CommonForms::two_values_words))]
+#[tactic(auto, using(crate::specs::Lemmas::Texts::text_append), unfolding(crate::specs::CommonForms::two_values_words))]
 fn two_values(
     out: &mut Vec<u8>,
     space: &[u8],
@@ -36,7 +36,7 @@ fn two_values(
     Ok(())
 }
 
-#[tactic(auto, using(crate::proofs::Texts::text_append), unfolding(crate::specs::CommonForms::three_values_words))]
+#[tactic(auto, using(crate::specs::Lemmas::Texts::text_append), unfolding(crate::specs::CommonForms::three_values_words))]
 fn three_values(
     out: &mut Vec<u8>,
     space: &[u8],
@@ -55,7 +55,7 @@ fn three_values(
 }
 
 /// Appends what stands behind `COMMINST`.
-#[tactic(auto, using(crate::proofs::Texts::text_append), unfolding(crate::specs::CommonForms::common_inst_words))]
+#[tactic(auto, using(crate::specs::Lemmas::Texts::text_append), unfolding(crate::specs::CommonForms::common_inst_words))]
 pub fn common_inst(out: &mut Vec<u8>, inst: &CommonInst) -> Result<(), AllocError>
     ensures { OnOk result (out.new.items ≡ out.old.items ++ text (common_inst_words inst.now)) }
 {

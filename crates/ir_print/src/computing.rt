@@ -11,7 +11,7 @@ use ir_tree::Computation;
 use std::alloc::AllocError;
 use text_forms::Symbol;
 
-#[tactic(auto, using(crate::proofs::Texts::text_append), unfolding(crate::specs::Computations::computation_words))]
+#[tactic(auto, using(crate::specs::Lemmas::Texts::text_append), unfolding(crate::specs::Computations::computation_words))]
 pub fn computation(
     out: &mut Vec<u8>,
     space: &[u8],

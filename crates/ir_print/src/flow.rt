@@ -36,7 +36,7 @@ fn cases(out: &mut Vec<u8>, cases: &[Case]) -> Result<(), AllocError>
     Ok(())
 }
 
-#[tactic(auto, using(crate::proofs::Texts::text_append), unfolding(crate::specs::Control::case_list_words))]
+#[tactic(auto, using(crate::specs::Lemmas::Texts::text_append), unfolding(crate::specs::Control::case_list_words))]
 fn case_list(out: &mut Vec<u8>, space: &[u8], listed: &[Case]) -> Result<(), AllocError>
     ensures { OnOk result (out.new.items ≡ out.old.items ++ text (case_list_words space.now listed.now)) }
 {
@@ -46,7 +46,7 @@ fn case_list(out: &mut Vec<u8>, space: &[u8], listed: &[Case]) -> Result<(), All
     Ok(())
 }
 
-#[tactic(auto, using(crate::proofs::Texts::text_append), unfolding(crate::specs::Control::control_words))]
+#[tactic(auto, using(crate::specs::Lemmas::Texts::text_append), unfolding(crate::specs::Control::control_words))]
 pub fn control(out: &mut Vec<u8>, space: &[u8], control: &ControlFlow) -> Result<(), AllocError>
     ensures { OnOk result (out.new.items ≡ out.old.items ++ text (control_words space.now control.now)) }
 {

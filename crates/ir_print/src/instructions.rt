@@ -58,7 +58,7 @@ fn labelled(
     Ok(())
 }
 
-#[tactic(auto, using(crate::proofs::Texts::text_append), unfolding(crate::specs::Instructions::results_words))]
+#[tactic(auto, using(crate::specs::Lemmas::Texts::text_append), unfolding(crate::specs::Instructions::results_words))]
 pub fn inst(out: &mut Vec<u8>, space: &[u8], inst: &Inst) -> Result<(), AllocError>
     ensures { OnOk result (out.new.items ≡ out.old.items ++ text (inst_words space.now inst.now)) }
 {

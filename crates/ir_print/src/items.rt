@@ -23,7 +23,7 @@ fn typedef(out: &mut Vec<u8>, space: &[u8], item: &Typedef) -> Result<(), AllocE
     Ok(())
 }
 
-#[tactic(auto, using(crate::proofs::Texts::text_append), unfolding(crate::specs::Items::funcsig_words))]
+#[tactic(auto, using(crate::specs::Lemmas::Texts::text_append), unfolding(crate::specs::Items::funcsig_words))]
 fn funcsig(out: &mut Vec<u8>, space: &[u8], item: &Funcsig) -> Result<(), AllocError>
     ensures { OnOk result (out.new.items ≡ out.old.items ++ text (funcsig_words space.now item.now)) }
 {
@@ -36,7 +36,7 @@ fn funcsig(out: &mut Vec<u8>, space: &[u8], item: &Funcsig) -> Result<(), AllocE
     Ok(())
 }
 
-#[tactic(auto, using(crate::proofs::Texts::text_append), unfolding(crate::specs::Items::constant_words))]
+#[tactic(auto, using(crate::specs::Lemmas::Texts::text_append), unfolding(crate::specs::Items::constant_words))]
 fn constant(out: &mut Vec<u8>, space: &[u8], item: &Const) -> Result<(), AllocError>
     ensures { OnOk result (out.new.items ≡ out.old.items ++ text (constant_words space.now item.now)) }
 {
@@ -68,7 +68,7 @@ fn funcdecl(out: &mut Vec<u8>, space: &[u8], item: &Funcdecl) -> Result<(), Allo
     Ok(())
 }
 
-#[tactic(auto, using(crate::proofs::Texts::text_append), unfolding(crate::specs::Items::funcdef_words))]
+#[tactic(auto, using(crate::specs::Lemmas::Texts::text_append), unfolding(crate::specs::Items::funcdef_words))]
 fn funcdef(out: &mut Vec<u8>, space: &[u8], item: &Funcdef) -> Result<(), AllocError>
     ensures { OnOk result (out.new.items ≡ out.old.items ++ text (funcdef_words space.now item.now)) }
 {

@@ -71,7 +71,7 @@ pub fn more_names(out: &mut Vec<u8>, names: &[Name]) -> Result<(), AllocError>
 }
 
 // The names of a list behind its bracket.
-#[tactic(auto, using(crate::proofs::Texts::text_append), unfolding(crate::specs::Words::listed))]
+#[tactic(auto, using(crate::specs::Lemmas::Texts::text_append), unfolding(crate::specs::Words::listed))]
 pub fn names(out: &mut Vec<u8>, names: &[Name]) -> Result<(), AllocError>
     ensures { OnOk result (out.new.items ≡ out.old.items ++ text (listed global_words names.now)) }
 {
@@ -85,7 +85,7 @@ pub fn names(out: &mut Vec<u8>, names: &[Name]) -> Result<(), AllocError>
     Ok(())
 }
 
-#[tactic(auto, using(crate::proofs::Texts::text_append), unfolding(crate::specs::Lists::global_list_words))]
+#[tactic(auto, using(crate::specs::Lemmas::Texts::text_append), unfolding(crate::specs::Lists::global_list_words))]
 pub fn global_list(out: &mut Vec<u8>, space: &[u8], list: &Listing<Name>) -> Result<(), AllocError>
     ensures { OnOk result (out.new.items ≡ out.old.items ++ text (global_list_words space.now list.now)) }
 {
@@ -103,7 +103,7 @@ pub fn local_list(out: &mut Vec<u8>, space: &[u8], list: &Listing<Name>) -> Resu
     Ok(())
 }
 
-#[tactic(auto, using(crate::proofs::Texts::text_append), unfolding(crate::specs::Lists::type_list_words))]
+#[tactic(auto, using(crate::specs::Lemmas::Texts::text_append), unfolding(crate::specs::Lists::type_list_words))]
 pub fn type_list(out: &mut Vec<u8>, space: &[u8], list: &Listing<Name>) -> Result<(), AllocError>
     ensures { OnOk result (out.new.items ≡ out.old.items ++ text (type_list_words space.now list.now)) }
 {
@@ -141,7 +141,7 @@ fn more_operands(out: &mut Vec<u8>, operands: &[Operand]) -> Result<(), AllocErr
     Ok(())
 }
 
-#[tactic(auto, using(crate::proofs::Texts::text_append), unfolding(crate::specs::Words::listed))]
+#[tactic(auto, using(crate::specs::Lemmas::Texts::text_append), unfolding(crate::specs::Words::listed))]
 fn operands(out: &mut Vec<u8>, operands: &[Operand]) -> Result<(), AllocError>
     ensures { OnOk result (out.new.items ≡ out.old.items ++ text (listed value_words operands.now)) }
 {
@@ -155,7 +155,7 @@ fn operands(out: &mut Vec<u8>, operands: &[Operand]) -> Result<(), AllocError>
     Ok(())
 }
 
-#[tactic(auto, using(crate::proofs::Texts::text_append), unfolding(crate::specs::Lists::values_words))]
+#[tactic(auto, using(crate::specs::Lemmas::Texts::text_append), unfolding(crate::specs::Lists::values_words))]
 pub fn values(out: &mut Vec<u8>, space: &[u8], arguments: &Arguments) -> Result<(), AllocError>
     ensures { OnOk result (out.new.items ≡ out.old.items ++ text (values_words space.now arguments.now)) }
 {
@@ -174,7 +174,7 @@ pub fn dest(out: &mut Vec<u8>, space: &[u8], to: &Destination) -> Result<(), All
     Ok(())
 }
 
-#[tactic(auto, using(crate::proofs::Texts::text_append), unfolding(crate::specs::Lists::exc_words))]
+#[tactic(auto, using(crate::specs::Lemmas::Texts::text_append), unfolding(crate::specs::Lists::exc_words))]
 fn exc(out: &mut Vec<u8>, space: &[u8], clause: &ExceptionClause) -> Result<(), AllocError>
     ensures { OnOk result (out.new.items ≡ out.old.items ++ text (exc_words space.now clause.now)) }
 {
@@ -215,7 +215,7 @@ pub fn optional_keep(out: &mut Vec<u8>, names: &Option<Listing<Name>>) -> Result
     Ok(())
 }
 
-#[tactic(auto, using(crate::proofs::Texts::text_append), unfolding(crate::specs::Lists::exc_keep_words))]
+#[tactic(auto, using(crate::specs::Lemmas::Texts::text_append), unfolding(crate::specs::Lists::exc_keep_words))]
 pub fn exc_and_keep(
     out: &mut Vec<u8>,
     exception: &Option<ExceptionClause>,
@@ -228,7 +228,7 @@ pub fn exc_and_keep(
     Ok(())
 }
 
-#[tactic(auto, using(crate::proofs::Texts::text_append), unfolding(crate::specs::Lists::new_stack_clause_words))]
+#[tactic(auto, using(crate::specs::Lemmas::Texts::text_append), unfolding(crate::specs::Lists::new_stack_clause_words))]
 pub fn new_stack_clause(
     out: &mut Vec<u8>,
     space: &[u8],

@@ -10,7 +10,7 @@ use ir_tree::{Addressing, Allocation};
 use std::alloc::AllocError;
 use text_forms::Symbol;
 
-#[tactic(auto, using(crate::proofs::Texts::text_append), unfolding(crate::specs::Objects::allocation_words))]
+#[tactic(auto, using(crate::specs::Lemmas::Texts::text_append), unfolding(crate::specs::Objects::allocation_words))]
 pub fn allocation(
     out: &mut Vec<u8>,
     space: &[u8],
@@ -44,7 +44,7 @@ pub fn allocation(
     Ok(())
 }
 
-#[tactic(auto, using(crate::proofs::Texts::text_append), unfolding(crate::specs::Objects::addressing_words))]
+#[tactic(auto, using(crate::specs::Lemmas::Texts::text_append), unfolding(crate::specs::Objects::addressing_words))]
 pub fn addressing(
     out: &mut Vec<u8>,
     space: &[u8],

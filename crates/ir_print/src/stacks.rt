@@ -13,7 +13,7 @@ use ir_tree::{Destination, ExceptionClause, NewStackClause, Operand, StackSwitch
 use std::alloc::AllocError;
 use text_forms::{Listing, Symbol};
 
-#[tactic(auto, using(crate::proofs::Texts::text_append), unfolding(crate::specs::Stacks::wpexc_words))]
+#[tactic(auto, using(crate::specs::Lemmas::Texts::text_append), unfolding(crate::specs::Stacks::wpexc_words))]
 fn wpexc(out: &mut Vec<u8>, space: &[u8], to: &Destination) -> Result<(), AllocError>
     ensures { OnOk result (out.new.items ≡ out.old.items ++ text (wpexc_words space.now to.now)) }
 {
@@ -34,7 +34,7 @@ fn optional_wpexc(out: &mut Vec<u8>, to: &Option<Destination>) -> Result<(), All
     Ok(())
 }
 
-#[tactic(auto, using(crate::proofs::Texts::text_append), unfolding(crate::specs::Stacks::watched_words))]
+#[tactic(auto, using(crate::specs::Lemmas::Texts::text_append), unfolding(crate::specs::Stacks::watched_words))]
 fn watched(
     out: &mut Vec<u8>,
     disabled: &Destination,
@@ -51,7 +51,7 @@ fn watched(
     Ok(())
 }
 
-#[tactic(auto, using(crate::proofs::Texts::text_append), unfolding(crate::specs::Stacks::trapping_words))]
+#[tactic(auto, using(crate::specs::Lemmas::Texts::text_append), unfolding(crate::specs::Stacks::trapping_words))]
 pub fn trapping(out: &mut Vec<u8>, space: &[u8], trapping: &Trapping) -> Result<(), AllocError>
     ensures { OnOk result (out.new.items ≡ out.old.items ++ text (trapping_words space.now trapping.now)) }
 {
@@ -92,7 +92,7 @@ pub fn trapping(out: &mut Vec<u8>, space: &[u8], trapping: &Trapping) -> Result<
     Ok(())
 }
 
-#[tactic(auto, using(crate::proofs::Texts::text_append), unfolding(crate::specs::Stacks::threadlocal_words))]
+#[tactic(auto, using(crate::specs::Lemmas::Texts::text_append), unfolding(crate::specs::Stacks::threadlocal_words))]
 fn threadlocal(out: &mut Vec<u8>, space: &[u8], operand: &Operand) -> Result<(), AllocError>
     ensures { OnOk result (out.new.items ≡ out.old.items ++ text (threadlocal_words space.now operand.now)) }
 {
@@ -113,7 +113,7 @@ fn optional_threadlocal(out: &mut Vec<u8>, operand: &Option<Operand>) -> Result<
     Ok(())
 }
 
-#[tactic(auto, using(crate::proofs::Texts::text_append), unfolding(crate::specs::Stacks::ret_with_words))]
+#[tactic(auto, using(crate::specs::Lemmas::Texts::text_append), unfolding(crate::specs::Stacks::ret_with_words))]
 fn ret_with(
     out: &mut Vec<u8>,
     space: &[u8],
@@ -131,7 +131,7 @@ fn ret_with(
     Ok(())
 }
 
-#[tactic(auto, using(crate::proofs::Texts::text_append), unfolding(crate::specs::Stacks::stack_switch_words))]
+#[tactic(auto, using(crate::specs::Lemmas::Texts::text_append), unfolding(crate::specs::Stacks::stack_switch_words))]
 pub fn stack_switch(out: &mut Vec<u8>, space: &[u8], switch: &StackSwitch) -> Result<(), AllocError>
     ensures { OnOk result (out.new.items ≡ out.old.items ++ text (stack_switch_words space.now switch.now)) }
 {

@@ -31,7 +31,7 @@ fn fields(out: &mut Vec<u8>, fixed: &[Name], element: &Name) -> Result<(), Alloc
     Ok(())
 }
 
-#[tactic(auto, using(crate::proofs::Texts::text_append), unfolding(crate::specs::Types::type_form_words, crate::specs::Lists::type_list_words))]
+#[tactic(auto, using(crate::specs::Lemmas::Texts::text_append), unfolding(crate::specs::Types::type_form_words, crate::specs::Lists::type_list_words))]
 pub fn type_form(out: &mut Vec<u8>, space: &[u8], form: &TypeForm) -> Result<(), AllocError>
     ensures { OnOk result (out.new.items ≡ out.old.items ++ text (type_form_words space.now form.now)) }
 {
@@ -78,7 +78,7 @@ pub fn type_form(out: &mut Vec<u8>, space: &[u8], form: &TypeForm) -> Result<(),
     Ok(())
 }
 
-#[tactic(auto, using(crate::proofs::Texts::text_append), unfolding(crate::specs::Types::literal_words))]
+#[tactic(auto, using(crate::specs::Lemmas::Texts::text_append), unfolding(crate::specs::Types::literal_words))]
 pub fn literal(out: &mut Vec<u8>, space: &[u8], literal: &Literal) -> Result<(), AllocError>
     ensures { OnOk result (out.new.items ≡ out.old.items ++ text (literal_words space.now literal.now)) }
 {

@@ -9,7 +9,7 @@ use Rattle.text_forms.specs.Tokens.{Tok, at, first, rest_of}
 use Rattle.text_forms.specs.Forms.{Form, lines, three_flags}
 use Rattle.text_forms.specs.Reading.{read_from, read}
 use Rattle.text_forms.specs.Answers.{Gives, kept}
-use Rattle.text_forms.proofs.Lists.{goes_on_by, is_done_by, fails_by}
+use Rattle.text_forms.specs.Lemmas.Lists.{goes_on_by, is_done_by, fails_by}
 use Rattle.ir_lex.specs.TokenForms.{mark}
 use Rattle.ir_tree.specs.declared.code.Block.{Block}
 use Rattle.ir_tree.specs.declared.code.Inst.{Inst}

@@ -1,7 +1,7 @@
 -- The elements of the grammar's lists.
 use Rattle.std.proofs.Common.{List, refl}
 use Rattle.text_forms.specs.declared.symbol.Symbol.{Symbol}
-use Rattle.text_forms.proofs.Loops.{IsPlain}
+use Rattle.text_forms.specs.Lemmas.Loops.{IsPlain}
 use Rattle.ir_lex.specs.TokenForms.{mark, name}
 use Rattle.ir_tree.specs.Lists.{global, local, bracketed, value, values, dest}
 use Rattle.ir_tree.specs.Control.{switch_case}

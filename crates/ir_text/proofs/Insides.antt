@@ -2,8 +2,8 @@
 use Rattle.std.proofs.Common.{◌≡◌, Bool, true, false, [], ◌∷◌, refl}
 use Rattle.text_forms.specs.declared.symbol.Symbol.TheVariants as symbols
 use Rattle.text_forms.specs.Begins.{begins, steady}
-use Rattle.text_forms.proofs.Lists.{IsElement}
-use Rattle.text_forms.proofs.Loops.{IsPlain}
+use Rattle.text_forms.specs.Lemmas.Lists.{IsElement}
+use Rattle.text_forms.specs.Lemmas.Loops.{IsPlain}
 use Rattle.ir_lex.specs.TokenForms.{mark, name, numeral}
 use Rattle.ir_tree.specs.Words.{order}
 use Rattle.ir_tree.specs.Lists.{global, local, bracketed, bracketed_pair, global_list, local_list, type_list, value, values, dest, exc, keep, pass_values, throw_exc, new_stack_clause}

@@ -3,14 +3,14 @@ use Rattle.std.proofs.Common.{◌≡◌, ℕ, List, Result, Ok, Err, refl, sym, 
 use Rattle.text_forms.specs.declared.fault.Fault.{Fault}
 use Rattle.text_forms.specs.Tokens.{IsText}
 use Rattle.text_forms.specs.Reading.{whole}
-use Rattle.text_forms.proofs.Whole.{whole_ok, whole_only, whole_fault, fault_only}
+use Rattle.text_forms.specs.Lemmas.Whole.{whole_ok, whole_only, whole_fault, fault_only}
 use Rattle.ir_lex.specs.Seen.{seen}
 use Rattle.ir_lex.specs.Walk.{tokens_from}
-use Rattle.ir_lex.proofs.Cursors.{tokens_are_seen, texts_end}
-use Rattle.ir_lex.proofs.Lists.{one_list}
+use Rattle.ir_lex.specs.Lemmas.Cursors.{tokens_are_seen, texts_end}
+use Rattle.ir_lex.specs.Lemmas.Lists.{one_list}
 use Rattle.ir_tree.specs.declared.items.Item.{Item}
 use Rattle.ir_tree.specs.Items.{bundle}
-use Rattle.ir_tree.proofs.Grammatical.{is_grammar}
+use Rattle.ir_tree.specs.Lemmas.Grammatical.{is_grammar}
 use Rattle.ir_text.specs.declared.fault.TextFault.TheVariants as faults
 use Rattle.ir_text.specs.declared.fault.TextFault.TheVariants.{At}
 use Rattle.ir_text.specs.TextAnswers.{Answer, IsAnswer, bundle_read, fault_first, answer_of, text_answer, AnswerIsOne, Answers, IfAnswer}

@@ -8,7 +8,7 @@ use Rattle.text_forms.specs.contracts.symbol.Symbol.{the_type}
 use Rattle.text_forms.specs.Tokens.{Tok, same, has, symbol_ahead}
 use Rattle.text_forms.specs.Forms.{Form, on, left_out}
 use Rattle.text_forms.specs.Reading.{read}
-use Rattle.text_forms.proofs.Tests.{has_append}
+use Rattle.text_forms.specs.Lemmas.Tests.{has_append}
 use Rattle.ir_tree.specs.declared.common.CommonInst.TheVariants as commons
 use Rattle.ir_tree.specs.declared.code.Op.{Op}
 use Rattle.ir_tree.specs.declared.code.Op.TheVariants as ops

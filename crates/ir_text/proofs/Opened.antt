@@ -7,7 +7,7 @@ use Rattle.text_forms.specs.Forms.{within}
 use Rattle.text_forms.specs.Begins.{steady}
 use Rattle.text_forms.specs.Reading.{read_from, read}
 use Rattle.text_forms.specs.Answers.{kept}
-use Rattle.text_forms.proofs.Lists.{steady_read}
+use Rattle.text_forms.specs.Lemmas.Lists.{steady_read}
 use Rattle.ir_lex.specs.declared.name.Name.{Name}
 use Rattle.ir_lex.specs.TokenForms.{mark}
 use Rattle.ir_tree.specs.declared.code.Inst.{Inst}

@@ -5,7 +5,7 @@ use Rattle.std.proofs.lemmas.List.Elements.{All-nil, All-cons, All-head, All-tai
 use Rattle.text_forms.specs.declared.symbol.Symbol.TheVariants as symbols
 use Rattle.text_forms.specs.Tokens.{Tok}
 use Rattle.text_forms.specs.Derives.{Each, Derives}
-use Rattle.text_forms.proofs.Usual.{until_is_each, up_to_is_short}
+use Rattle.text_forms.specs.Lemmas.Usual.{until_is_each, up_to_is_short}
 use Rattle.ir_lex.specs.TokenForms.{mark}
 use Rattle.ir_tree.specs.declared.items.Funcdef.{Funcdef}
 use Rattle.ir_tree.specs.declared.items.Item.{Item}

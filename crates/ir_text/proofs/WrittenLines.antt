@@ -6,7 +6,7 @@ use Rattle.text_forms.specs.declared.symbol.Symbol.TheVariants as symbols
 use Rattle.text_forms.specs.Tokens.{Tok}
 use Rattle.text_forms.specs.Forms.{Form, both, on, made, many, up_to, within, ◌◂◌}
 use Rattle.text_forms.specs.Derives.{Derives}
-use Rattle.text_forms.proofs.Usual.{until_is_each, up_to_is_short}
+use Rattle.text_forms.specs.Lemmas.Usual.{until_is_each, up_to_is_short}
 use Rattle.ir_lex.specs.declared.name.Name.{Name}
 use Rattle.ir_lex.specs.TokenForms.{mark}
 use Rattle.ir_tree.specs.declared.code.Inst.{Inst}

@@ -24,7 +24,7 @@ fn pair(cursor: &mut Cursor, alloc: Global) -> Result<Parameter, ReadError>
 }
 
 /// The parameters up to `)`
-#[tactic(auto, using(ir_lex::proofs::Cursors::one_goes_on))]
+#[tactic(auto, using(ir_lex::specs::Lemmas::Cursors::one_goes_on))]
 fn pairs(cursor: &mut Cursor, alloc: Global) -> Result<Listing<Parameter>, ReadError>
     ensures { Gives result cursor.new (read (up_to 256 (symbols.Close ∷ []) pair) cursor.old) }
 {

@@ -101,7 +101,7 @@ impl BodySoFar {
 }
 
 /// The lines behind the first head, up to `}`, as blocks.
-#[tactic(auto, using(ir_lex::proofs::Cursors::one_goes_on))]
+#[tactic(auto, using(ir_lex::specs::Lemmas::Cursors::one_goes_on))]
 fn body_rest(
     cursor: &mut Cursor,
     alloc: Global,

@@ -60,7 +60,7 @@ fn switch_case(cursor: &mut Cursor, alloc: Global) -> Result<Case, ReadError>
 }
 
 /// The cases up to `}`
-#[tactic(auto, using(ir_lex::proofs::Cursors::one_goes_on))]
+#[tactic(auto, using(ir_lex::specs::Lemmas::Cursors::one_goes_on))]
 fn cases(cursor: &mut Cursor, alloc: Global) -> Result<Listing<Case>, ReadError>
     ensures { Gives result cursor.new (read (up_to 1024 (symbols.BraceClose ∷ []) switch_case) cursor.old) }
 {

@@ -97,7 +97,7 @@ pub fn bracketed_pair(cursor: &mut Cursor, alloc: Global) -> Result<(Name, Name)
 }
 
 /// The names up to a mark, behind those of the same list that are read.
-#[tactic(auto, using(ir_lex::proofs::Cursors::one_goes_on))]
+#[tactic(auto, using(ir_lex::specs::Lemmas::Cursors::one_goes_on))]
 pub fn names(
     cursor: &mut Cursor,
     alloc: Global,
@@ -203,7 +203,7 @@ pub fn value(cursor: &mut Cursor, alloc: Global) -> Result<Operand, ReadError>
 }
 
 /// The values up to `)`
-#[tactic(auto, using(ir_lex::proofs::Cursors::one_goes_on))]
+#[tactic(auto, using(ir_lex::specs::Lemmas::Cursors::one_goes_on))]
 fn values_to(cursor: &mut Cursor, alloc: Global) -> Result<Listing<Operand>, ReadError>
     ensures { Gives result cursor.new (read (up_to 256 (symbols.Close ∷ []) value) cursor.old) }
 {

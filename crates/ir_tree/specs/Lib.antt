@@ -23,3 +23,4 @@ pub mod ItemExamples
 pub mod BodyExamples
 pub mod BodyFaults
 pub mod ItemFaults
+pub mod Lemmas

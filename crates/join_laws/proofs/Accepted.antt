@@ -2,7 +2,7 @@
 use Rattle.std.proofs.Common.{◌≡◌, true, false, List, [], ◌∷◌, None, inl, inr, refl, subst, sym}
 use Rattle.ir_tree.specs.declared.items.Item.{Item}
 use Rattle.demands.specs.Demands.{Demands, none, demand, ◌⨾◌, AllMet, first_unmet}
-use Rattle.demands.proofs.Meeting.{all_met}
+use Rattle.demands.specs.Lemmas.Meeting.{all_met}
 use Rattle.bundle_names.specs.Naming.{name_demands}
 use Rattle.checked_code.specs.Checking.{check_demands}
 use Rattle.ir_print.specs.Laws.{Alike}

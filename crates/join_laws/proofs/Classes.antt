@@ -9,14 +9,14 @@ use Rattle.type_definitions.specs.Same.{pairs, agree, agree_at, same, IsGraph}
 use Rattle.type_definitions.specs.Class.{class_of}
 use Rattle.type_definitions.specs.Laws.{IsFinite}
 use Rattle.type_definitions.specs.Parts.{parts_at}
-use Rattle.type_definitions.proofs.Depth.{alike_back}
-use Rattle.type_definitions.proofs.Proved.{decided, congruence}
+use Rattle.type_definitions.specs.Lemmas.Depth.{alike_back}
+use Rattle.type_definitions.specs.Lemmas.Proved.{decided, congruence}
 use Rattle.kin_laws.specs.Kin.{akin, Kin}
-use Rattle.kin_laws.proofs.Kin.{kin_before, kin_after, kin_both, kin_decides}
+use Rattle.kin_laws.specs.Lemmas.Kin.{kin_before, kin_after, kin_both, kin_decides}
 use Rattle.mu_types.specs.Graph.{Table}
 use Rattle.check_tables.specs.Types.{class_like, definition_at, definition_in, class_in, is_sig, is_type_there}
-pub use Rattle.check_tables.proofs.Like.{class_is_like}
-pub use Rattle.bundle_facts.proofs.Completed.{StandsIn}
+pub use Rattle.check_tables.specs.Lemmas.Like.{class_is_like}
+pub use Rattle.bundle_facts.specs.Lemmas.Completed.{StandsIn}
 use Rattle.join_laws.proofs.Tests.{IsKept}
 
 -- ---- classes

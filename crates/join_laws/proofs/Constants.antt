@@ -6,8 +6,8 @@ use Rattle.type_definitions.specs.declared.definition.TypeDef.TheVariants.{Int, 
 use Rattle.type_definitions.specs.Definition.{constructor, number, arguments}
 use Rattle.type_definitions.specs.Same.{same, IsGraph}
 use Rattle.kin_laws.specs.Kin.{Kin}
-use Rattle.kin_laws.proofs.Kin.{kin_decides}
-use Rattle.kin_laws.proofs.Parts.{AllKin, Defined, defined}
+use Rattle.kin_laws.specs.Lemmas.Kin.{kin_decides}
+use Rattle.kin_laws.specs.Lemmas.Parts.{AllKin, Defined, defined}
 use Rattle.ir_lex.specs.declared.name.Name.{Name}
 use Rattle.ir_tree.specs.declared.definitions.Literal.{Literal as WrittenLiteral}
 use Rattle.ir_tree.specs.declared.definitions.Literal.TheVariants as written

@@ -12,7 +12,7 @@ use Rattle.bundle_names.specs.Globals.{with_function, with_item, with_items, no_
 use Rattle.checked_code.specs.Entries.{is_function, noted_signature, declared_entry, defined_signatures, function_entries, tables_of}
 use Rattle.join_laws.proofs.Names.{added_own, stays}
 use Rattle.join_laws.proofs.Numbers.{stands}
-use Rattle.bundle_facts.proofs.Names.{AreLow, IsLow, item_low, names_low}
+use Rattle.bundle_facts.specs.Lemmas.Names.{AreLow, IsLow, item_low, names_low}
 use Rattle.join_laws.proofs.Functions.{HasEntries}
 
 number_same : (c : ℕ) → nat_eq c c ≡ true

@@ -8,8 +8,8 @@ use Rattle.type_definitions.specs.declared.definition.TypeDef.TheVariants.{Int, 
 use Rattle.kin_laws.specs.Kin.{akin}
 use Rattle.type_definitions.specs.Same.{same}
 use Rattle.type_definitions.specs.Class.{class_of}
-use Rattle.type_definitions.proofs.Proved.{decided}
-use Rattle.kin_laws.proofs.Kin.{kin_both}
+use Rattle.type_definitions.specs.Lemmas.Proved.{decided}
+use Rattle.kin_laws.specs.Lemmas.Kin.{kin_both}
 use Rattle.type_definitions.specs.Parts.{parts_at}
 use Rattle.ir_lex.specs.declared.name.Name.{Name}
 use Rattle.ir_lex.specs.declared.name.Numeral.{Numeral}

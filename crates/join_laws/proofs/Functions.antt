@@ -5,7 +5,7 @@ use Rattle.type_definitions.specs.declared.definition.TypeDef.TheVariants.{FuncR
 use Rattle.std.proofs.lemmas.Option.{slice_get_within}
 use Rattle.type_definitions.specs.Same.{same, agree_at}
 use Rattle.type_definitions.specs.Class.{class_of}
-use Rattle.type_definitions.proofs.Proved.{decided, congruence}
+use Rattle.type_definitions.specs.Lemmas.Proved.{decided, congruence}
 use Rattle.ir_lex.specs.declared.name.Name.{Name}
 use Rattle.ir_tree.specs.declared.definitions.Funcdecl.{Funcdecl}
 use Rattle.ir_tree.specs.declared.items.Funcdef.{Funcdef}
@@ -44,7 +44,7 @@ use Rattle.join_laws.proofs.Sorts.{sorts_go, alike_named}
 use Rattle.join_laws.proofs.Uses.{SortGoes}
 use Rattle.join_laws.proofs.Values.{FunctionsGo}
 use Rattle.join_laws.proofs.Declared.{by_number, by_text, goes_by}
-use Rattle.bundle_facts.proofs.Names.{names_low}
+use Rattle.bundle_facts.specs.Lemmas.Names.{names_low}
 
 -- ---- definitions by number
 

@@ -16,8 +16,8 @@ use Rattle.mu_types.specs.Implied.{complete, references_from}
 use Rattle.bundle_names.specs.Globals.{with_item, with_items, no_globals, globals_of}
 use Rattle.bundle_names.specs.Definitions.{items_demands}
 use Rattle.checked_code.specs.Graph.{type_id, type_ids, signature_id, type_definition, types_of, signatures_of, graph_of}
-pub use Rattle.bundle_laws.proofs.Graph.{get_right}
-pub use Rattle.bundle_facts.proofs.Completed.{get_left}
+pub use Rattle.bundle_laws.specs.Lemmas.Graph.{get_right}
+pub use Rattle.bundle_facts.specs.Lemmas.Completed.{get_left}
 use Rattle.join_laws.proofs.Classes.{below}
 use Rattle.join_laws.proofs.Numbers.{name_of, sort_of, FoundAt, leads_to, own}
 

@@ -6,7 +6,7 @@ use Rattle.type_definitions.specs.declared.definition.TypeDef.TheVariants.{Sig}
 use Rattle.type_definitions.specs.Definition.{constructor, number, arguments}
 use Rattle.type_definitions.specs.Same.{pairs, agree, agree_at}
 use Rattle.kin_laws.specs.Kin.{akin, Kin}
-use Rattle.kin_laws.proofs.Parts.{kin_is}
+use Rattle.kin_laws.specs.Lemmas.Parts.{kin_is}
 use Rattle.ir_lex.specs.declared.name.Name.{Name}
 use Rattle.ir_tree.specs.declared.definitions.TypeForm.{TypeForm}
 use Rattle.ir_tree.specs.declared.definitions.TypeForm.TheVariants as forms

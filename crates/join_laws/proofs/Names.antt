@@ -4,7 +4,7 @@ use Rattle.std.proofs.lemmas.Slice.Eq.{bytes_eq-Decides}
 use Rattle.std.specs.Str.{bytes_eq}
 use Rattle.demands.specs.Demands.{or_else}
 use Rattle.name_scopes.specs.Names.{Names, found, added}
-pub use Rattle.model_numbers.proofs.Names.{some_is, found_added, stays}
+pub use Rattle.model_numbers.specs.Lemmas.Names.{some_is, found_added, stays}
 
 -- a new name stands for what was added
 pub added_own : {T : Type 0} (es : Names T) (n : List ℕ) (x : T) → found es n ≡ None → found (added es n x) n ≡ Some x

@@ -6,7 +6,7 @@ use Rattle.type_definitions.specs.declared.definition.TypeDef.TheVariants.{Int, 
 use Rattle.type_definitions.specs.Laws.{IsFinite}
 use Rattle.type_definitions.specs.Same.{IsGraph}
 use Rattle.type_definitions.specs.Parts.{parts_at, leads}
-use Rattle.kin_laws.proofs.Parts.{finite_kin}
+use Rattle.kin_laws.specs.Lemmas.Parts.{finite_kin}
 use Rattle.ir_tree.specs.declared.definitions.Typedef.{Typedef}
 use Rattle.ir_tree.specs.declared.definitions.Funcsig.{Funcsig}
 use Rattle.ir_tree.specs.declared.items.Item.{Item}

@@ -7,7 +7,7 @@ use Rattle.type_definitions.specs.declared.definition.TypeDef.TheVariants.{Int, 
 use Rattle.type_definitions.specs.Definition.{constructor, number, arguments}
 use Rattle.type_definitions.specs.Same.{pairs}
 use Rattle.kin_laws.specs.Kin.{akin, Kin}
-use Rattle.kin_laws.proofs.Parts.{AllKin, all_kin, leaves_kin}
+use Rattle.kin_laws.specs.Lemmas.Parts.{AllKin, all_kin, leaves_kin}
 use Rattle.ir_lex.specs.declared.token.Number.{Number}
 use Rattle.mu_types.specs.Graph.{Table}
 use Rattle.check_tables.specs.Types.{class_like, definition_at, definition_in, leaves_at, leaves_in, funcref_at, ref_in, iref_in, is_sig, is_type_there, int1, int32, stackref, threadref, ref_void}

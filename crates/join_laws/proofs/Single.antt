@@ -20,8 +20,8 @@ use Rattle.join_laws.proofs.Tables.{table}
 use Rattle.join_laws.proofs.Pairs.{cases_low, leads_none, implied_parts}
 use Rattle.join_laws.proofs.Types.{each_at, of_kind, from_zero}
 use Rattle.mu_types.specs.CompleteLaws.{headed}
-use Rattle.bundle_laws.proofs.Graph.{counted, bundle_some, graph_is, part_is_type}
-use Rattle.bundle_facts.proofs.Completed.{reference_in, void_in, ref_stands, funcref_stands, written_there}
+use Rattle.bundle_laws.specs.Lemmas.Graph.{counted, bundle_some, graph_is, part_is_type}
+use Rattle.bundle_facts.specs.Lemmas.Completed.{reference_in, void_in, ref_stands, funcref_stands, written_there}
 
 pub whole : (b : List Item) → AllMet (name_demands b) → IsWhole (table b)
 whole b m =

@@ -3,7 +3,7 @@ use Rattle.std.proofs.Common.{◌≡◌, ℕ, suc, ◌<◌, ◌≤◌, Bool, tru
 use Rattle.std.proofs.lemmas.List.{length-append}
 use Rattle.ir_tree.specs.declared.items.Item.{Item}
 use Rattle.ir_print.specs.Laws.{Reads, IsRead, AllRead}
-use Rattle.ir_print.proofs.ReadBack.{items_read_back}
+use Rattle.ir_print.specs.Lemmas.ReadBack.{items_read_back}
 use Rattle.bundle_join.specs.declared.fault.JoinKind.TheVariants.{TooMany}
 use Rattle.bundle_join.specs.declared.fault.JoinFault.{JoinFault}
 use Rattle.bundle_join.specs.declared.fault.JoinFault.TheVariants.{At}

@@ -8,7 +8,7 @@ use Rattle.type_definitions.specs.Definition.{constructor, number, arguments}
 use Rattle.type_definitions.specs.Same.{IsGraph}
 use Rattle.type_definitions.specs.Laws.{IsFinite}
 use Rattle.kin_laws.specs.Kin.{Kin}
-use Rattle.kin_laws.proofs.Parts.{AllKin, defined, leaves_kin}
+use Rattle.kin_laws.specs.Lemmas.Parts.{AllKin, defined, leaves_kin}
 use Rattle.ir_tree.specs.declared.items.Item.{Item}
 use Rattle.ir_tree.specs.declared.items.Item.TheVariants as items
 use Rattle.bundle_names.specs.declared.globals.Sort.TheVariants as sorts

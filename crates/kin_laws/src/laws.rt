@@ -6,7 +6,7 @@ ghost use Rattle.kin_laws.specs.Kin.{KinDecides, KinEnd, KinHaveAsManyLeaves};
 use type_definitions::TypeDef;
 
 /// Types that are kin to the same type are the same type.
-#[tactic(auto, using(crate::proofs::Kin::kin_decides))]
+#[tactic(auto, using(crate::specs::Lemmas::Kin::kin_decides))]
 pub fn kin_of_the_same_type_are_the_same(first: &[TypeDef], second: &[TypeDef])
     requires first { IsGraph first.now }
     requires second { IsGraph second.now }

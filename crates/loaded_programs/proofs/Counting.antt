@@ -25,7 +25,7 @@ use Rattle.hail_load.specs.Parts.{leaves_of, size_of, target_spot, ◌>>=◌}
 use Rattle.hail_load.specs.Fitting.{Store}
 use Rattle.hail_load.specs.Judging.{judged}
 use Rattle.hail_load.specs.Loading.{Stored, Loaded, with_object, make, new_of, newhybrid_of, fill, done, go_on, load}
-use Rattle.hail_load.proofs.Steps.{hybrid_size}
+use Rattle.hail_load.specs.Lemmas.Steps.{hybrid_size}
 use Rattle.mu_model.specs.Run.{global_objects}
 use Rattle.loaded_programs.specs.Laws.{CellsAreCounted}
 use Rattle.loaded_programs.proofs.Parts.{went}

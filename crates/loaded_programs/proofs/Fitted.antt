@@ -6,17 +6,17 @@ use Rattle.ir_tree.specs.declared.items.Item.{Item}
 use Rattle.mu_values.specs.declared.scalars.Scalar.TheVariants.{Place}
 use Rattle.bundle_names.specs.Naming.{name_demands}
 use Rattle.checked_code.specs.Checking.{bundle_tables, check_demands}
-use Rattle.bundle_laws.proofs.Tables.{tables_fit}
-use Rattle.bundle_facts.proofs.Accepted as facts
+use Rattle.bundle_laws.specs.Lemmas.Tables.{tables_fit}
+use Rattle.bundle_facts.specs.Lemmas.Accepted as facts
 use Rattle.typed_heap.specs.Objects.{HeapObject}
 use Rattle.typed_heap.specs.Laws.{ObjectFits, KeepsLeaves}
-use Rattle.typed_heap.proofs.Fitted.{some_and, scalar_grows}
+use Rattle.typed_heap.specs.Lemmas.Fitted.{some_and, scalar_grows}
 use Rattle.hail_load.specs.Code.{Code, code_of}
-use Rattle.hail_load.proofs.Knowing.{is_known}
+use Rattle.hail_load.specs.Lemmas.Knowing.{is_known}
 use Rattle.mu_model.specs.Types.{type_graph}
 use Rattle.mu_model.specs.Run.{Setting, global_objects}
 use Rattle.typed_programs.specs.Laws.{SettingFits}
-use Rattle.typed_programs.proofs.Running.{plain_fits}
+use Rattle.typed_programs.specs.Lemmas.Running.{plain_fits}
 use Rattle.loaded_programs.specs.Laws.{LoadedSettingFits, ScriptsBeginWithGlobals, LoadedSettingsFit}
 use Rattle.loaded_programs.proofs.Scripts.{scripted_fits}
 use Rattle.loaded_programs.proofs.Globals.{begins_with_globals}

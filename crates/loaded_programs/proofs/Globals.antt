@@ -1,7 +1,7 @@
 -- The objects of the globals have the leaves of their types.
 use Rattle.std.proofs.Common.{◌≡◌, ℕ, ◌+◌, Bool, true, false, nat_lt, List, [], ◌∷◌, length, map, Option, Some, None, slice_get, if◌then◌else◌, refl, sym, ap, ◌∙◌}
 use Rattle.demands.specs.Demands.{AllMet, first_unmet}
-use Rattle.demands.proofs.Meeting.{all_met}
+use Rattle.demands.specs.Lemmas.Meeting.{all_met}
 use Rattle.ir_tree.specs.declared.items.Item.{Item}
 use Rattle.ir_tree.specs.declared.items.Item.TheVariants as items
 use Rattle.type_definitions.specs.declared.definition.TypeDef.{TypeDef}
@@ -20,9 +20,9 @@ use Rattle.checked_code.specs.Checking.{bundle_tables, check_demands}
 use Rattle.typed_heap.specs.Objects.{HeapObject, leaf_classes, object_of}
 use Rattle.mu_model.specs.Types.{class_definition}
 use Rattle.mu_model.specs.Run.{target_leaves}
-use Rattle.bundle_facts.proofs.Completed.{IsComplete, is_complete}
-use Rattle.bundle_facts.proofs.References.{iref_refers}
-use Rattle.bundle_facts.proofs.Shapes.{class_leaves, class_within, class_own}
+use Rattle.bundle_facts.specs.Lemmas.Completed.{IsComplete, is_complete}
+use Rattle.bundle_facts.specs.Lemmas.References.{iref_refers}
+use Rattle.bundle_facts.specs.Lemmas.Shapes.{class_leaves, class_within, class_own}
 use Rattle.loaded_programs.specs.Laws.{BeginsWithGlobals}
 
 sized_is_type : (d : Option TypeDef) → is_sized d ≡ true → is_type_there d ≡ true

@@ -16,7 +16,7 @@ use Rattle.hail_load.specs.Code.{Code}
 use Rattle.hail_load.specs.Fitting.{Store}
 use Rattle.hail_load.specs.Judging.{wanted_by, part_scalars, judged}
 use Rattle.hail_load.specs.Parts.{leaves_of, parts_of, ◌>>=◌}
-use Rattle.hail_load.proofs.Steps.{All_there}
+use Rattle.hail_load.specs.Lemmas.Steps.{All_there}
 use Rattle.loaded_programs.proofs.Filling.{FitFirst, first_more}
 use Rattle.loaded_programs.proofs.Parts.{went, leaves_in, parts_leaves, parts_there}
 use Rattle.loaded_programs.proofs.Sources.{Lawful, world_of, is_index, source_fits}

@@ -8,8 +8,8 @@ use Rattle.std.proofs.lemmas.List.Elements.{All-nil, All-cons, All-append, All-w
 use Rattle.std.proofs.lemmas.Option.{slice_get-map}
 use Rattle.demands.specs.declared.fault.Fault.TheVariants.{At}
 use Rattle.name_scopes.specs.Names.{found}
-use Rattle.bundle_laws.proofs.Bodies.{found_added}
-use Rattle.checked_code.proofs.ConstantMembers.{holds_at}
+use Rattle.bundle_laws.specs.Lemmas.Bodies.{found_added}
+use Rattle.checked_code.specs.Lemmas.ConstantMembers.{holds_at}
 use Rattle.type_definitions.specs.declared.definition.TypeDef.{TypeDef}
 use Rattle.mu_values.specs.declared.scalars.Scalar.{Scalar}
 use Rattle.ir_lex.specs.declared.name.Name.{Name}
@@ -20,7 +20,7 @@ use Rattle.check_tables.specs.Lookups.{written_number}
 use Rattle.typed_heap.specs.Objects.{HeapObject, leaf_classes, object_of, filled, with_filled}
 use Rattle.typed_heap.specs.Fits.{World, ScalarsFit}
 use Rattle.typed_heap.specs.Laws.{ObjectFits, KeepsLeaves, Grows}
-use Rattle.typed_heap.proofs.Fitted.{has, some_and, object_fits, hybrid_fits, scalars_grow, added_keeps, set_keeps}
+use Rattle.typed_heap.specs.Lemmas.Fitted.{has, some_and, object_fits, hybrid_fits, scalars_grow, added_keeps, set_keeps}
 use Rattle.hail_load.specs.declared.fault.LoadKind.TheVariants.{WrongType, HeapFull}
 use Rattle.hail_load.specs.declared.parts.Part.{Part}
 use Rattle.hail_load.specs.declared.parts.Part.TheVariants.{Value, Hybrid}

@@ -13,10 +13,10 @@ use Rattle.type_definitions.specs.declared.definition.TypeDef.TheVariants as typ
 use Rattle.type_definitions.specs.Definition.{arguments}
 use Rattle.type_definitions.specs.Same.{IsGraph}
 use Rattle.type_definitions.specs.Leaves.{times}
-use Rattle.type_definitions.proofs.Depth.{args_within}
+use Rattle.type_definitions.specs.Lemmas.Depth.{args_within}
 use Rattle.typed_heap.specs.Objects.{HeapObject, leaf_classes, run_of, run_classes}
 use Rattle.typed_heap.specs.Heap.{hybrid_classes}
-use Rattle.typed_heap.proofs.Runs.{times_length}
+use Rattle.typed_heap.specs.Lemmas.Runs.{times_length}
 use Rattle.bundle_facts.specs.Facts.{LeavesAreOfParts}
 use Rattle.check_tables.specs.TypeTests.{repeated_of}
 use Rattle.hail_load.specs.declared.fault.LoadKind.{LoadKind}
@@ -26,7 +26,7 @@ use Rattle.hail_load.specs.declared.parts.Spot.{Spot}
 use Rattle.hail_load.specs.declared.tree.Index.{Index}
 use Rattle.hail_load.specs.Answering.{IsThere}
 use Rattle.hail_load.specs.Parts.{value_parts, hybrid_parts, parts_of, leaves_of, size_of, part_with, index_into, indexed, ◌>>=◌}
-use Rattle.hail_load.proofs.Steps.{All_there, hybrid_size}
+use Rattle.hail_load.specs.Lemmas.Steps.{All_there, hybrid_size}
 
 -- ---- answers in order
 

@@ -9,14 +9,14 @@ use Rattle.text_forms.specs.Tokens.{Tok, has}
 use Rattle.text_forms.specs.Forms.{Form, token, nothing, both, on, made, until, ◌▸◌, ◌◂◌}
 use Rattle.text_forms.specs.Derives.{Derives, Elements}
 use Rattle.text_forms.specs.Reading.{whole}
-use Rattle.text_forms.proofs.Whole.{whole_ok}
+use Rattle.text_forms.specs.Lemmas.Whole.{whole_ok}
 use Rattle.demands.specs.Demands.{AllMet, none, demand, first_unmet}
 use Rattle.name_scopes.specs.Names.{Names, found}
-use Rattle.demands.proofs.Meeting.{all_met}
+use Rattle.demands.specs.Lemmas.Meeting.{all_met}
 use Rattle.ir_lex.specs.declared.name.Name.{Name}
 use Rattle.ir_lex.specs.TokenForms.{mark, name}
 use Rattle.ir_lex.specs.Walk.{tokens_from}
-use Rattle.ir_lex.proofs.Cursors.{texts_end}
+use Rattle.ir_lex.specs.Lemmas.Cursors.{texts_end}
 use Rattle.ir_tree.specs.declared.items.Item.{Item}
 use Rattle.ir_tree.specs.Lists.{globals, global}
 use Rattle.bundle_names.specs.declared.globals.Sort.{Sort}
@@ -45,7 +45,7 @@ use Rattle.client_script.specs.Demands.{global_fits, token_demands, last_symbol}
 use Rattle.client_script.specs.Grammar.{kept_value, argument, action, count, popping, pushing, edit, pass, way, rebind, reply, ending, inside, entry, script}
 use Rattle.client_script.specs.Meaning.{argument_meant, way_meant, reply_meant, entry_meant, entries_meant}
 use Rattle.client_script.specs.Texts.{demands_by, entries_in}
-use Rattle.client_script.proofs.Grammatical.{is_grammar}
+use Rattle.client_script.specs.Lemmas.Grammatical.{is_grammar}
 use Rattle.loaded_programs.specs.Laws.{IsScripted}
 use Rattle.loaded_programs.proofs.Told.{told_fits}
 use Rattle.loaded_programs.proofs.Pushes.{pushes, pushed_fits}

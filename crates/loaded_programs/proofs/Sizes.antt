@@ -9,7 +9,7 @@ use Rattle.std.proofs.lemmas.List.Elements.{All-nil, All-cons, All-push, All-set
 use Rattle.demands.specs.declared.fault.Fault.TheVariants.{At}
 use Rattle.demands.specs.Demands.{AllMet, first_unmet}
 use Rattle.name_scopes.specs.Names.{found}
-use Rattle.demands.proofs.Meeting.{all_met}
+use Rattle.demands.specs.Lemmas.Meeting.{all_met}
 use Rattle.text_forms.specs.declared.fault.Fault.{Fault}
 use Rattle.text_forms.specs.declared.symbol.Symbol.{Symbol}
 use Rattle.text_forms.specs.declared.symbol.Symbol.TheVariants as symbols
@@ -28,8 +28,8 @@ use Rattle.ir_lex.specs.Seen.{seen}
 use Rattle.ir_lex.specs.Texts.{Lexes, ends, stops, reads}
 use Rattle.ir_lex.specs.TokenForms.{mark}
 use Rattle.ir_lex.specs.Walk.{tokens_from, tokens_within}
-use Rattle.ir_lex.proofs.Lists.{lexed}
-use Rattle.ir_lex.proofs.Nexts.{next_within}
+use Rattle.ir_lex.specs.Lemmas.Lists.{lexed}
+use Rattle.ir_lex.specs.Lemmas.Nexts.{next_within}
 use Rattle.ir_tree.specs.declared.items.Item.{Item}
 use Rattle.ir_tree.specs.declared.items.Item.TheVariants as items
 use Rattle.ir_tree.specs.Items.{item, bundle as bundle_form}
@@ -44,8 +44,8 @@ use Rattle.mu_types.specs.Graph.{Table}
 use Rattle.checked_code.specs.Entries.{global_entries, tables_of}
 use Rattle.checked_code.specs.Rules.{globals_demands, most_leaves_of_globals}
 use Rattle.checked_code.specs.Checking.{bundle_tables, check_demands}
-use Rattle.bundle_facts.proofs.Completed.{IsComplete, is_complete}
-use Rattle.bundle_facts.proofs.Shapes.{class_leaves, class_own, class_within}
+use Rattle.bundle_facts.specs.Lemmas.Completed.{IsComplete, is_complete}
+use Rattle.bundle_facts.specs.Lemmas.Shapes.{class_leaves, class_own, class_within}
 use Rattle.typed_heap.specs.Objects.{HeapObject, filled, leaf_classes, object_of, with_filled}
 use Rattle.hail_load.specs.declared.fault.LoadKind.TheVariants.{WrongType, HeapFull}
 use Rattle.hail_load.specs.declared.parts.Part.{Part}
@@ -65,11 +65,11 @@ use Rattle.hail_load.specs.Laws.{ScriptIsDerived}
 use Rattle.hail_load.specs.Loading.{Stored, with_object, make, new_of, newhybrid_of, fill, done, go_on, load}
 use Rattle.hail_load.specs.Parts.{leaves_of, size_of, target_spot, ◌>>=◌}
 use Rattle.hail_load.specs.Texts.{commands_in, hail_commands}
-use Rattle.hail_load.proofs.Steps.{hybrid_size}
+use Rattle.hail_load.specs.Lemmas.Steps.{hybrid_size}
 use Rattle.mu_model.specs.Run.{global_objects, target_leaves}
 use Rattle.mu_model.specs.Types.{class_definition}
 use Rattle.model_laws.specs.Printable.{HasFewCells}
-use Rattle.model_laws.proofs.Keeps.{at_place}
+use Rattle.model_laws.specs.Lemmas.Keeps.{at_place}
 use Rattle.loaded_programs.specs.Sizes.{GlobalsAreFew, LoadedObjectsAreFew, LoadedObjectsAreSmall, LoadedSettingsAreModest, ScriptsAreShort}
 use Rattle.loaded_programs.proofs.Globals.{classed, leaves_same}
 use Rattle.loaded_programs.proofs.Parts.{went}

@@ -14,19 +14,19 @@ use Rattle.type_definitions.specs.Definition.{arguments}
 use Rattle.type_definitions.specs.Same.{IsGraph}
 use Rattle.type_definitions.specs.Class.{class_of}
 use Rattle.type_definitions.specs.Scalars.{is_scalar}
-use Rattle.type_definitions.proofs.Depth.{args_within}
+use Rattle.type_definitions.specs.Lemmas.Depth.{args_within}
 use Rattle.mu_values.specs.declared.scalars.Scalar.{Scalar}
 use Rattle.mu_values.specs.declared.scalars.Scalar.TheVariants.{Int, Null, Object, Place, Func}
 use Rattle.mu_values.specs.Constants.{width_of, is_reference, number_bits, fits as fits_width}
-use Rattle.mu_values.proofs.Widths.{bits_below}
+use Rattle.mu_values.specs.Lemmas.Widths.{bits_below}
 use Rattle.ir_lex.specs.declared.name.Numeral.{Numeral}
 use Rattle.bundle_names.specs.declared.globals.Sort.{Sort}
 use Rattle.bundle_names.specs.declared.globals.Sort.TheVariants as sorts
 use Rattle.typed_heap.specs.Objects.{HeapObject, leaf_classes}
 use Rattle.typed_heap.specs.Fits.{World, DefinitionFits, ScalarsFit, ValueFits, fits, place_fits}
-use Rattle.typed_heap.proofs.Fitted.{has, some_and}
+use Rattle.typed_heap.specs.Lemmas.Fitted.{has, some_and}
 use Rattle.bundle_facts.specs.Facts.{AreShaped, LeavesAreOfParts}
-use Rattle.bundle_facts.proofs.Shapes.{class_shape, class_within, class_own, class_leaves, class_fits, class_place_fits}
+use Rattle.bundle_facts.specs.Lemmas.Shapes.{class_shape, class_within, class_own, class_leaves, class_fits, class_place_fits}
 use Rattle.hail_load.specs.declared.fault.LoadKind.{LoadKind}
 use Rattle.hail_load.specs.declared.fault.LoadKind.TheVariants.{WrongType, OutOfRange}
 use Rattle.hail_load.specs.declared.tree.Piece.{Piece}
@@ -37,7 +37,7 @@ use Rattle.hail_load.specs.FitLaws.{is_found}
 use Rattle.hail_load.specs.Code.{Code}
 use Rattle.hail_load.specs.Fitting.{Store, refers, is_class, is_iref, where_fits, number_scalars, named_scalars, object_scalars, place_scalars, next_indexes, scalars_of}
 use Rattle.hail_load.specs.Parts.{target_spot}
-use Rattle.hail_load.proofs.Referring.{refers_where_it_fits}
+use Rattle.hail_load.specs.Lemmas.Referring.{refers_where_it_fits}
 
 -- what is known of the code of an accepted bundle
 pub record Lawful (c : Code) : Type 0 where

@@ -27,9 +27,9 @@ use Rattle.model_laws.specs.ClientsFit.{ArgumentFits}
 use Rattle.model_numbers.specs.Sources.{value_at}
 use Rattle.client_script.specs.Told.{told_as, told}
 use Rattle.client_script.specs.Meaning.{argument_meant}
-use Rattle.client_script.proofs.Partial.{there}
-use Rattle.client_script.proofs.ToldValues.{values_are_told}
-use Rattle.typed_programs.proofs.Sources.{Moment, source_fits}
+use Rattle.client_script.specs.Lemmas.Partial.{there}
+use Rattle.client_script.specs.Lemmas.ToldValues.{values_are_told}
+use Rattle.typed_programs.specs.Lemmas.Sources.{Moment, source_fits}
 
 module _ (bundle : List Item) (names : first_unmet (name_demands bundle) ≡ None) (checked : first_unmet (check_demands bundle) ≡ None) (w : World) (globals : HasGlobals (bundle_tables bundle) w) where
   -- a moment at which no variable has a value

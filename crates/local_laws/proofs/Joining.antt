@@ -17,13 +17,14 @@ use Rattle.mu_threads.specs.Picks.{pick, picked_from}
 use Rattle.odometer.specs.Trees.{Tree, Leaf, Node, branches, leaf, rest, grown}
 use Rattle.odometer.specs.GrownLaws.{leaf_grown}
 use Rattle.search_laws.specs.Moved.{with_picks, moved, thread_tree, ends_or_branches, step_tree, goes_on_tree, StepsAreTrees}
-use Rattle.local_laws.specs.IsLocal.{least_local}
+use Rattle.local_steps.specs.IsLocal.{least_local}
 use Rattle.local_laws.specs.LocalSteps.{first_tree, local_tree, made, plain}
-use Rattle.local_laws.proofs.Forms.{on_some}
+use Rattle.local_laws.specs.Lemmas.Forms.{on_some}
 use Rattle.local_laws.proofs.Meeting.{made_counts}
 use Rattle.local_laws.proofs.Front.{Runs, goes, cuts, ends, over, Finds, first, sticks, each, halts, stops, spent}
 use Rattle.local_laws.proofs.Seeing.{Shown, Nothing, shown_at, shown_of, add, shown_behind}
-use Rattle.local_laws.proofs.Places.{In, IsOver, ending_by, GoesOn, CutsOff, IsDone, IsFull, IsFirst, places}
+use Rattle.local_laws.specs.Lemmas.Running.{In}
+use Rattle.local_laws.proofs.Places.{IsOver, ending_by, GoesOn, CutsOff, IsDone, IsFull, IsFirst, places}
 
 -- ---- picks
 

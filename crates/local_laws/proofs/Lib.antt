@@ -1,6 +1,5 @@
 mod Counting
 mod Keeping
-mod Forms
 mod Answering
 mod Meeting
 mod Front

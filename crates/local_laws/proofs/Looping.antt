@@ -18,10 +18,10 @@ use Rattle.odometer.specs.Odometer.{path, digits}
 use Rattle.odometer.specs.GrownLaws.{leaf_grown, path_grown}
 use Rattle.odometer.specs.declared.picks.Pick.{Pick}
 use Rattle.search_laws.specs.Moved.{with_picks, moved, step_tree, goes_on_tree, run_tree, StepsAreTrees, RunsAreTrees, TreesArePlain}
-use Rattle.local_laws.specs.IsLocal.{least_local}
+use Rattle.local_steps.specs.IsLocal.{least_local}
 use Rattle.local_laws.specs.LocalSteps.{first_tree, local_tree, made, plain}
 use Rattle.local_laws.specs.LocalLoop.{WentOn, CameToEnd, PicksThread, GoesOnFirst, GoesOnAny, IsOverAny, NoneBreaks}
-use Rattle.local_laws.proofs.Forms.{Effect, effect, result, on_some, Locals, locals}
+use Rattle.local_laws.specs.Lemmas.Forms.{Effect, effect, result, on_some, Locals, locals}
 use Rattle.local_laws.proofs.Meeting.{local_made, Went, went}
 use Rattle.local_laws.proofs.Joining.{told_moved, local_plain, none_of}
 use Rattle.local_laws.proofs.Scheduled.{least_parts}

@@ -16,7 +16,7 @@ use Rattle.local_laws.specs.LocalSteps.{made, plain, Meet, LocalStepsMeet, Local
 use Rattle.local_laws.proofs.Counting.{with_counts, counted, turns_counted, told_counted}
 use Rattle.local_laws.proofs.Keeping.{NoEnds, IsCut, Has, Every, turned_has}
 use Rattle.local_laws.proofs.Answering.{told_has}
-use Rattle.local_laws.proofs.Forms.{Effect, effect, thread_of, stack_of, result, is_shut, set_there, get_within, on_some, local_turns, turned_on, Locals, locals, locals_kept, acts_local}
+use Rattle.local_laws.specs.Lemmas.Forms.{Effect, effect, thread_of, stack_of, result, is_shut, set_there, get_within, on_some, local_turns, turned_on, Locals, locals, locals_kept, acts_local}
 
 -- ---- what a step of a thread makes of the counts
 

@@ -10,11 +10,11 @@ use Rattle.mu_model.specs.Run.{Run, behind, client_answers, goes_on, run}
 use Rattle.odometer.specs.Trees.{Tree, Leaf, leaf, rest, grown}
 use Rattle.odometer.specs.GrownLaws.{leaf_grown}
 use Rattle.search_laws.specs.Moved.{with_picks, moved, step_tree, goes_on_tree, StepsAreTrees}
-use Rattle.local_laws.specs.IsLocal.{is_local, least_local}
+use Rattle.local_steps.specs.IsLocal.{is_local, least_local}
 use Rattle.local_laws.specs.LocalSteps.{first_tree, local_tree, made, LocalRunsAreRuns}
-use Rattle.local_laws.proofs.Forms.{Effect, effect, result, Locals, locals}
+use Rattle.local_laws.specs.Lemmas.Forms.{Effect, effect, result, Locals, locals}
 use Rattle.local_laws.proofs.Meeting.{local_made}
-use Rattle.local_laws.proofs.Places.{In, found_in}
+use Rattle.local_laws.specs.Lemmas.Running.{In, found_in}
 use Rattle.local_laws.proofs.Joining.{again, told_moved, step_given}
 
 -- the thread that is first, with its room

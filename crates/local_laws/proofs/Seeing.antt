@@ -17,7 +17,7 @@ use Rattle.mu_model.specs.EnteringStacks.{most_threads}
 use Rattle.mu_model.specs.Run.{Run, Ends, Breaks, Unfinished, behind}
 use Rattle.seen_runs.specs.Seen.{Seen, Over, end_of, thread_ends, line_after, last_after, small_cells, last_scalars, cut, seen_at, seen_of}
 use Rattle.local_laws.proofs.Keeping.{NoEnds, IsCut}
-use Rattle.local_laws.proofs.Forms.{Effect, Stays, Leaves, lines_of}
+use Rattle.local_laws.specs.Lemmas.Forms.{Effect, Stays, Leaves, lines_of}
 
 pub data Shown : Type 0 where
   Nothing : Shown

@@ -1,5 +1,5 @@
-pub mod IsLocal
 pub mod LocalSteps
 pub mod LocalSearch
 pub mod LocalLoop
 pub mod LocalWorlds
+pub mod Lemmas

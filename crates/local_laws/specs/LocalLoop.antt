@@ -11,7 +11,7 @@ use Rattle.mu_threads.specs.Picks.{pick}
 use Rattle.odometer.specs.Trees.{leaf, rest}
 use Rattle.odometer.specs.Odometer.{path, digits}
 use Rattle.search_laws.specs.Moved.{with_picks, step_tree}
-use Rattle.local_laws.specs.IsLocal.{least_local}
+use Rattle.local_steps.specs.IsLocal.{least_local}
 use Rattle.local_laws.specs.LocalSteps.{local_tree}
 
 -- the step, by these numbers, goes on; or it gives the ending

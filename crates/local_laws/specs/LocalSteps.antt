@@ -9,7 +9,7 @@ use Rattle.mu_model.specs.Step.{turns, picked}
 use Rattle.mu_model.specs.Run.{Run, Unfinished, client_answers, run}
 use Rattle.odometer.specs.Trees.{Tree, Leaf, leaf, grown}
 use Rattle.search_laws.specs.Moved.{with_picks, step_tree, goes_on_tree}
-use Rattle.local_laws.specs.IsLocal.{is_local, least_local}
+use Rattle.local_steps.specs.IsLocal.{is_local, least_local}
 
 -- ---- runs in which local steps come first
 

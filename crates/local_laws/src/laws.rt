@@ -5,7 +5,7 @@ ghost use Rattle.local_laws.specs.LocalSearch.{LocalStepsComeFirst, LocalRunsAre
 
 use search_laws::{local_steps_commute, picks_are_only_picked_from};
 
-/// A local step of a thread and a step of another one may be exchanged. Both ways come to the same configuration, but for the numbers of
+/// A local step of a thread and a step of another one, where both go on, may be exchanged. Both ways come to the same configuration, but for the numbers of
 /// the schedule that are left and the lines of the last step.
 pub fn local_steps_meet()
     ensures meet { LocalStepsMeet }

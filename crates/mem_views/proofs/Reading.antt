@@ -4,7 +4,6 @@ use Rattle.std.proofs.lemmas.Bool.{false≢true, le-leb, lt-leb, cases_lt}
 use Rattle.mu_base.specs.declared.order.Order.{Order}
 use Rattle.mu_values.specs.declared.scalars.Scalar.{Scalar}
 use Rattle.mu_values.specs.declared.cells.CellId.{CellId}
-use Rattle.mem_axioms.specs.Events.{modifies}
 use Rattle.mem_axioms.specs.Logs.{newest}
 use Rattle.mem_axioms.specs.Form.{value_at, has_form, fits_form, is_value_at}
 use Rattle.mem_axioms.specs.Axioms.{meets_axioms}

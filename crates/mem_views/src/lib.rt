@@ -28,6 +28,7 @@
 //! laws of `clock_laws` say that clocks decide happens-before, and that this floor is the floor of the axioms.
 #![tactic(auto)]
 
+mod adding;
 mod places;
 mod view_memory;
 

@@ -155,6 +155,27 @@ impl ViewMemory {
         }
     }
 
+    /// The place of the cell that an event accesses, if it has one.
+    fn place_of(&self, event: &Event) -> Option<usize>
+        ensures found { (cell : CellId) → accesses cell event.now ≡ true → MatchOption result (place_in self.now.places.objects.items cell ≡ 0) (λ place. place_in self.now.places.objects.items cell ≡ place + 1) }
+        ensures there { IfSome result (λ place. place < length self.now.kept.items) }
+    {
+        let cell = cell_of(event)?;
+        self.places.find(cell)
+    }
+
+    /// What is kept at the place of a cell, if it has one.
+    fn views_at(&self, place: Option<usize>) -> Option<&CellViews>
+        requires there { IfSome place (λ n. n < length self.now.kept.items) }
+        ensures views { (cell : CellId) → MatchOption place (place_in self.now.places.objects.items cell ≡ 0) (λ n. place_in self.now.places.objects.items cell ≡ n + 1) → MatchOption result (IsUntouched self.now.tape.events cell) (λ kept. CellHolds self.now.tape.events cell kept.now) }
+        ensures clocks { (cell : CellId) → MatchOption place (place_in self.now.places.objects.items cell ≡ 0) (λ n. place_in self.now.places.objects.items cell ≡ n + 1) → IfSome result (λ kept. ClocksHold self.now.rule self.now.tape.events self.now.clocks cell kept.now) }
+    {
+        match place {
+            Some(place) => Some(&self.kept[place]),
+            None => None,
+        }
+    }
+
     /// What is kept of a cell, if it was touched.
     fn views_of(&self, cell: CellId) -> Option<&CellViews>
         ensures views { MatchOption result (IsUntouched self.now.tape.events cell) (λ kept. CellHolds self.now.tape.events cell kept.now) }
@@ -167,12 +188,18 @@ impl ViewMemory {
     }
 
     /// What an event leaves for a later acquire fence of its thread.
-    fn taken(&self, event: &Event) -> Option<Clock>
+    fn taken(&self, event: &Event, kept: Option<&CellViews>) -> Option<Clock>
+        requires views { (cell : CellId) → accesses cell event.now ≡ true → MatchOption kept (IsUntouched self.now.tape.events cell) (λ views. CellHolds self.now.tape.events cell views.now) }
+        requires clocks { (cell : CellId) → accesses cell event.now ≡ true → IfSome kept (λ views. ClocksHold self.now.rule self.now.tape.events self.now.clocks cell views.now) }
         ensures { (u : ℕ) → known_by result u ≡ pends (views self.now.rule self.now.tape.events) event.now u }
     {
-        let cell = cell_of(event)?;
-        let kept = self.views_of(cell)?;
-        taken_from(&self.clocks, kept, event)
+        let Some(_cell) = cell_of(event) else {
+            return None;
+        };
+        match kept {
+            Some(kept) => taken_from(&self.clocks, kept, event),
+            None => None,
+        }
     }
 
     /// What happens before an event, with what it gains.
@@ -187,7 +214,14 @@ impl ViewMemory {
     }
 
     /// The least earlier event that races with one before which this is known.
-    fn race_of<L: Ledger>(&self, event: &Event, known: &Clock, steps: &mut Steps<L>) -> Option<u32>
+    fn race_of<L: Ledger>(
+        &self,
+        event: &Event,
+        kept: Option<&CellViews>,
+        known: &Clock,
+        steps: &mut Steps<L>,
+    ) -> Option<u32>
+        requires views { (cell : CellId) → accesses cell event.now ≡ true → MatchOption kept (IsUntouched self.now.tape.events cell) (λ views. CellHolds self.now.tape.events cell views.now) }
         requires fits { EventFits self.now.rule self.now.objects.values self.now.tape.events event.now }
         requires known { (u : ℕ) → slice_index known.now u ≡ knew (views self.now.rule self.now.tape.events) event.now u }
         ensures race { result ≡ race self.now.rule self.now.tape.events event.now }
@@ -196,7 +230,7 @@ impl ViewMemory {
         let Some(cell) = cell_of(event) else {
             return None;
         };
-        match self.views_of(cell) {
+        match kept {
             Some(kept) => self.race_in(cell, kept, event, known, steps),
             None => None,
         }
@@ -225,13 +259,14 @@ impl ViewMemory {
     }
 
     /// Adds an event that races with no earlier one, with what it knows and what it took.
-    fn add(&mut self, event: Event, clock: &Clock, taken: &Option<Clock>)
+    fn add(&mut self, event: Event, place: Option<usize>, clock: &Clock, taken: &Option<Clock>)
         requires fits { EventFits self.old.rule self.old.objects.values self.old.tape.events event }
         requires alone { race self.old.rule self.old.tape.events event ≡ None }
         requires room { HasRoom self.old.room event }
         requires count { length self.old.tape.events + 1 < 4294967295 }
         requires knows { (u : ℕ) → slice_index clock.now u ≡ knows (views self.old.rule self.old.tape.events) (length self.old.tape.events) event u }
         requires taken { (u : ℕ) → known_by taken.now u ≡ pends (views self.old.rule self.old.tape.events) event u }
+        requires found { (cell : CellId) → accesses cell event ≡ true → MatchOption place (place_in self.old.places.objects.items cell ≡ 0) (λ n. place_in self.old.places.objects.items cell ≡ n + 1) }
         ensures log { self.new.tape.events ≡ event ∷ self.old.tape.events }
         ensures room { self.new.room ≡ one_less self.old.room }
         ensures objects { self.new.objects ≡ self.old.objects }
@@ -239,10 +274,10 @@ impl ViewMemory {
     {
         let given = given_by(&event, clock, self.rows.fenced.of(event.thread));
         self.rows.add(&event, self.next, clock, taken);
-        kept_cells::add_access(
+        self.places.add_access(
             self.rule,
             &mut self.clocks,
-            &self.places,
+            place,
             &mut self.kept,
             NextEvent {
                 event: &event,
@@ -275,11 +310,19 @@ impl ViewMemory {
     }
 
     /// The least position that a load of the cell may read.
-    fn floor<L: Ledger>(&self, thread: u32, cell: CellId, order: Order, steps: &mut Steps<L>) -> u32
+    fn floor<L: Ledger>(
+        &self,
+        kept: Option<&CellViews>,
+        thread: u32,
+        cell: CellId,
+        order: Order,
+        steps: &mut Steps<L>,
+    ) -> u32
+        requires kept { MatchOption kept (IsUntouched self.now.tape.events cell) (λ views. CellHolds self.now.tape.events cell views.now) }
         ensures floor { result ≡ floor self.now.rule self.now.tape.events thread cell order }
         ensures cost { (d : ℕ) → length self.now.tape.events < 2 ^ d → steps.new ≤ steps.old + floor_bound self.now.tape.events d }
     {
-        let Some(kept) = self.views_of(cell) else {
+        let Some(kept) = kept else {
             return 0;
         };
         let known = self.rows.threads.of(thread);
@@ -294,11 +337,12 @@ impl ViewMemory {
     }
 
     /// The newest position of the cell.
-    fn newest(&self, cell: CellId) -> u32
+    fn newest(&self, kept: Option<&CellViews>, cell: CellId) -> u32
+        requires kept { MatchOption kept (IsUntouched self.now.tape.events cell) (λ views. CellHolds self.now.tape.events cell views.now) }
         ensures newest { result ≡ newest self.now.tape.events cell }
         ensures few { result ≤ length self.now.tape.events }
     {
-        match self.views_of(cell) {
+        match kept {
             Some(kept) => kept.history.newest(),
             None => 0,
         }
@@ -313,7 +357,14 @@ impl ViewMemory {
     }
 
     /// The value at a position of the cell.
-    fn value<L: Ledger>(&self, cell: CellId, position: u32, steps: &mut Steps<L>) -> Scalar
+    fn value<L: Ledger>(
+        &self,
+        kept: Option<&CellViews>,
+        cell: CellId,
+        position: u32,
+        steps: &mut Steps<L>,
+    ) -> Scalar
+        requires kept { MatchOption kept (IsUntouched self.now.tape.events cell) (λ views. CellHolds self.now.tape.events cell views.now) }
         requires cell { HasCell self.now.objects.values cell }
         requires position { position ≤ newest self.now.tape.events cell }
         ensures value { result ≡ value_at (initial_of self.now.objects.values) self.now.tape.events cell position }
@@ -322,7 +373,7 @@ impl ViewMemory {
         if position == 0 {
             return self.initial(cell);
         }
-        match self.views_of(cell) {
+        match kept {
             Some(kept) => kept.history.value(position, steps),
             None => self.initial(cell),
         }
@@ -331,53 +382,69 @@ impl ViewMemory {
     /// Whether the value at the position is the scalar.
     fn holds<L: Ledger>(
         &self,
+        kept: Option<&CellViews>,
         cell: CellId,
         scalar: Scalar,
         position: u32,
         steps: &mut Steps<L>,
     ) -> bool
+        requires kept { MatchOption kept (IsUntouched self.now.tape.events cell) (λ views. CellHolds self.now.tape.events cell views.now) }
         requires cell { HasCell self.now.objects.values cell }
         requires position { position ≤ newest self.now.tape.events cell }
         ensures holds { result ≡ holds (initial_of self.now.objects.values) self.now.tape.events cell scalar position }
         ensures cost { steps.new ≤ steps.old + 1 }
     {
-        is_same_scalar(self.value(cell, position, steps), scalar)
+        is_same_scalar(self.value(kept, cell, position, steps), scalar)
     }
 
     /// Whether the position is from the floor on and has another value.
     fn differs<L: Ledger>(
         &self,
+        kept: Option<&CellViews>,
         others: OtherPositions,
         position: u32,
         steps: &mut Steps<L>,
     ) -> bool
+        requires kept { MatchOption kept (IsUntouched self.now.tape.events others.cell) (λ views. CellHolds self.now.tape.events others.cell views.now) }
         requires cell { HasCell self.now.objects.values others.cell }
         requires position { position ≤ newest self.now.tape.events others.cell }
         ensures differs { result ≡ differs_from (initial_of self.now.objects.values) self.now.tape.events others.cell others.floor others.scalar position }
         ensures cost { steps.new ≤ steps.old + 1 }
     {
-        others.floor <= position && !self.holds(others.cell, others.scalar, position, steps)
+        others.floor <= position && !self.holds(kept, others.cell, others.scalar, position, steps)
     }
 
     /// Position 0, if it is from the floor on and has another value: 1 or 0 positions.
-    fn count_initial<L: Ledger>(&self, others: OtherPositions, steps: &mut Steps<L>) -> u32
-        requires { HasCell self.now.objects.values others.cell }
+    fn count_initial<L: Ledger>(
+        &self,
+        kept: Option<&CellViews>,
+        others: OtherPositions,
+        steps: &mut Steps<L>,
+    ) -> u32
+        requires kept { MatchOption kept (IsUntouched self.now.tape.events others.cell) (λ views. CellHolds self.now.tape.events others.cell views.now) }
+        requires cell { HasCell self.now.objects.values others.cell }
         ensures count { result ≡ length (below (differs_from (initial_of self.now.objects.values) self.now.tape.events others.cell others.floor others.scalar) 1) }
         ensures at_most { result ≤ 1 }
         ensures cost { steps.new ≤ steps.old + 1 }
     {
-        if self.differs(others, 0, steps) { 1 } else { 0 }
+        if self.differs(kept, others, 0, steps) {
+            1
+        } else {
+            0
+        }
     }
 
     /// How many of the later positions, from one up to another, that one not among them, have another value.
     fn count_later<L: Ledger>(
         &self,
+        kept: Option<&CellViews>,
         cell: CellId,
         from: u32,
         end: u32,
         scalar: Scalar,
         steps: &mut Steps<L>,
     ) -> u32
+        requires kept { MatchOption kept (IsUntouched self.now.tape.events cell) (λ views. CellHolds self.now.tape.events cell views.now) }
         requires later { 0 < from }
         requires from { from ≤ end }
         requires end { end ≤ newest self.now.tape.events cell + 1 }
@@ -385,7 +452,7 @@ impl ViewMemory {
         ensures at_most { result ≤ end - from }
         ensures cost { (d : ℕ) → length self.now.tape.events < 2 ^ d → steps.new ≤ steps.old + (2 * d + 130) }
     {
-        match self.views_of(cell) {
+        match kept {
             Some(kept) => kept.history.count_others(scalar, from, end, steps),
             None => 0,
         }
@@ -394,10 +461,12 @@ impl ViewMemory {
     /// How many positions below one, from the floor on, have another value.
     fn count_differing<L: Ledger>(
         &self,
+        kept: Option<&CellViews>,
         others: OtherPositions,
         end: u32,
         steps: &mut Steps<L>,
     ) -> u32
+        requires kept { MatchOption kept (IsUntouched self.now.tape.events others.cell) (λ views. CellHolds self.now.tape.events others.cell views.now) }
         requires cell { HasCell self.now.objects.values others.cell }
         requires floor { others.floor ≤ end }
         requires some { 0 < end }
@@ -406,18 +475,20 @@ impl ViewMemory {
         ensures at_most { result ≤ end }
         ensures cost { (d : ℕ) → length self.now.tape.events < 2 ^ d → steps.new ≤ steps.old + count_bound d }
     {
-        let initial = self.count_initial(others, steps);
+        let initial = self.count_initial(kept, others, steps);
         let from = greater(others.floor, 1);
-        initial + self.count_later(others.cell, from, end, others.scalar, steps)
+        initial + self.count_later(kept, others.cell, from, end, others.scalar, steps)
     }
 
     /// How many positions from the floor on have another value, by a look at each.
     fn count_in_turn<L: Ledger>(
         &self,
+        kept: Option<&CellViews>,
         others: OtherPositions,
         last: u32,
         steps: &mut Steps<L>,
     ) -> u32
+        requires kept { MatchOption kept (IsUntouched self.now.tape.events others.cell) (λ views. CellHolds self.now.tape.events others.cell views.now) }
         requires cell { HasCell self.now.objects.values others.cell }
         requires last { last ≡ newest self.now.tape.events others.cell }
         requires floor { others.floor ≤ last }
@@ -428,7 +499,7 @@ impl ViewMemory {
     {
         let mut count = 0;
         for position in others.floor..last + 1 {
-            if self.differs(others, position, steps) {
+            if self.differs(kept, others, position, steps) {
                 count += 1;
             }
         }
@@ -438,10 +509,12 @@ impl ViewMemory {
     /// How many positions from the floor on have another value. Of few each is looked at.
     fn count_others<L: Ledger>(
         &self,
+        kept: Option<&CellViews>,
         others: OtherPositions,
         last: u32,
         steps: &mut Steps<L>,
     ) -> u32
+        requires kept { MatchOption kept (IsUntouched self.now.tape.events others.cell) (λ views. CellHolds self.now.tape.events others.cell views.now) }
         requires cell { HasCell self.now.objects.values others.cell }
         requires last { last ≡ newest self.now.tape.events others.cell }
         requires floor { others.floor ≤ last }
@@ -451,19 +524,21 @@ impl ViewMemory {
         ensures cost { (d : ℕ) → length self.now.tape.events < 2 ^ d → steps.new ≤ steps.old + looks_bound d (last + 1 - others.floor) (Some others.scalar) }
     {
         if last - others.floor < FEW {
-            return self.count_in_turn(others, last, steps);
+            return self.count_in_turn(kept, others, last, steps);
         }
-        self.count_differing(others, last + 1, steps)
+        self.count_differing(kept, others, last + 1, steps)
     }
 
     /// The n-th position from the floor on that has another value, from the newest down, by a look at each.
     fn nth_in_turn<L: Ledger>(
         &self,
+        kept: Option<&CellViews>,
         others: OtherPositions,
         last: u32,
         n: u32,
         steps: &mut Steps<L>,
     ) -> u32
+        requires kept { MatchOption kept (IsUntouched self.now.tape.events others.cell) (λ views. CellHolds self.now.tape.events others.cell views.now) }
         requires cell { HasCell self.now.objects.values others.cell }
         requires last { last ≡ newest self.now.tape.events others.cell }
         requires floor { others.floor ≤ last }
@@ -476,7 +551,7 @@ impl ViewMemory {
         let mut newer = 0;
         for index in 0..last + 1 - others.floor {
             let position = last - index;
-            if self.differs(others, position, steps) {
+            if self.differs(kept, others, position, steps) {
                 if newer == n {
                     return position;
                 }
@@ -490,11 +565,13 @@ impl ViewMemory {
     /// the initial scalar, so position 0 is what is left where no later position is the n-th.
     fn nth_searched<L: Ledger>(
         &self,
+        kept: Option<&CellViews>,
         others: OtherPositions,
         last: u32,
         n: u32,
         steps: &mut Steps<L>,
     ) -> u32
+        requires kept { MatchOption kept (IsUntouched self.now.tape.events others.cell) (λ views. CellHolds self.now.tape.events others.cell views.now) }
         requires cell { HasCell self.now.objects.values others.cell }
         requires last { last ≡ newest self.now.tape.events others.cell }
         requires floor { others.floor ≤ last }
@@ -504,7 +581,7 @@ impl ViewMemory {
         ensures at_most { result ≤ last }
         ensures cost { (d : ℕ) → length self.now.tape.events < 2 ^ d → steps.new ≤ steps.old + (2 * d + 130) }
     {
-        let Some(kept) = self.views_of(others.cell) else {
+        let Some(kept) = kept else {
             return 0;
         };
         let same = kept.history.count_below(others.scalar, last + 1, steps);
@@ -520,11 +597,13 @@ impl ViewMemory {
     /// The n-th position from the floor on that has another value, from the newest down. Of few each is looked at.
     fn nth_differing<L: Ledger>(
         &self,
+        kept: Option<&CellViews>,
         others: OtherPositions,
         last: u32,
         n: u32,
         steps: &mut Steps<L>,
     ) -> u32
+        requires kept { MatchOption kept (IsUntouched self.now.tape.events others.cell) (λ views. CellHolds self.now.tape.events others.cell views.now) }
         requires cell { HasCell self.now.objects.values others.cell }
         requires last { last ≡ newest self.now.tape.events others.cell }
         requires floor { others.floor ≤ last }
@@ -536,13 +615,19 @@ impl ViewMemory {
     {
         let positions = last - others.floor + 1;
         if positions <= FEW {
-            return self.nth_in_turn(others, last, n, steps);
+            return self.nth_in_turn(kept, others, last, n, steps);
         }
-        self.nth_searched(others, last, n, steps)
+        self.nth_searched(kept, others, last, n, steps)
     }
 
     /// How many positions may be read.
-    fn count_reads<L: Ledger>(&self, read: Read, steps: &mut Steps<L>) -> u32
+    fn count_reads<L: Ledger>(
+        &self,
+        kept: Option<&CellViews>,
+        read: Read,
+        steps: &mut Steps<L>,
+    ) -> u32
+        requires kept { MatchOption kept (IsUntouched self.now.tape.events read.cell) (λ views. CellHolds self.now.tape.events read.cell views.now) }
         requires cell { HasCell self.now.objects.values read.cell }
         requires count { length self.now.tape.events + 1 < 4294967295 }
         ensures count { result ≡ length (reads self.now.rule (initial_of self.now.objects.values) self.now.tape.events read.thread read.cell read.order read.excluded) }
@@ -550,8 +635,8 @@ impl ViewMemory {
         ensures cost { (d : ℕ) → length self.now.tape.events < 2 ^ d → steps.new ≤ steps.old + (floor_bound self.now.tape.events d + looks_bound d (length (options self.now.rule (initial_of self.now.objects.values) self.now.tape.events read.thread read.cell read.order)) read.excluded) }
     {
         let cell = read.cell;
-        let floor = self.floor(read.thread, cell, read.order, steps);
-        let newest = self.newest(cell);
+        let floor = self.floor(kept, read.thread, cell, read.order, steps);
+        let newest = self.newest(kept, cell);
         match read.excluded {
             None => newest - floor + 1,
             Some(scalar) => {
@@ -560,13 +645,20 @@ impl ViewMemory {
                     floor,
                     scalar,
                 };
-                self.count_others(others, newest, steps)
+                self.count_others(kept, others, newest, steps)
             }
         }
     }
 
     /// The n-th of the positions that may be read, from the newest down.
-    fn nth_read<L: Ledger>(&self, read: Read, n: u32, steps: &mut Steps<L>) -> u32
+    fn nth_read<L: Ledger>(
+        &self,
+        kept: Option<&CellViews>,
+        read: Read,
+        n: u32,
+        steps: &mut Steps<L>,
+    ) -> u32
+        requires kept { MatchOption kept (IsUntouched self.now.tape.events read.cell) (λ views. CellHolds self.now.tape.events read.cell views.now) }
         requires cell { HasCell self.now.objects.values read.cell }
         requires count { length self.now.tape.events + 1 < 4294967295 }
         requires n { n < length (reads self.now.rule (initial_of self.now.objects.values) self.now.tape.events read.thread read.cell read.order read.excluded) }
@@ -575,17 +667,17 @@ impl ViewMemory {
         ensures cost { (d : ℕ) → length self.now.tape.events < 2 ^ d → steps.new ≤ steps.old + (floor_bound self.now.tape.events d + looks_bound d (length (options self.now.rule (initial_of self.now.objects.values) self.now.tape.events read.thread read.cell read.order)) read.excluded) }
     {
         let cell = read.cell;
-        let newest = self.newest(cell);
+        let newest = self.newest(kept, cell);
         match read.excluded {
             None => newest - n,
             Some(scalar) => {
-                let floor = self.floor(read.thread, cell, read.order, steps);
+                let floor = self.floor(kept, read.thread, cell, read.order, steps);
                 let others = OtherPositions {
                     cell,
                     floor,
                     scalar,
                 };
-                self.nth_differing(others, newest, n, steps)
+                self.nth_differing(kept, others, newest, n, steps)
             }
         }
     }
@@ -593,11 +685,13 @@ impl ViewMemory {
     /// The position as an option.
     fn chosen<L: Ledger>(
         &self,
+        kept: Option<&CellViews>,
         cell: CellId,
         success: bool,
         position: u32,
         steps: &mut Steps<L>,
     ) -> Chosen
+        requires kept { MatchOption kept (IsUntouched self.now.tape.events cell) (λ views. CellHolds self.now.tape.events cell views.now) }
         requires cell { HasCell self.now.objects.values cell }
         requires position { position ≤ newest self.now.tape.events cell }
         ensures chosen { result ≡ chosen_at (initial_of self.now.objects.values) self.now.tape.events cell success position }
@@ -605,41 +699,61 @@ impl ViewMemory {
     {
         Chosen {
             position,
-            value: self.value(cell, position, steps),
+            value: self.value(kept, cell, position, steps),
             success,
         }
     }
 
     /// The n-th of the positions that may be read, as an option that changes nothing.
-    fn read_chosen<L: Ledger>(&self, read: Read, n: u32, steps: &mut Steps<L>) -> Chosen
+    fn read_chosen<L: Ledger>(
+        &self,
+        kept: Option<&CellViews>,
+        read: Read,
+        n: u32,
+        steps: &mut Steps<L>,
+    ) -> Chosen
+        requires kept { MatchOption kept (IsUntouched self.now.tape.events read.cell) (λ views. CellHolds self.now.tape.events read.cell views.now) }
         requires cell { HasCell self.now.objects.values read.cell }
         requires count { length self.now.tape.events + 1 < 4294967295 }
         requires n { n < length (reads self.now.rule (initial_of self.now.objects.values) self.now.tape.events read.thread read.cell read.order read.excluded) }
         ensures chosen { slice_get (map (chosen_at (initial_of self.now.objects.values) self.now.tape.events read.cell false) (reads self.now.rule (initial_of self.now.objects.values) self.now.tape.events read.thread read.cell read.order read.excluded)) n ≡ Some result }
         ensures cost { (d : ℕ) → length self.now.tape.events < 2 ^ d → steps.new ≤ steps.old + (floor_bound self.now.tape.events d + looks_bound d (length (options self.now.rule (initial_of self.now.objects.values) self.now.tape.events read.thread read.cell read.order)) read.excluded + 1) }
     {
-        let position = self.nth_read(read, n, steps);
-        self.chosen(read.cell, false, position, steps)
+        let position = self.nth_read(kept, read, n, steps);
+        self.chosen(kept, read.cell, false, position, steps)
     }
 
     /// The newest position, as an option that updates the cell.
-    fn update_chosen<L: Ledger>(&self, cell: CellId, steps: &mut Steps<L>) -> Chosen
-        requires { HasCell self.now.objects.values cell }
+    fn update_chosen<L: Ledger>(
+        &self,
+        kept: Option<&CellViews>,
+        cell: CellId,
+        steps: &mut Steps<L>,
+    ) -> Chosen
+        requires kept { MatchOption kept (IsUntouched self.now.tape.events cell) (λ views. CellHolds self.now.tape.events cell views.now) }
+        requires cell { HasCell self.now.objects.values cell }
         ensures chosen { result ≡ chosen_at (initial_of self.now.objects.values) self.now.tape.events cell true (newest self.now.tape.events cell) }
         ensures cost { steps.new ≤ steps.old + 1 }
     {
-        let newest = self.newest(cell);
-        self.chosen(cell, true, newest, steps)
+        let newest = self.newest(kept, cell);
+        self.chosen(kept, cell, true, newest, steps)
     }
 
     /// Whether a comparison may succeed: the newest position holds the expected scalar.
-    fn may_succeed<L: Ledger>(&self, cell: CellId, expected: Scalar, steps: &mut Steps<L>) -> bool
-        requires { HasCell self.now.objects.values cell }
+    fn may_succeed<L: Ledger>(
+        &self,
+        kept: Option<&CellViews>,
+        cell: CellId,
+        expected: Scalar,
+        steps: &mut Steps<L>,
+    ) -> bool
+        requires kept { MatchOption kept (IsUntouched self.now.tape.events cell) (λ views. CellHolds self.now.tape.events cell views.now) }
+        requires cell { HasCell self.now.objects.values cell }
         ensures may { result ≡ holds (initial_of self.now.objects.values) self.now.tape.events cell expected (newest self.now.tape.events cell) }
         ensures cost { steps.new ≤ steps.old + 1 }
     {
-        let newest = self.newest(cell);
-        self.holds(cell, expected, newest, steps)
+        let newest = self.newest(kept, cell);
+        self.holds(kept, cell, expected, newest, steps)
     }
 }
 
@@ -730,7 +844,7 @@ impl Memory for ViewMemory {
                     order,
                     excluded: None,
                 };
-                self.count_reads(read, steps)
+                self.count_reads(self.views_of(cell), read, steps)
             }
             Wanted::Swap => 1,
             Wanted::Compare {
@@ -745,8 +859,9 @@ impl Memory for ViewMemory {
                     order: failure,
                     excluded: excluded(weak, expected),
                 };
-                let failures = self.count_reads(read, steps);
-                if self.may_succeed(cell, expected, steps) {
+                let kept = self.views_of(cell);
+                let failures = self.count_reads(kept, read, steps);
+                if self.may_succeed(kept, cell, expected, steps) {
                     return failures + 1;
                 }
                 failures
@@ -770,6 +885,7 @@ impl Memory for ViewMemory {
         ensures cost { (d : ℕ) → length self.now.tape.events < 2 ^ d → steps.new ≤ steps.old + (search_bound self.now.tape.events d + failure_options self.now.rule (initial_of self.now.objects.values) self.now.tape.events thread cell wanted.now) }
         ensures cost_of_many { (d : ℕ) → length self.now.tape.events < 2 ^ d → steps.new ≤ steps.old + (search_bound self.now.tape.events d + 128) }
     {
+        let kept = self.views_of(cell);
         match *wanted {
             Wanted::Load { order } => {
                 let read = Read {
@@ -778,9 +894,9 @@ impl Memory for ViewMemory {
                     order,
                     excluded: None,
                 };
-                self.read_chosen(read, n, steps)
+                self.read_chosen(kept, read, n, steps)
             }
-            Wanted::Swap => self.update_chosen(cell, steps),
+            Wanted::Swap => self.update_chosen(kept, cell, steps),
             Wanted::Compare {
                 failure,
                 expected,
@@ -793,13 +909,13 @@ impl Memory for ViewMemory {
                     order: failure,
                     excluded: excluded(weak, expected),
                 };
-                if !self.may_succeed(cell, expected, steps) {
-                    return self.read_chosen(read, n, steps);
+                if !self.may_succeed(kept, cell, expected, steps) {
+                    return self.read_chosen(kept, read, n, steps);
                 }
                 if n == 0 {
-                    return self.update_chosen(cell, steps);
+                    return self.update_chosen(kept, cell, steps);
                 }
-                self.read_chosen(read, n - 1, steps)
+                self.read_chosen(kept, read, n - 1, steps)
             }
         }
     }
@@ -817,13 +933,15 @@ impl Memory for ViewMemory {
         ensures same_rule { self.new.rule ≡ self.old.rule }
         ensures cost { (d : ℕ) → length self.old.tape.events < 2 ^ d → steps.new ≤ steps.old + search_bound self.old.tape.events d }
     {
-        let taken = self.taken(&event);
+        let place = self.place_of(&event);
+        let kept = self.views_at(place);
+        let taken = self.taken(&event, kept);
         let mut clock = self.known_before(&event, &taken);
-        match self.race_of(&event, &clock, steps) {
+        match self.race_of(&event, kept, &clock, steps) {
             Some(earlier) => Some(Race { earlier }),
             None => {
                 clock.set(event.thread as usize, self.next);
-                self.add(event, &clock, &taken);
+                self.add(event, place, &clock, &taken);
                 None
             }
         }

@@ -75,7 +75,7 @@ pub fn read(cell: CellId, order: Order, chosen: Chosen) -> Kind
     }
 }
 
-/// A write or update that makes the position behind the one that was chosen.
+/// A write or update, which makes the position after the chosen one.
 fn make(mode: Mode, cell: CellId, order: Order, chosen: Chosen, value: Scalar) -> Kind
     requires { chosen.position < 4294967295 }
     ensures { result ≡ kinds.Access mode cell order (suc chosen.position) value }
@@ -136,7 +136,7 @@ pub fn write_results(access: Access, chosen: Chosen, values: &mut Slots) -> Resu
     }
 }
 
-/// The line of an event with that number.
+/// The line of an event with that number. It is refused only when out of memory; then there are no lines.
 pub fn line_of(alloc: Global, number: u32, event: Event) -> Result<Lines, AllocError>
     ensures { IfOk result (λ lines. lines ≡ written.Event number event ∷ []) }
 {

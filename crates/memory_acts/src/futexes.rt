@@ -24,7 +24,8 @@ pub struct CellWait {
     pub cell: CellId,
 }
 
-/// One result, of an integer of 32 bits.
+/// One result, an integer of 32 bits with these bits, in place of what the list held. It is refused only when out of memory; then the result
+/// may be missing.
 pub fn tell(bits: u128, values: &mut Slots) -> Result<(), AllocError>
     ensures { OnOk result (values.new.values ≡ (Int 32 bits ∷ []) ∷ []) }
 {

@@ -12,3 +12,5 @@ pub mod Laws
 pub mod Bounds
 pub mod Orders
 pub mod Printable
+pub mod Unwinding
+pub mod Lemmas

@@ -6,7 +6,7 @@ use Rattle.type_definitions.specs.declared.definition.TypeDef.TheVariants.{Int, 
 use Rattle.type_definitions.specs.Same.{same, agree_at, IsGraph}
 use Rattle.type_definitions.specs.Class.{class_of}
 use Rattle.type_definitions.specs.Laws.{ClassesDecide}
-use Rattle.type_definitions.proofs.Proved.{congruence, decided}
+use Rattle.type_definitions.specs.Lemmas.Proved.{congruence, decided}
 use Rattle.mu_values.specs.Constants.{width_of}
 use Rattle.ir_lex.specs.declared.name.Name.{Name}
 use Rattle.check_tables.specs.declared.tables.Tables.{Tables}
@@ -14,7 +14,7 @@ use Rattle.check_tables.specs.Types.{definition_in, class_in}
 use Rattle.check_tables.specs.Lookups.{or_zero, type_named, noted_class, definition_named}
 use Rattle.check_tables.specs.TypeTests.{is_int}
 use Rattle.bundle_laws.specs.Typed.{TablesFit}
-use Rattle.bundle_laws.proofs.TypedOperands.{nat_eq_is, both_are}
+use Rattle.bundle_laws.specs.Lemmas.TypedOperands.{nat_eq_is, both_are}
 use Rattle.mu_model.specs.Types.{class_width}
 
 agrees_with_int : (r : ℕ → ℕ → Bool) (w : ℕ) (o : Option TypeDef) → agree_at r o (Some (Int w)) ≡ true → width_of o ≡ Some w

@@ -12,7 +12,7 @@ use Rattle.checked_code.specs.Functions.{entry_of, entries_from}
 use Rattle.typed_heap.specs.Places.{with_some}
 use Rattle.mu_model.specs.Operands.{Scope, tables_in, target_block}
 use Rattle.mu_model.specs.Programs.{scopes_of}
-use Rattle.model_numbers.proofs.Names.{found_added, or_none}
+use Rattle.model_numbers.specs.Lemmas.Names.{found_added, or_none}
 use Rattle.model_numbers.proofs.Scopes.{IsPlaced, each_of, scopes_placed}
 
 abbrev is_label : List ℕ → Block → Bool

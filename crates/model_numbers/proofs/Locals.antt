@@ -4,7 +4,7 @@ use Rattle.std.specs.List.{position_from}
 use Rattle.std.proofs.lemmas.Iterator.Adapters.{position_from-zero}
 use Rattle.demands.specs.Demands.{AllMet, first_unmet, or_else}
 use Rattle.name_scopes.specs.Names.{found}
-use Rattle.demands.proofs.Meeting.{all_met}
+use Rattle.demands.specs.Lemmas.Meeting.{all_met}
 use Rattle.ir_lex.specs.declared.name.Name.{Name}
 use Rattle.ir_tree.specs.declared.code.Inst.{Inst}
 use Rattle.ir_tree.specs.declared.code.Parameter.{Parameter}
@@ -17,7 +17,7 @@ use Rattle.checked_code.specs.declared.scopes.Body.{Body}
 use Rattle.checked_code.specs.declared.scopes.Locals.{Locals}
 use Rattle.checked_code.specs.declared.scopes.Variable.{Variable}
 use Rattle.checked_code.specs.Instructions.{no_locals, bound, bound_results, after, after_all, gives, inst_demands, insts_demands, is_ending}
-use Rattle.bundle_laws.proofs.TypedOperands.{nat_eq_is}
+use Rattle.bundle_laws.specs.Lemmas.TypedOperands.{nat_eq_is}
 use Rattle.checked_code.specs.Blocks.{bound_parameters, bound_handler, head_locals}
 use Rattle.checked_code.specs.Checking.{check_demands}
 use Rattle.typed_heap.specs.Places.{with_some}
@@ -25,8 +25,8 @@ use Rattle.frames.specs.Activations.{Value}
 use Rattle.mu_model.specs.Operands.{Scope, tables_in, variables, local_value}
 use Rattle.mu_model.specs.Programs.{scopes_of}
 use Rattle.model_numbers.specs.Laws.{variable_names}
-use Rattle.model_numbers.proofs.Names.{found_added}
-use Rattle.model_numbers.proofs.Operands.{body}
+use Rattle.model_numbers.specs.Lemmas.Names.{found_added}
+use Rattle.model_numbers.specs.Lemmas.Operands.{body}
 use Rattle.model_numbers.proofs.Scopes.{IsMet, each_of, scopes_met}
 
 abbrev is_name : List ℕ → Name → Bool

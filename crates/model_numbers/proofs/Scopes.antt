@@ -8,15 +8,15 @@ use Rattle.ir_tree.specs.declared.items.Funcdef.{Funcdef}
 use Rattle.ir_tree.specs.declared.items.Item.{Item}
 use Rattle.ir_tree.specs.declared.items.Item.TheVariants as items
 use Rattle.checked_code.specs.Instructions.{insts_demands}
-use Rattle.bundle_laws.proofs.TypedVariables.{get_more}
+use Rattle.bundle_laws.specs.Lemmas.TypedVariables.{get_more}
 use Rattle.checked_code.specs.Blocks.{head_locals, blocks_demands}
 use Rattle.checked_code.specs.Functions.{body_of, functions_demands}
 use Rattle.checked_code.specs.Checking.{bundle_tables}
-use Rattle.bundle_laws.proofs.Graph.{get_right}
+use Rattle.bundle_laws.specs.Lemmas.Graph.{get_right}
 use Rattle.mu_model.specs.Operands.{Scope, tables_in}
 use Rattle.mu_model.specs.Programs.{scopes_in, scopes_from, scopes_of}
-use Rattle.model_numbers.proofs.Names.{some_is}
-use Rattle.model_numbers.proofs.Operands.{body}
+use Rattle.model_numbers.specs.Lemmas.Names.{some_is}
+use Rattle.model_numbers.specs.Lemmas.Operands.{body}
 
 -- ---- what holds of each
 

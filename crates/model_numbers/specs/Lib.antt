@@ -5,3 +5,4 @@ pub mod Numbered
 pub mod Examples
 -- Laws: it is the bundle by its names.
 pub mod Laws
+pub mod Lemmas

@@ -13,7 +13,7 @@ use Rattle.mu_command.specs.Allowed.{Seen, AllowsFile, AllowsJob}
 use Rattle.mu_command.specs.Parts.{IsAnswer}
 use Rattle.mu_command.specs.Written.{Writes}
 use Rattle.mu_command.specs.Central.{Answered}
-use Rattle.mu_command.proofs.Beginnings.{some_named}
+use Rattle.mu_command.specs.Lemmas.Beginnings.{some_named}
 use Rattle.mu_command.proofs.Puts.{no_memory}
 
 pub answered : (seen : Seen) (words : List (List ℕ)) (answer : Answer) (w0 w1 e0 e1 : Option (List ℕ)) (status : Status) →

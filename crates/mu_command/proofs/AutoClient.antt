@@ -10,8 +10,8 @@ use Rattle.mu_model.specs.Run.{client_answers, with_client}
 use Rattle.mu_model.specs.Step.{step}
 use Rattle.client_hooks.specs.AutoAnswers.{GoesOn}
 use Rattle.client_hooks.specs.Laws.{blank_resumes}
-use Rattle.client_hooks.proofs.GoingOn.{goes_on}
-use Rattle.text_programs.proofs.Asking.{of_trap}
+use Rattle.client_hooks.specs.Lemmas.GoingOn.{goes_on}
+use Rattle.text_programs.specs.Lemmas.Asking.{of_trap}
 use Rattle.mu_command.specs.Central.{AutoGoesOn}
 
 pub auto_goes_on : (p : Program) (c : Configuration) → client_answers p c.client (step p c) ≢ Stuck → AutoGoesOn p c

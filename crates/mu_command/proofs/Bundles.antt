@@ -17,7 +17,7 @@ use Rattle.mu_command.specs.Job.{job_of, file_of}
 use Rattle.mu_command.specs.Answer.{Outcomes, first_bundles, judged}
 use Rattle.mu_command.specs.Allowed.{Seen, AllowsFile}
 use Rattle.mu_command.specs.Parts.{IsJudged, OfFile, OfBundles, AreRead, IsFound, SameSlot}
-use Rattle.mu_command.proofs.Beginnings.{same_slot, some_named}
+use Rattle.mu_command.specs.Lemmas.Beginnings.{same_slot, some_named}
 use Rattle.mu_command.proofs.Together.{together}
 
 -- ---- the first bundles rest on the outcomes of their files

@@ -1,5 +1,5 @@
 -- The pieces of a run, step by step.
-use Rattle.std.proofs.Common.{◌≡◌, ℕ, zero, suc, ◌+◌, List, [], ◌∷◌, ◌++◌, length, reverse, refl, sym, ap, ◌∙◌, subst, arith, Option, Some, None, append_assoc, length-append, add_assoc}
+use Rattle.std.proofs.Common.{◌≡◌, ℕ, zero, suc, ◌+◌, ◌≤◌, List, [], ◌∷◌, ◌++◌, length, reverse, refl, sym, ap, ◌∙◌, subst, arith, Option, Some, None, append_assoc, length-append, add_assoc}
 use Rattle.std.proofs.lemmas.List.{reverse-reverse}
 use Rattle.std.proofs.lemmas.List.Folds.{concat-append}
 use Rattle.std.specs.List.{concat}
@@ -24,7 +24,7 @@ use Rattle.run_state.specs.Outcome.{outcome_of}
 use Rattle.mu_texts.specs.Answer.{Answer, run_answer}
 use Rattle.model_laws.specs.Bounds.{HasEnding}
 use Rattle.mu_command.specs.Written.{cuts_from, AppendsEnds, Wrote, WrotePart, IsWhole, Writes}
-use Rattle.mu_command.specs.Steps.{answered_step, step_pieces, last_piece, behind_pieces, Goes, IsOver}
+use Rattle.mu_command.specs.Steps.{answered_step, own_answer, step_pieces, last_piece, behind_pieces, Goes, IsOver}
 use Rattle.mu_command.proofs.Puts.{appends_twice, nothing_put, put_whole, put_stops, only_put, no_memory}
 
 -- ---- pieces behind pieces
@@ -102,8 +102,12 @@ last_stops p status answer w0 w1 e0 e1 fails put =
 
 -- ---- a step of the run
 
+pub no_more : (p : Program) (n : ℕ) (c : Configuration) → n ≤ 0 → HasEnding (run p n c) → ⊥
+no_more p zero c l h = h
+no_more p (suc n) c l h = omega (arith, l)
+
 pub not_stuck : (p : Program) (n : ℕ) (c : Configuration) → HasEnding (run p (suc n) c) → answered_step p c ≢ Stuck
-not_stuck p n c ends e = subst (λ (o : Outcome). HasEnding (goes_on (run p n) o)) e ends
+not_stuck p n c ends e = subst (λ (o : Outcome). HasEnding (goes_on (run p n) o)) (sym (own_answer p c) ∙ e) ends
 
 -- lines that were written do not matter
 lines_aside : (p : Program) (n : ℕ) (c : Configuration) (ls : List Line) → run p n (record c { lines = ls }) ≡ run p n c
@@ -115,12 +119,12 @@ twice ls = reverse-reverse ls
 
 pub run_goes : (p : Program) (n : ℕ) (c d : Configuration) (ls : List Line) → answered_step p c ≡ Next (record d { lines = reverse ls }) → run p (suc n) c ≡ behind ls (run p n d)
 run_goes p n c d ls e =
-    ap (goes_on (run p n)) e
+    ap (goes_on (run p n)) (sym (own_answer p c) ∙ e)
     ∙ ap (λ (r : Run). behind (reverse (reverse ls)) r) (lines_aside p n d (reverse ls))
     ∙ ap (λ (l : List Line). behind l (run p n d)) (twice ls)
 
 pub run_ends : (p : Program) (n : ℕ) (c : Configuration) (ls : List Line) (e : Ending) → answered_step p c ≡ End ls e → run p (suc n) c ≡ Ends [] ls e
-run_ends p n c ls e h = ap (goes_on (run p n)) h
+run_ends p n c ls e h = ap (goes_on (run p n)) (sym (own_answer p c) ∙ h)
 
 pub behind_ends : (ls : List Line) (r : Run) → HasEnding (behind ls r) → HasEnding r
 behind_ends ls (Ends steps lines e) h = tt

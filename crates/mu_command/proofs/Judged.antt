@@ -24,7 +24,7 @@ use Rattle.mu_texts.specs.declared.ready.Ready.TheVariants.{Entered, Judged}
 use Rattle.mu_texts.specs.declared.ready.Telling.TheVariants.{Lines}
 use Rattle.mu_texts.specs.Answer.{Answer, Part, ◌>>=◌, line, accepted, for_judge, log_part, ready_part, verdict_answer, run_answer, run_of}
 use Rattle.mu_texts.specs.Start.{Started}
-use Rattle.mu_texts.proofs.Runnable.{goes_on, of_accepted, was_entered}
+use Rattle.mu_texts.specs.Lemmas.Runnable.{goes_on, of_accepted, was_entered}
 use Rattle.mu_command.specs.declared.job.Job.{Job}
 use Rattle.mu_command.specs.declared.job.Job.TheVariants.{Run}
 use Rattle.mu_command.specs.declared.job.RunJob.{RunJob}
@@ -33,7 +33,7 @@ use Rattle.mu_command.specs.Answer.{Outcomes, answer_of, begun, found, judged}
 use Rattle.mu_command.specs.Allowed.{file_limit}
 use Rattle.mu_command.specs.Central.{outcome_of}
 use Rattle.mu_command.specs.Judged.{IsShort, PrintedRunsAreJudged, PrintedRunsAreAnsweredYes}
-use Rattle.mu_command.proofs.Completeness.{within}
+use Rattle.mu_command.specs.Lemmas.Completeness.{within}
 use Rattle.mu_command.proofs.Limits.{words_few}
 use Rattle.mu_command.proofs.Moments.{Begins, begins, from_bytes}
 

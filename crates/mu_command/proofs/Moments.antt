@@ -36,8 +36,8 @@ use Rattle.mu_texts.specs.Start.{Started}
 use Rattle.mu_texts.specs.Refusals.{hail_fault_name, load_fault_name, script_fault_name}
 use Rattle.mu_texts.specs.Answer.{Part, ◌>>=◌, accepted, as_written, for_check, for_print, for_judge, for_join, joined_part, log_part, entered, hail_part, filled_part, loaded, client_part, scheduled, started, run_of, run_answer, trial_answer, ready_answer}
 use Rattle.mu_texts.specs.Comes.{IsLoaded}
-use Rattle.mu_texts.proofs.Runnable.{goes_on, was_met, was_entered, loaded_runs_end}
-use Rattle.mu_texts.proofs.Moments.{moments_of_run}
+use Rattle.mu_texts.specs.Lemmas.Runnable.{goes_on, was_met, was_entered, loaded_runs_end}
+use Rattle.mu_texts.specs.Lemmas.Moments.{moments_of_run}
 use Rattle.trial_text.specs.Trial.{trial_text}
 use Rattle.mu_command.specs.declared.job.Job.{Job}
 use Rattle.mu_command.specs.declared.job.Job.TheVariants.{Check, Print, Run, Trial, Judge, Join}
@@ -45,8 +45,8 @@ use Rattle.mu_command.specs.declared.job.RunJob.{RunJob}
 use Rattle.mu_command.specs.Job.{word}
 use Rattle.mu_command.specs.Answer.{Outcomes, fetched, judged, begun, trial_begun, trial_found, first_bundles, found}
 use Rattle.mu_command.specs.Central.{EachMoment, EachRunEnds, HasItsEnding}
-use Rattle.mu_command.proofs.Trials.{entry_word, usual_run, no_files}
-use Rattle.mu_command.proofs.Way.{after_entry, after_objects, after_client, after_picks}
+use Rattle.mu_command.specs.Lemmas.Trials.{entry_word, usual_run, no_files}
+use Rattle.mu_command.specs.Lemmas.Way.{after_entry, after_objects, after_client, after_picks}
 
 -- a file that comes to something has bytes that do
 pub from_bytes : {A : Type 0} (what : What) (part : List ℕ → Part A) (o : Outcome) (x : A) → judged what part o ≡ Ok x → (bytes : List ℕ) × (o ≡ got bytes) × (part bytes ≡ Ok x)

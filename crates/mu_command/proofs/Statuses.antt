@@ -20,14 +20,14 @@ use Rattle.mu_texts.specs.declared.ready.Ready.TheVariants as ready
 use Rattle.mu_texts.specs.declared.ready.Telling.{Telling}
 use Rattle.mu_texts.specs.declared.ready.Telling.TheVariants.{Lines, Counts}
 use Rattle.mu_texts.specs.Answer.{Answer, no_answer, Part, line, is_end, verdict_status, run_of, told_answer, ready_answer, ready_part}
-use Rattle.mu_texts.proofs.Accepting.{StopsSo}
+use Rattle.mu_texts.specs.Lemmas.Accepting.{StopsSo}
 use Rattle.mu_command.specs.declared.job.Job.{Job}
 use Rattle.mu_command.specs.Answer.{Outcomes, fetched, found, answer_of}
 use Rattle.mu_command.specs.Allowed.{Seen}
 use Rattle.mu_command.specs.Job.{job_of}
 use Rattle.mu_command.specs.Parts.{IsAnswer, IsFound}
 use Rattle.mu_command.specs.Written.{IsWhole}
-use Rattle.mu_command.proofs.Accepting.{finding_all}
+use Rattle.mu_command.specs.Lemmas.Accepting.{finding_all}
 
 -- a status of a whole text, and not Usage
 abbrev IsUsual : Status → Type 0

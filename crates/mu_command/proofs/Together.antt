@@ -22,7 +22,7 @@ use Rattle.mu_texts.specs.Comes.{Comes}
 use Rattle.mu_command.specs.Answer.{Outcomes, judged, begun, trial_found, found}
 use Rattle.mu_command.specs.Allowed.{Seen, AllowsFile}
 use Rattle.mu_command.specs.Parts.{IsJudged, IsBegun, IsAnswer, IsFound, OfFile, OfRun, SameSlot}
-use Rattle.mu_command.proofs.Beginnings.{same_slot, some_named, outcomes_with}
+use Rattle.mu_command.specs.Lemmas.Beginnings.{same_slot, some_named, outcomes_with}
 
 -- allowed outcomes, and the answer to them
 pub together : (seen : Seen) (words : List (List ℕ)) (job : Job) (o : Outcomes) (answer : Answer) → job_of words ≡ Some job →

@@ -17,8 +17,8 @@ use Rattle.mu_texts.specs.declared.ready.Ready.{Ready}
 use Rattle.mu_texts.specs.declared.ready.Ready.TheVariants as ready
 use Rattle.mu_texts.specs.declared.ready.Telling.TheVariants.{Lines, Counts}
 use Rattle.mu_texts.specs.Answer.{Answer, Part, ◌>>=◌, accepted, as_written, for_check, for_print, for_judge, for_join, joined_part, log_part, is_end, is_yes, verdict_answer, verdict_status, ready_answer}
-use Rattle.mu_texts.proofs.Refusing.{IsNoVerdict, no_verdict_is_no, no_exactly}
-use Rattle.mu_texts.proofs.Runnable.{goes_on}
+use Rattle.mu_texts.specs.Lemmas.Refusing.{IsNoVerdict, no_verdict_is_no, no_exactly}
+use Rattle.mu_texts.specs.Lemmas.Runnable.{goes_on}
 use Rattle.trial_text.specs.Trial.{trial_text}
 use Rattle.mu_command.specs.declared.job.Job.{Job}
 use Rattle.mu_command.specs.declared.job.Job.TheVariants.{Check, Print, Run, Trial, Judge, Join}
@@ -28,7 +28,7 @@ use Rattle.mu_command.specs.Allowed.{Seen, AllowsWord}
 use Rattle.mu_command.specs.Written.{Writes}
 use Rattle.mu_command.specs.Central.{Answered, IsAccepted, HasVerdict, FollowsVerdict, OfJob}
 use Rattle.mu_command.proofs.Moments.{from_bytes}
-use Rattle.mu_command.proofs.Accepting.{accepted_cause}
+use Rattle.mu_command.specs.Lemmas.Accepting.{accepted_cause}
 
 -- ---- no job but that of a log comes to a verdict
 

@@ -7,3 +7,4 @@ pub mod Central
 pub mod Examples
 pub mod Steps
 pub mod Judged
+pub mod Lemmas

@@ -13,6 +13,7 @@ use Rattle.mu_model.specs.Outcomes.{Outcome, Next}
 use Rattle.mu_model.specs.Programs.{named}
 use Rattle.mu_model.specs.Step.{step}
 use Rattle.mu_model.specs.Run.{Run, Ends, Breaks, Unfinished, client_answers, run}
+use Rattle.client_hooks.specs.Ways.{by_entries, client_answers_by, entries_answer}
 use Rattle.run_texts.specs.Texts.{Text, ending_text}
 use Rattle.run_texts.specs.Pieces.{lines_text}
 use Rattle.run_state.specs.Outcome.{outcome_of}
@@ -35,9 +36,12 @@ last_piece bundle lines e = lines_text bundle lines ++ ending_text bundle e ++ c
 abbrev pub behind_pieces : List Text → Answer → Answer
 behind_pieces pieces answer = record { pieces = pieces ++ answer.pieces; status = answer.status }
 
--- a step by the client's own answer
+-- a step by the client's own answer, which is that of its entries
 abbrev pub answered_step : Program → Configuration → Outcome
-answered_step p c = client_answers p c.client (step p c)
+answered_step p c = client_answers_by by_entries p c.client (step p c)
+
+pub own_answer : (p : Program) (c : Configuration) → answered_step p c ≡ client_answers p c.client (step p c)
+own_answer p c = entries_answer p c.client (step p c)
 
 -- the step went from one configuration to another, and its pieces were put
 pub record Goes (bundle : List Item) (c d : Configuration) (written new_written marks new_marks : Option (List ℕ)) : Type 0 where

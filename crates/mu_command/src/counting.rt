@@ -13,7 +13,7 @@ ghost use Rattle.mu_command.specs.Steps.{answered_step, IsCounted, tally_behind}
 
 use crate::writing::put_text;
 use checked_code::Checked;
-use client_hooks::Determined;
+use client_script::RunClient;
 use itoa::Buffer;
 use mem_axioms::Memory;
 use mu_base::{Sink, Status};
@@ -56,9 +56,7 @@ fn events_in(lines: &[Line]) -> usize
 }
 
 // Makes a step of any kind and counts it. None where no memory is found.
-fn count_any_step<M: Memory + Drop, C: Determined + Drop>(
-    machine: &mut Machine<M, C>,
-) -> Option<Counted>
+fn count_any_step<M: Memory + Drop>(machine: &mut Machine<M, RunClient>) -> Option<Counted>
     requires fresh { machine.old.ended ≡ false }
     requires there { answered_step (named machine.old.bundle) machine.old.configuration ≢ Stuck }
     ensures same { machine.new.bundle ≡ machine.old.bundle }
@@ -80,9 +78,7 @@ fn count_any_step<M: Memory + Drop, C: Determined + Drop>(
 
 // Makes a step and counts it, as `count_any_step` does. Most steps are frequent ones, which have no lines.
 #[tactic(auto, using(crate::proofs::Tallies::at_once))]
-fn count_step<M: Memory + Drop, C: Determined + Drop>(
-    machine: &mut Machine<M, C>,
-) -> Option<Counted>
+fn count_step<M: Memory + Drop>(machine: &mut Machine<M, RunClient>) -> Option<Counted>
     requires fresh { machine.old.ended ≡ false }
     requires there { answered_step (named machine.old.bundle) machine.old.configuration ≢ Stuck }
     ensures same { machine.new.bundle ≡ machine.old.bundle }
@@ -99,10 +95,7 @@ fn count_step<M: Memory + Drop, C: Determined + Drop>(
 }
 
 // Makes the steps of a run up to its ending, which comes within so many, and counts them. None where no memory is found.
-fn count_run<M: Memory + Drop, C: Determined + Drop>(
-    machine: &mut Machine<M, C>,
-    limit: u64,
-) -> Option<Tally>
+fn count_run<M: Memory + Drop>(machine: &mut Machine<M, RunClient>, limit: u64) -> Option<Tally>
     requires fresh { machine.old.ended ≡ false }
     requires ends { HasEnding (run (named machine.old.bundle) limit machine.old.configuration) }
     ensures { IfSome result (λ tally. tally_behind 0 0 (run (named machine.old.bundle) limit machine.old.configuration) ≡ Some tally) }
@@ -125,7 +118,7 @@ fn count_run<M: Memory + Drop, C: Determined + Drop>(
             }
         }
     }
-    None
+    unreachable!()
 }
 
 // Appends words and a number behind them.
@@ -166,12 +159,12 @@ fn write_tally<S: Sink>(alloc: Global, out: &mut S, n: u32, code: &Checked, tall
 /// Makes the steps of the run of the made bundle with `n` pairs up to its ending, which comes within so many, and writes the line that
 /// tells of it.
 #[tactic(auto, using(crate::proofs::Puts::no_memory))]
-pub fn write_counts<S: Sink, M: Memory + Drop, C: Determined + Drop>(
+pub fn write_counts<S: Sink, M: Memory + Drop>(
     alloc: Global,
     out: &mut S,
     n: u32,
     code: &Checked,
-    machine: &mut Machine<M, C>,
+    machine: &mut Machine<M, RunClient>,
     steps: u64,
 ) -> Status
     requires same { machine.old.bundle ≡ code.now }

@@ -27,7 +27,7 @@ use std::mem;
 use typed_heap::Heap;
 
 // Fetches a bundle and judges it, for `mu check`.
-#[tactic(auto, using(crate::proofs::Files::files))]
+#[tactic(auto, using(crate::specs::Lemmas::Files::files))]
 fn find_checked<I: Inputs>(
     alloc: Global,
     words: &Words,
@@ -46,7 +46,7 @@ fn find_checked<I: Inputs>(
 }
 
 // Fetches a bundle and reads it, for `mu print`.
-#[tactic(auto, using(crate::proofs::Files::files))]
+#[tactic(auto, using(crate::specs::Lemmas::Files::files))]
 fn find_printed<I: Inputs>(
     alloc: Global,
     words: &Words,
@@ -65,7 +65,7 @@ fn find_printed<I: Inputs>(
 }
 
 // Fetches a log and judges it.
-#[tactic(auto, using(crate::proofs::Files::files))]
+#[tactic(auto, using(crate::specs::Lemmas::Files::files))]
 fn find_verdict<I: Inputs>(
     alloc: Global,
     words: &Words,
@@ -85,7 +85,7 @@ fn find_verdict<I: Inputs>(
 }
 
 /// Fetches a bundle and judges it, for a run. After a refusal there is only the line that names it.
-#[tactic(auto, using(crate::proofs::Files::files))]
+#[tactic(auto, using(crate::specs::Lemmas::Files::files))]
 pub fn find_code<I: Inputs>(
     alloc: Global,
     words: &Words,
@@ -104,7 +104,7 @@ pub fn find_code<I: Inputs>(
 }
 
 // Fetches the script for the heap, and fills it.
-#[tactic(auto, using(crate::proofs::Files::files))]
+#[tactic(auto, using(crate::specs::Lemmas::Files::files))]
 fn find_heap<I: Inputs>(
     alloc: Global,
     words: &Words,
@@ -124,7 +124,7 @@ fn find_heap<I: Inputs>(
 }
 
 // Fetches the script of the client and reads it.
-#[tactic(auto, using(crate::proofs::Files::files))]
+#[tactic(auto, using(crate::specs::Lemmas::Files::files))]
 fn find_client<I: Inputs>(
     alloc: Global,
     words: &Words,
@@ -144,7 +144,7 @@ fn find_client<I: Inputs>(
 }
 
 // Fetches the schedule and reads it.
-#[tactic(auto, using(crate::proofs::Files::files))]
+#[tactic(auto, using(crate::specs::Lemmas::Files::files))]
 fn find_picks<I: Inputs>(
     alloc: Global,
     words: &Words,
@@ -162,7 +162,7 @@ fn find_picks<I: Inputs>(
 }
 
 // How the run of a bundle begins.
-#[tactic(auto, using(crate::proofs::Beginnings::beginnings))]
+#[tactic(auto, using(crate::specs::Lemmas::Beginnings::beginnings))]
 fn find_start<I: Inputs>(
     alloc: Global,
     words: &Words,

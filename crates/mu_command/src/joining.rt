@@ -15,7 +15,7 @@ use std::mem;
 use text_forms::Listing;
 
 // Fetches the bundle with number `k` of those that are joined, and reads it.
-#[tactic(auto, using(crate::proofs::Files::files))]
+#[tactic(auto, using(crate::specs::Lemmas::Files::files))]
 fn find_bundle<I: Inputs>(
     alloc: Global,
     words: &Words,

@@ -110,7 +110,7 @@ pub fn mu<I: Inputs, S: Sink>(alloc: Global, words: &Words, inputs: &mut I, out:
     ensures sound_endings { EachMoment EndsSoundly words.now }
     // Where the next step asks a client that has no entries left and passes zero and NULL, the run goes on after its answer.
     ensures auto_goes_on { EachMoment AutoGoesOn words.now }
-    // The run that the words ask for begins, and comes to its ending, whose status is that of the answer.
+    // Where all that comes before it is accepted, the run begins, and comes to its ending within its budget, whose status is the answer's.
     ensures ends { EachRunEnds words.now }
 
     // What the inputs tell stays, and no count of faults falls.

@@ -16,7 +16,6 @@ ghost use Rattle.mu_command.specs.Steps.{step_pieces, last_piece, behind_pieces,
 use crate::counting::write_counts;
 use crate::writing::{put_line, put_whole_text};
 use checked_code::Checked;
-use client_hooks::Determined;
 use client_script::RunClient;
 use ir_print::print_bundle;
 use ir_tree::Bundle;
@@ -114,10 +113,10 @@ fn put_last<S: Sink>(
 
 // Makes a step of any kind and puts its lines. None where the run goes on, else the status of the program.
 #[tactic(auto, using(crate::proofs::InSteps::running))]
-fn make_any_step<S: Sink, M: Memory + Drop, C: Determined + Drop>(
+fn make_any_step<S: Sink, M: Memory + Drop>(
     out: &mut S,
     code: &Checked,
-    machine: &mut Machine<M, C>,
+    machine: &mut Machine<M, RunClient>,
     text: &mut Vec<u8>,
 ) -> Option<Status>
     requires same { machine.old.bundle ≡ code.now }
@@ -145,10 +144,10 @@ fn make_any_step<S: Sink, M: Memory + Drop, C: Determined + Drop>(
 
 // Makes a step as `make_any_step` does. Most steps are frequent ones, which have no lines.
 #[tactic(auto, using(crate::proofs::InSteps::at_once))]
-fn make_step<S: Sink, M: Memory + Drop, C: Determined + Drop>(
+fn make_step<S: Sink, M: Memory + Drop>(
     out: &mut S,
     code: &Checked,
-    machine: &mut Machine<M, C>,
+    machine: &mut Machine<M, RunClient>,
     text: &mut Vec<u8>,
 ) -> Option<Status>
     requires same { machine.old.bundle ≡ code.now }
@@ -168,11 +167,11 @@ fn make_step<S: Sink, M: Memory + Drop, C: Determined + Drop>(
 }
 
 // Makes the steps of a run up to its ending, which comes within so many, and puts the lines of each.
-fn write_steps<S: Sink, M: Memory + Drop, C: Determined + Drop>(
+fn write_steps<S: Sink, M: Memory + Drop>(
     alloc: Global,
     out: &mut S,
     code: &Checked,
-    machine: &mut Machine<M, C>,
+    machine: &mut Machine<M, RunClient>,
     steps: u64,
 ) -> Status
     requires same { machine.old.bundle ≡ code.now }
@@ -192,7 +191,7 @@ fn write_steps<S: Sink, M: Memory + Drop, C: Determined + Drop>(
             Some(status) => return status,
         }
     }
-    Status::Memory
+    unreachable!()
 }
 
 // A machine at the beginning of a run, over the memory of clocks, with the run's client.
@@ -218,11 +217,11 @@ fn begin(
 }
 
 // Makes the steps of a run up to its ending, which comes within so many, and writes what is to be told of it.
-fn write_told<S: Sink, M: Memory + Drop, C: Determined + Drop>(
+fn write_told<S: Sink, M: Memory + Drop>(
     alloc: Global,
     out: &mut S,
     code: &Checked,
-    machine: &mut Machine<M, C>,
+    machine: &mut Machine<M, RunClient>,
     steps: u64,
     telling: Telling,
 ) -> Status

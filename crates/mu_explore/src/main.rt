@@ -1,6 +1,9 @@
 //! The program `mu_explore`: does what the words of the command line ask for, over the files of the system and standard output.
 #![tactic(auto)]
 
+mod progress;
+
+use crate::progress::Progress;
 use mu_base::{FileInputs, Status, StdSink, Words};
 use std::alloc::AllocError;
 use std::env;
@@ -32,5 +35,9 @@ fn main(rt: HostRuntime) -> ExitCode {
     };
     let mut inputs = FileInputs::new(&rt);
     let mut out = StdSink::new(&rt);
-    ExitCode::from(explore::explore(rt.alloc(), &words, &mut inputs, &mut out).code())
+    let mut progress = Progress::new(&rt);
+    let status = explore::explore(rt.alloc(), &words, &mut inputs, &mut out, &mut progress);
+    // A search that was refused left its line.
+    progress.erase();
+    ExitCode::from(status.code())
 }

@@ -50,12 +50,17 @@ abbrev pub updated : UpdateOp → Scalar → Scalar → Option Scalar
 updated updates.Xchg old v = Some v
 updated op old v = updated_integer op old v
 
--- what is logged of an access of a cell by the option that was picked
+-- what is logged of an access of a cell that takes a choice, where an update writes w
+abbrev pub taking : Access → CellId → Chosen → Scalar → Kind
+taking (Loads o) cell k w = kinds.Access Read cell o k.position k.value
+taking (Stores o v) cell k w = kinds.Access Write cell o (suc k.position) v
+taking (Compares weak o f expected v) cell k w = if k.success then kinds.Access Update cell o (suc k.position) v else kinds.Access Read cell f k.position k.value
+taking (Updates o op v) cell k w = kinds.Access Update cell o (suc k.position) w
+
+-- the same, where an update writes what it makes of the value that it reads
 abbrev pub kind_of : Access → CellId → Chosen → Option Kind
-kind_of (Loads o) cell k = Some (kinds.Access Read cell o k.position k.value)
-kind_of (Stores o v) cell k = Some (kinds.Access Write cell o (suc k.position) v)
-kind_of (Compares weak o f expected v) cell k = Some (if k.success then kinds.Access Update cell o (suc k.position) v else kinds.Access Read cell f k.position k.value)
-kind_of (Updates o op v) cell k = with_some (updated op k.value v) (λ s. Some (kinds.Access Update cell o (suc k.position) s))
+kind_of (Updates o op v) cell k = with_some (updated op k.value v) (λ s. Some (taking (Updates o op v) cell k s))
+kind_of a cell k = Some (taking a cell k k.value)
 
 abbrev pub access_results : Access → Chosen → List Value
 access_results (Loads o) k = (k.value ∷ []) ∷ []

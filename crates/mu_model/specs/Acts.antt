@@ -65,8 +65,8 @@ pub data Act : Type 0 where
   Waits : Bool → Scalar → CellId → Act
   Wakes : ℕ → CellId → Act
 
--- what an instruction does, where an exception goes, and the values that are kept; None stands where a name or an operand
--- has no value, or one of another kind than is wanted
+-- what an instruction does, where an exception goes, and the values that are kept; None stands where an operand has no value, or one of
+-- another kind than is wanted
 pub record Doing : Type 0 where
   pub act : Option Act
   pub exceptional : Option (Option Goal)

@@ -1,9 +1,11 @@
 -- Calls, returns, and exceptions that look for a frame.
-use Rattle.std.specs.Prelude.{ℕ, List, [], ◌∷◌, Option, Some, None, Result, Ok, Err, ok_or, option_map}
+use Rattle.std.specs.Prelude.{ℕ, suc, List, [], ◌∷◌, Option, Some, Result, Ok, Err, ok_or, option_map, slice_get, take, drop}
+use Rattle.std.specs.Option.{option_map_or}
 use Rattle.mu_values.specs.declared.scalars.Scalar.{Scalar}
 use Rattle.mu_values.specs.Slots.{TypedValues}
 use Rattle.typed_heap.specs.Places.{with_some}
-use Rattle.frames.specs.Activations.{Value, Goal, Activation}
+use Rattle.frames.specs.Activations.{Value, Activation}
+use Rattle.frames.specs.Handlers.{first_handler}
 use Rattle.mu_model.specs.declared.lines.Note.{Note}
 use Rattle.mu_model.specs.declared.lines.Note.TheVariants.{Returned}
 use Rattle.mu_model.specs.declared.endings.Case.{Case}
@@ -48,18 +50,14 @@ pub record EnteredFrames : Type 0 where
   pub frames : List Activation
   pub ended : List Activation
 
--- An exception goes to the first frame from the top that has a handler, and the frames above it end.
-abbrev pub also_ended : Activation → Result EnteredFrames Case → Result EnteredFrames Case
-also_ended f (Err k) = Err k
-also_ended f (Ok r) = Ok (record r { ended = f ∷ r.ended })
+-- the frame with that number catches an exception at its handler, and the frames above it end
+abbrev pub caught_at : Program → Scalar → List Activation → ℕ → Option (Result EnteredFrames Case)
+caught_at p e fs n =
+    with_some (slice_get fs n) (λ f. with_some f.handler (λ g. with_some (caught p f g e) (λ h. Some (Ok (record { frames = h ∷ drop (suc n) fs; ended = take n fs })))))
 
-abbrev pub caught_by : Program → Scalar → Activation → List Activation → Option Goal → Option (Result EnteredFrames Case) → Option (Result EnteredFrames Case)
-caught_by p e f fs (Some g) below = with_some (caught p f g e) (λ h. Some (Ok (record { frames = h ∷ fs; ended = [] })))
-caught_by p e f fs None below = option_map (also_ended f) below
-
+-- an exception goes to the first frame from the top that has a handler
 abbrev pub unwinding : Program → Scalar → List Activation → Option (Result EnteredFrames Case)
-unwinding p e [] = Some (Err Uncaught)
-unwinding p e (f ∷ fs) = caught_by p e f fs f.handler (unwinding p e fs)
+unwinding p e fs = option_map_or (caught_at p e fs) (first_handler fs) (Some (Err Uncaught))
 
 abbrev pub throws : Program → Configuration → Turn → Scalar → Outcome
 throws p c u e = tried p c u (unwinding p e (u.top ∷ u.below)) (λ r. next (frames_end r.ended c) u (Some r.frames))

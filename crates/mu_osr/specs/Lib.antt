@@ -3,3 +3,4 @@ pub mod Kept
 pub mod Pushing
 pub mod Faults
 pub mod Laws
+pub mod Lemmas

@@ -13,6 +13,7 @@ use Rattle.mu_model.specs.Step.{step}
 use Rattle.model_numbers.specs.Forms.{act_at}
 use Rattle.model_numbers.specs.Numbered.{numbered}
 use Rattle.step_forms.specs.CaseRows.{cases_of, cases_in, cases_at}
+use Rattle.client_hooks.specs.Ways.{Way}
 use Rattle.run_state.specs.Held.{Held, configuration}
 use Rattle.run_state.specs.Outcome.{outcome_of}
 use Rattle.run_state.specs.Acting.{answers, acting, stepping, told}
@@ -35,8 +36,8 @@ pub acting_at_once : (bundle : List Item) (s : Held) (a : Act) → stepping bund
 acting_at_once bundle s a h is = λ e. h (is ∙ e)
 
 -- a step that was made at once, once the picks are taken
-pub settled_at_once : (bundle : List Item) (k l : Client) (s t u v : Held) → l ≡ k → step (numbered bundle) (configuration s) ≡ stepping bundle t → answers (Went []) u ≡ told bundle l (stepping bundle t) → configuration v ≡ configuration u
-    → outcome_of (Went []) (configuration v) ≡ told bundle k (step (numbered bundle) (configuration s))
+pub settled_at_once : (how : Way) (bundle : List Item) (k l : Client) (s t u v : Held) → l ≡ k → step (numbered bundle) (configuration s) ≡ stepping bundle t → answers (Went []) u ≡ told how bundle l (stepping bundle t) → configuration v ≡ configuration u
+    → outcome_of (Went []) (configuration v) ≡ told how bundle k (step (numbered bundle) (configuration s))
 unfolding answers
-settled_at_once bundle k l s t u v client same is taken =
-    ap (outcome_of (Went [])) taken ∙ is ∙ ap (λ k. told bundle k (stepping bundle t)) client ∙ ap (told bundle k) (sym same)
+settled_at_once how bundle k l s t u v client same is taken =
+    ap (outcome_of (Went [])) taken ∙ is ∙ ap (λ k. told how bundle k (stepping bundle t)) client ∙ ap (told how bundle k) (sym same)

@@ -87,8 +87,8 @@ fn turn_at_once<M: Memory, C: Determined>(
     requires code { rows.old ≡ code.now }
     requires left { state.old.left ≡ true }
     requires room { state.old.steps < state.old.budget }
-    requires there { told code.now state.old.client (stepping code.now state.old) ≢ Stuck }
-    ensures made { result ≡ true → answers (Went []) state.new ≡ told code.now state.old.client (stepping code.now state.old) }
+    requires there { told C.way code.now state.old.client (stepping code.now state.old) ≢ Stuck }
+    ensures made { result ≡ true → answers (Went []) state.new ≡ told C.way code.now state.old.client (stepping code.now state.old) }
     ensures left { result ≡ false → state.new ≡ state.old }
     ensures same { rows.new ≡ rows.old }
 {
@@ -107,8 +107,8 @@ pub(crate) fn step_at_once<M: Memory, C: Determined>(
 ) -> bool
     requires code { rows.old ≡ code.now }
     requires whole { state.old.skip ≡ 0 }
-    requires there { told code.now state.old.client (step (numbered code.now) (configuration state.old)) ≢ Stuck }
-    ensures made { result ≡ true → outcome_of (Went []) (configuration state.new) ≡ told code.now state.old.client (step (numbered code.now) (configuration state.old)) }
+    requires there { told C.way code.now state.old.client (step (numbered code.now) (configuration state.old)) ≢ Stuck }
+    ensures made { result ≡ true → outcome_of (Went []) (configuration state.new) ≡ told C.way code.now state.old.client (step (numbered code.now) (configuration state.old)) }
     ensures left { result ≡ false → configuration state.new ≡ configuration state.old }
     ensures whole { state.new.skip ≡ 0 }
     ensures same { rows.new ≡ rows.old }

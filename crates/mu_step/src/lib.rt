@@ -8,6 +8,7 @@
 
 mod acts;
 mod at_once;
+mod locals;
 mod machine;
 mod options;
 mod step;

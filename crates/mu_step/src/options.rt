@@ -44,7 +44,7 @@ fn turn_options<M: Memory, C: Determined>(
     room: &mut Room,
 ) -> Result<u32, AllocError>
     requires left { state.now.left ≡ true }
-    requires there { told code.now state.now.client (stepping code.now state.now) ≢ Stuck }
+    requires there { told C.way code.now state.now.client (stepping code.now state.now) ≢ Stuck }
     ensures { IfOk result (λ n. n ≡ stepping_count code.now state.now) }
 {
     match state.seats.waiting(state.thread) {
@@ -61,7 +61,7 @@ pub(crate) fn options<M: Memory, C: Determined>(
     room: &mut Room,
 ) -> Result<u32, AllocError>
     requires whole { state.old.skip ≡ 0 }
-    requires there { told code.now state.old.client (step (numbered code.now) (configuration state.old)) ≢ Stuck }
+    requires there { told C.way code.now state.old.client (step (numbered code.now) (configuration state.old)) ≢ Stuck }
     ensures count { IfOk result (λ n. n ≡ step_options (numbered code.now) (configuration state.old)) }
     ensures same { configuration state.new ≡ configuration state.old }
     ensures whole { state.new.skip ≡ 0 }

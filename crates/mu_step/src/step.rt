@@ -1,33 +1,29 @@
 // The step of a run: which thread makes it.
 ghost use Rattle.std.specs.Prelude.{◌≡◌, ◌≢◌, ◌<◌, IsSome, IfOk, OnErr, length, true, false, List};
 ghost use Rattle.ir_tree.specs.declared.items.Item.{Item};
+ghost use Rattle.checked_code.specs.Checking.{bundle_tables};
 ghost use Rattle.mu_model.specs.Clients.{Client};
 ghost use Rattle.mu_model.specs.Outcomes.{Stuck};
 ghost use Rattle.mu_model.specs.Step.{step};
 ghost use Rattle.model_numbers.specs.Numbered.{numbered};
 ghost use Rattle.seats.specs.Seats.{seat_of, runnable_of};
 ghost use Rattle.run_state.specs.Held.{configuration};
-ghost use Rattle.run_state.specs.Hand.{IsTakenUp, is_went};
+ghost use Rattle.run_state.specs.Hand.{IsTakenUp};
 ghost use Rattle.run_state.specs.Outcome.{outcome_of, Stays};
 ghost use Rattle.run_state.specs.Acting.{answers, stepping, told};
 ghost use Rattle.run_state.specs.Options.{step_options};
+ghost use Rattle.good_casts.specs.Good.{AreGood};
 ghost use Rattle.memory_acts.specs.Counting.{stepping_count};
 
-use crate::acts::run;
+use crate::acts::{is_made, run};
 use checked_code::Checked;
 use client_hooks::Determined;
+use good_casts::GoodCasts;
 use mem_axioms::Memory;
 use mu_model::{Ending, StepEnd};
 use stack_moves::lists::Lists;
 use std::alloc::AllocError;
 use thread_acts::state::{State, ended};
-
-/// Whether the step was made, and gave no ending.
-fn is_made(end: &Result<StepEnd, AllocError>) -> bool
-    ensures { result ≡ is_went end.now }
-{
-    matches!(end, Ok(StepEnd::Went(_)))
-}
 
 /// The frames of a thread that is left come into the hand, where none are.
 #[tactic(auto, using(run_state::specs::Hand::lifted_up, run_state::specs::Hand::lifted_sound))]
@@ -45,7 +41,7 @@ fn lift<M: Memory, C: Determined>(state: &mut State<M, C>, thread: u32)
 
 /// The frames of a thread that is left come into the hand.
 #[tactic(auto, using(run_state::specs::Hand::taken_already, run_state::specs::Hand::taken_then))]
-fn take_up<M: Memory, C: Determined>(state: &mut State<M, C>, thread: u32)
+pub(crate) fn take_up<M: Memory, C: Determined>(state: &mut State<M, C>, thread: u32)
     requires { IsSome (seat_of state.old.seats thread) }
     ensures { IsTakenUp state.old state.new thread }
 {
@@ -94,7 +90,7 @@ pub(crate) fn settle<M: Memory, C: Determined>(state: &mut State<M, C>, made: bo
 #[tactic(auto, using(run_state::specs::Hand::done_so, run_state::specs::Hand::waits_so))]
 fn none_runs<M: Memory, C: Determined>(state: &State<M, C>) -> Result<StepEnd, AllocError>
     requires none { length (runnable_of state.now.seats) ≡ 0 }
-    ensures ok { (bundle : List Item) (k : Client) → IfOk result (λ end. outcome_of end (configuration state.now) ≡ told bundle k (step (numbered bundle) (configuration state.now))) }
+    ensures ok { (bundle : List Item) (k : Client) → IfOk result (λ end. outcome_of end (configuration state.now) ≡ told C.way bundle k (step (numbered bundle) (configuration state.now))) }
     ensures stays { IfOk result (λ end. Stays end (configuration state.now) (configuration state.now)) }
 {
     let threads = state.seats.left(state.alloc)?;
@@ -110,18 +106,21 @@ fn none_runs<M: Memory, C: Determined>(state: &State<M, C>) -> Result<StepEnd, A
 fn turn<M: Memory, C: Determined>(
     state: &mut State<M, C>,
     code: &Checked,
+    casts: &mut GoodCasts,
     lists: &mut Lists,
 ) -> Result<StepEnd, AllocError>
     requires left { state.old.left ≡ true }
     requires room { state.old.steps < state.old.budget }
-    requires there { told code.now state.old.client (stepping code.now state.old) ≢ Stuck }
-    ensures ok { IfOk result (λ end. answers end state.new ≡ told code.now state.old.client (stepping code.now state.old)) }
+    requires there { told C.way code.now state.old.client (stepping code.now state.old) ≢ Stuck }
+    requires casts { AreGood (bundle_tables code.now) state.old.objects casts.old }
+    ensures ok { IfOk result (λ end. answers end state.new ≡ told C.way code.now state.old.client (stepping code.now state.old)) }
     ensures err { OnErr result (state.new ≡ state.old) }
     ensures stays { IfOk result (λ end. Stays end state.old state.new) }
+    ensures casts { AreGood (bundle_tables code.now) state.old.objects casts.new }
 {
     match state.seats.waiting(state.thread) {
         Some(cell) => state.time_out(code, cell, &mut lists.room.values, &mut lists.out),
-        None => run(state, code, lists),
+        None => run(state, code, casts, lists),
     }
 }
 
@@ -129,6 +128,7 @@ fn turn<M: Memory, C: Determined>(
 fn make_step<M: Memory, C: Determined>(
     state: &mut State<M, C>,
     code: &Checked,
+    casts: &mut GoodCasts,
     many: u32,
     lists: &mut Lists,
 ) -> Result<StepEnd, AllocError>
@@ -136,14 +136,16 @@ fn make_step<M: Memory, C: Determined>(
     requires some { 0 < many }
     requires room { state.old.steps < state.old.budget }
     requires whole { state.old.skip ≡ 0 }
-    requires there { told code.now state.old.client (step (numbered code.now) (configuration state.old)) ≢ Stuck }
-    ensures ok { IfOk result (λ end. outcome_of end (configuration state.new) ≡ told code.now state.old.client (step (numbered code.now) (configuration state.old))) }
+    requires there { told C.way code.now state.old.client (step (numbered code.now) (configuration state.old)) ≢ Stuck }
+    requires casts { AreGood (bundle_tables code.now) state.old.objects casts.old }
+    ensures ok { IfOk result (λ end. outcome_of end (configuration state.new) ≡ told C.way code.now state.old.client (step (numbered code.now) (configuration state.old))) }
     ensures err { OnErr result (configuration state.new ≡ configuration state.old) }
     ensures stays { IfOk result (λ end. Stays end (configuration state.old) (configuration state.new)) }
     ensures whole { state.new.skip ≡ 0 }
+    ensures casts { AreGood (bundle_tables code.now) state.old.objects casts.new }
 {
     pick_thread(state, many);
-    let end = turn(state, code, lists);
+    let end = turn(state, code, casts, lists);
     settle(state, is_made(&end));
     end
 }
@@ -153,14 +155,17 @@ fn make_step<M: Memory, C: Determined>(
 pub(crate) fn step<M: Memory, C: Determined>(
     state: &mut State<M, C>,
     code: &Checked,
+    casts: &mut GoodCasts,
     lists: &mut Lists,
 ) -> Result<StepEnd, AllocError>
     requires whole { state.old.skip ≡ 0 }
-    requires there { told code.now state.old.client (step (numbered code.now) (configuration state.old)) ≢ Stuck }
-    ensures ok { IfOk result (λ end. outcome_of end (configuration state.new) ≡ told code.now state.old.client (step (numbered code.now) (configuration state.old))) }
+    requires there { told C.way code.now state.old.client (step (numbered code.now) (configuration state.old)) ≢ Stuck }
+    requires casts { AreGood (bundle_tables code.now) state.old.objects casts.old }
+    ensures ok { IfOk result (λ end. outcome_of end (configuration state.new) ≡ told C.way code.now state.old.client (step (numbered code.now) (configuration state.old))) }
     ensures err { OnErr result (configuration state.new ≡ configuration state.old) }
     ensures stays { IfOk result (λ end. Stays end (configuration state.old) (configuration state.new)) }
     ensures whole { state.new.skip ≡ 0 }
+    ensures casts { AreGood (bundle_tables code.now) state.new.objects casts.new }
 {
     let many = state.seats.runnable();
     if many == 0 {
@@ -168,7 +173,7 @@ pub(crate) fn step<M: Memory, C: Determined>(
     }
     let steps = state.steps;
     if steps < state.budget {
-        return make_step(state, code, many, lists);
+        return make_step(state, code, casts, many, lists);
     }
     Ok(ended(state.alloc, Ending::Budget { steps }))
 }

@@ -4,3 +4,4 @@ pub mod Start
 pub mod Answer
 pub mod Comes
 pub mod Examples
+pub mod Lemmas

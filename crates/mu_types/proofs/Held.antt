@@ -4,9 +4,9 @@ use Rattle.std.specs.Prelude.{slice_index}
 use Rattle.std.proofs.lemmas.Bool.{eqb-true, eq-eqb}
 use Rattle.type_definitions.specs.declared.definition.TypeDef.{TypeDef}
 use Rattle.type_definitions.specs.Same.{same, IsGraph}
-use Rattle.type_definitions.proofs.Classes.{class_is}
+use Rattle.type_definitions.specs.Lemmas.Classes.{class_is}
 use Rattle.type_definitions.specs.Partition.{IsLeast}
-use Rattle.type_definitions.proofs.Proved.{decided}
+use Rattle.type_definitions.specs.Lemmas.Proved.{decided}
 
 both : (b c : Bool) → (b ≡ true → c ≡ true) → (c ≡ true → b ≡ true) → b ≡ c
 both true c f g = sym (f refl)

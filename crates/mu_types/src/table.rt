@@ -64,7 +64,7 @@ impl Classes {
     }
 
     /// The least id that is the same type or signature. It is looked up; this takes no memory.
-    #[tactic(auto, using(type_definitions::proofs::Classes::class_is))]
+    #[tactic(auto, using(type_definitions::specs::Lemmas::Classes::class_is))]
     pub fn class(&self, t: u32) -> u32
         requires { t < length self.now.definitions }
         ensures { result ≡ class_of self.now.definitions t }

@@ -6,7 +6,7 @@ use Rattle.demands.specs.Demands.{or_else, first_unmet}
 use Rattle.type_definitions.specs.declared.definition.TypeDef.{TypeDef}
 use Rattle.type_definitions.specs.declared.definition.TypeDef.TheVariants.{Int, Struct, Array, Hybrid, Void, Ref, Iref, FuncRef, StackRef, ThreadRef, Sig}
 use Rattle.type_definitions.specs.Same.{same, IsGraph}
-use Rattle.type_definitions.proofs.Depth.{args_within}
+use Rattle.type_definitions.specs.Lemmas.Depth.{args_within}
 use Rattle.mu_values.specs.declared.literals.ConstKind.TheVariants.{WrongShape}
 use Rattle.mu_values.specs.Constants.{member_count, member_type, member_demands}
 

@@ -12,3 +12,4 @@ pub mod ComparisonExamples
 pub mod ConstantExamples
 pub mod SameCell
 pub mod CellLaws
+pub mod Lemmas

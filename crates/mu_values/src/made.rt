@@ -69,7 +69,7 @@ fn one(alloc: Global, scalar: Scalar) -> Result<Value, AllocError>
     Ok(Items::from_vec(scalars))
 }
 
-#[tactic(auto, using(crate::proofs::Signed::bits_neg_low))]
+#[tactic(auto, using(crate::specs::Lemmas::Signed::bits_neg_low))]
 fn bits_of_number(width: u32, negative: bool, magnitude: u128) -> u128
     requires { (1 ≤ width) × (width ≤ 128) }
     ensures { result ≡ number_bits width negative magnitude }

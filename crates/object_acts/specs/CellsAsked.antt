@@ -7,7 +7,7 @@ use Rattle.mu_values.specs.declared.scalars.Scalar.TheVariants.{Object, Place}
 use Rattle.typed_heap.specs.Objects.{leaf_classes, run_classes}
 use Rattle.typed_heap.specs.Heap.{hybrid_classes}
 use Rattle.typed_heap.specs.Places.{with_some}
-use Rattle.typed_heap.proofs.Runs.{times_length}
+use Rattle.typed_heap.specs.Lemmas.Runs.{times_length}
 use Rattle.type_definitions.specs.Leaves.{times}
 use Rattle.frames.specs.Activations.{Activation}
 use Rattle.frames.specs.Chains.{frames_of}

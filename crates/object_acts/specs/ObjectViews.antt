@@ -7,8 +7,8 @@ use Rattle.typed_heap.specs.declared.faults.HeapFault.{HeapFault}
 use Rattle.typed_heap.specs.declared.faults.HeapFault.TheVariants as heaps
 use Rattle.typed_heap.specs.Objects.{HeapObject, object_of}
 use Rattle.typed_heap.specs.Heap.{HeapContents, newest_cells}
-use Rattle.typed_heap.proofs.Fitted.{newest_counted}
-use Rattle.typed_heap.proofs.Fitted as fitted
+use Rattle.typed_heap.specs.Lemmas.Fitted.{newest_counted}
+use Rattle.typed_heap.specs.Lemmas.Fitted as fitted
 use Rattle.typed_heap.specs.Places.{Way, move, find_place}
 use Rattle.frames.specs.Activations.{Value}
 use Rattle.frames.specs.Chains.{Chain}

@@ -102,8 +102,9 @@ pub fn new_object(
     }
 }
 
-/// A memory is told of the newest object, which the frame has for its own where it is made so. The frame's block and its variables,
-/// with their room, stay. Where no memory is found all is as before.
+/// A memory gets to know the newest object, which the frame has for its own where it is made so. The frame's block and its variables, with
+/// their room, stay, also when this is refused. It is refused only when out of memory; then the frame, and what the memory knows, are as
+/// before.
 fn tell<M: Memory>(newest: Newest, memory: &mut M, frame: &mut Frame) -> Result<(), AllocError>
     requires number { newest.number + 1 ≡ length newest.heap.now.objects }
     requires known { M.objects memory.old ≡ initials (take newest.number newest.heap.now.objects) }

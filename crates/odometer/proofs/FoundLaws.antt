@@ -26,7 +26,7 @@ module _ {A : Type 0} (P Q : A → Type 0) (more : (a : A) → P a → Q a) wher
   before_more (Node n kids) [] h = tt
   before_more (Node n kids) (k ∷ ks) h = (h.0, λ j l ps. more (leaf (kids j) ps) (h.1 j l ps), before_more (kids k) ks h.2)
 
--- what is found stays so
+-- what was found before is still found
 pub among_more : (m n : BTreeMap (Vec ℕ) (Vec ℕ)) (text numbers : List ℕ) → Keeps m n text numbers → (o : Option (List ℕ)) → IsAmongFound m o → IsAmongFound n o
 among_more m n text numbers k None h = absurd h
 among_more m n text numbers k (Some other) h = k.stay other h
@@ -170,7 +170,7 @@ module _ (t : Tree (Option (List ℕ))) where
   say_later k zero e = ap (all_say t) (zero-add k)
   say_later k (suc j) e = ap (all_say t) (suc-add j k) ∙ ap (λ o. all_say t (j + k) && says (option_map (leaf t) o)) (none_later k j e) ∙ and-true (all_say t (j + k)) ∙ say_later k j e
 
-  -- all that is said of the first k runs holds of as many as one likes, where no further one exists
+  -- where there is no run after the first k, what holds of these holds of the first n, for any n of at least k
   pub searched : (k n : ℕ) → k ≤ n → nth t k ≡ None → is_searched t n ≡ all_say t k
   searched k n l e =
       let same : n - k + k ≡ n = omega (arith, l) in
@@ -186,7 +186,7 @@ module _ (t : Tree (Option (List ℕ))) where
     | inr h ↦ has j h.1 text o
   ]
 
--- what holds after the run with some number, by which the picks were these
+-- what holds after the run with number k, whose picks were these
 pub record WentOn (t : Tree (Option (List ℕ))) (shows : List ℕ → Option (List ℕ)) (n : BTreeMap (Vec ℕ) (Vec ℕ)) (made : List Pick) (k : ℕ) (so_far : Bool) : Type 0 where
   pub shown : Shown shows n
   pub numbers : AreNumbers n
@@ -217,7 +217,7 @@ went_on t u shows shows_all m n numbers given made k whole says_it so_far same s
           subst (λ ps. Onward (IsAmongFound n) u (next ps)) (sym picks) (by.onward (sym says_so ∙ parts.1) so);
     }
 
--- and where no run follows
+-- the same where no run follows
 pub over_found : (t : Tree (Option (List ℕ))) (shows : List ℕ → Option (List ℕ)) (n : BTreeMap (Vec ℕ) (Vec ℕ)) (made : List Pick) (k runs : ℕ) (so_far : Bool) → WentOn t shows n made k so_far → next made ≡ None → HasRuns n t runs
 over_found t shows n made k runs so_far w e = all_found t n (k + 1) runs (w.further ∙ e) w.found
 
@@ -237,7 +237,7 @@ over_whole t shows n made k runs so_far l w e = w.whole ∙ sym (searched t (k +
 pub over_all : (t : Tree (Option (List ℕ))) (shows : List ℕ → Option (List ℕ)) (n : BTreeMap (Vec ℕ) (Vec ℕ)) (made : List Pick) (k : ℕ) (so_far : Bool) → WentOn t shows n made k so_far → next made ≡ None → so_far ≡ true → AllLeaves (IsAmongFound n) t
 over_all t shows n made k so_far w e b = onward_none (IsAmongFound n) t (next made) e (w.onward b)
 
--- where all runs that were asked for are made, and one is left
+-- where as many runs were made as were asked for, and there is a further one
 pub left_some : (t : Tree (Option (List ℕ))) (runs : ℕ) (numbers : List ℕ) → nth t runs ≡ Some numbers → true ≡ is_some (nth t runs)
 left_some t runs numbers e = sym (ap is_some e)
 

@@ -11,7 +11,7 @@ use Rattle.odometer.specs.Odometer.{path, next, nth_leaf, Before, Onward}
 abbrev pub numbers_at : BTreeMap (Vec ℕ) (Vec ℕ) → List ℕ → Option (Vec ℕ)
 numbers_at m text = get_by (λ (k : Vec ℕ). slice_cmp nat_cmp text k.items) m
 
--- each text is what its schedule shows
+-- each text is the result of the run by its schedule
 abbrev pub Shown : (List ℕ → Option (List ℕ)) → BTreeMap (Vec ℕ) (Vec ℕ) → Type 0
 Shown shows m = (text : List ℕ) (v : Vec ℕ) → numbers_at m text ≡ Some v → shows v.items ≡ Some text
 

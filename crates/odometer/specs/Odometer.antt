@@ -35,11 +35,11 @@ abbrev pub nth : {A : Type 0} → Tree A → ℕ → Option (List ℕ)
 nth t zero = Some []
 nth t (suc k) = option_and_then (λ ks. next (path t ks)) (nth t k)
 
--- what it comes to
+-- the result of that run
 abbrev pub nth_leaf : {A : Type 0} → Tree A → ℕ → Option A
 nth_leaf t k = option_map (leaf t) (nth t k)
 
--- there is no such run, or it says something
+-- there is no such run, or it has a result
 abbrev pub says : {A : Type 0} → Option (Option A) → Bool
 says None = true
 says (Some o) = is_some o
@@ -48,19 +48,19 @@ abbrev pub all_say : {A : Type 0} → Tree (Option A) → ℕ → Bool
 all_say t zero = true
 all_say t (suc n) = all_say t n && says (nth_leaf t n)
 
--- no run comes after the first n, and each of these says something
+-- there is no run after the first n, and each of these has a result
 abbrev pub is_searched : {A : Type 0} → Tree (Option A) → ℕ → Bool
 is_searched t n = is_none (nth t n) && all_say t n
 
--- ---- what was done
+-- ---- what holds of the leaves so far
 
--- that holds of each leaf that comes before these picks, which are picks of the tree
+-- P holds of each leaf that comes before these picks, which are picks of the tree
 abbrev pub Before : {A : Type 0} → (A → Type 0) → Tree A → List ℕ → Type 0
 Before P (Leaf a) ks = Unit {0}
 Before P (Node n kids) [] = Unit {0}
 Before P (Node n kids) (k ∷ ks) = (k < suc (suc n)) × ((j : ℕ) → j < k → AllLeaves P (kids j)) × Before P (kids k) ks
 
--- that holds of each leaf up to a run: of all leaves where no picks follow, else of those before the picks that follow
+-- P holds of each leaf before the next picks, or of all leaves where there are no next picks
 abbrev pub Onward : {A : Type 0} → (A → Type 0) → Tree A → Option (List ℕ) → Type 0
 Onward P t None = AllLeaves P t
 Onward P t (Some ks) = Before P t ks

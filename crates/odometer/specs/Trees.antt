@@ -1,7 +1,7 @@
--- A tree of picks, and what a schedule makes of it.
+-- A tree of picks, and the leaf that a schedule leads to.
 use Rattle.std.specs.Prelude.{ℕ, zero, suc, ◌%◌, nat_le, List, [], ◌∷◌, if◌then◌else◌}
 
--- one of n options by the first number of a schedule, and the numbers that are left; 0 where none is left
+-- the number of one of n options, by the first number of a schedule, or 0 where the schedule has none; and the numbers that are left
 abbrev pub picked_from : ℕ → List ℕ → ℕ × List ℕ
 picked_from n [] = (0, [])
 picked_from n (p ∷ ps) = (p % n, ps)
@@ -26,7 +26,7 @@ leaf (Leaf a) ps = a
 leaf (Node n kids) [] = leaf (kids 0) []
 leaf (Node n kids) (p ∷ ps) = leaf (kids (p % suc (suc n))) ps
 
--- the numbers that are left there
+-- the numbers that are left at that leaf
 abbrev pub rest : {A : Type 0} → Tree A → List ℕ → List ℕ
 rest (Leaf a) ps = ps
 rest (Node n kids) [] = rest (kids 0) []
@@ -37,6 +37,6 @@ abbrev pub grown : {A B : Type 0} → Tree A → (A → Tree B) → Tree B
 grown (Leaf a) more = more a
 grown (Node n kids) more = Node n (λ k. grown (kids k) more)
 
--- that holds of each leaf
+-- P holds of each leaf
 abbrev pub AllLeaves : {A : Type 0} → (A → Type 0) → Tree A → Type 0
 AllLeaves P t = (ps : List ℕ) → P (leaf t ps)

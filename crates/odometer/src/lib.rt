@@ -1,5 +1,5 @@
-//! A search through all runs of something that makes picks: the next run differs from the last one in its last pick that has another
-//! option, as the digits of an odometer do.
+//! A search through all runs of something that makes picks. The runs come in the order in which an odometer counts: to get the picks of the
+//! next run, the last pick that has a further option takes it, and all picks after that one begin again.
 #![tactic(auto)]
 
 mod noting;
@@ -8,4 +8,4 @@ mod searching;
 
 pub use noting::note;
 pub use picks::{Pick, advance};
-pub use searching::{Play, Searched, search_all};
+pub use searching::{Play, Searched, Watch, search_all};

@@ -6,7 +6,8 @@ ghost use Rattle.odometer.specs.GrownLaws.{picks_one};
 use crate::picks::Pick;
 use std::alloc::AllocError;
 
-// The pick that the numbers make, after those that were made, among at least two options.
+// The next pick, among at least two options: the number that follows those of the picks that were made, by the rest of its division by the
+// number of options.
 fn next_pick(made: &[Pick], numbers: &[u32], options: u32) -> Pick
     requires { 2 ≤ options }
     ensures picked { result.picked ≡ (pick options (drop (length made.now) numbers.now)).0 }
@@ -19,8 +20,9 @@ fn next_pick(made: &[Pick], numbers: &[u32], options: u32) -> Pick
     Pick { picked, options }
 }
 
-/// Notes the pick that the numbers make, after those that were made, among so many options: where there are two at least. After the last
-/// number each pick is 0. It fails only out of memory, and then the list is as it was.
+/// Adds the next pick among so many options to the list of picks that were made. Where there are fewer than two options there is no pick, and
+/// the list stays. The pick is that of the next number of the schedule; after the last number it is 0. It is refused only when out of
+/// memory; then the list is as it was.
 #[tactic(auto, using(crate::proofs::NoteLaws::noting))]
 pub fn note(made: &mut Vec<Pick>, numbers: &[u32], options: u32) -> Result<(), AllocError>
     ensures made { OnOk result (made.new.items ≡ made.old.items ++ picks_one options (pick options (drop (length made.old.items) numbers.now)).0 []) }

@@ -1,4 +1,4 @@
-// The search: runs, one after the other, until no path is left or a number of runs was made.
+// The search makes runs, one after the other, until there is no further one, or so many were made.
 ghost use Rattle.std.specs.Prelude.{◌≡◌, ◌&&◌, ◌<◌, ◌≤◌, ◌^◌, ℕ, List, Option, All, true, false, Some, None, length, IfOk, OnOk, IsSomeAnd, is_some};
 ghost use Rattle.odometer.specs.Trees.{Tree, leaf, AllLeaves};
 ghost use Rattle.odometer.specs.Odometer.{path, digits, nth, all_say, is_searched, IsPick};
@@ -8,20 +8,20 @@ use crate::picks::{Pick, advance};
 use std::alloc::{AllocError, Global};
 use std::collections::BTreeMap;
 
-/// Something that runs by picks, and comes to the same each time that the picks are the same.
+/// Something that runs by picks. Runs with the same picks have the same result.
 pub trait Play {
-    /// What its runs come to: a tree of picks with a text at each leaf, or None where a run says nothing of what follows it.
+    /// The results of its runs: a tree of picks, with a text at each leaf, or None at a leaf where the run was cut off without a result.
     ghost tree: { Self → Tree (Option (List ℕ)) };
 
-    /// What a schedule shows.
+    /// The text that the run by a schedule has for its result, if it has one.
     ghost shows: { Self → List ℕ → Option (List ℕ) };
 
-    /// What has to hold of it before a run, and holds after each.
+    /// What has to hold of it before each run. It holds again after the run.
     ghost ready: { Self → Type 0 };
 
-    /// Runs it by these numbers; after the last number each pick is 0. Then `made` is the list of its picks, `text` what the run comes to,
-    /// and `schedule` a schedule that shows this text. False exactly where the run comes to nothing; then `text` and `schedule` are
-    /// anything. It fails only out of memory.
+    /// Runs it by these numbers; after the last number each pick is 0. Then `made` is the list of its picks, `text` its result, and `schedule`
+    /// a schedule whose run has this result. The answer is false exactly where the run has no result; then `text` and `schedule` mean
+    /// nothing. It is refused only when out of memory; then the lists mean nothing.
     fn play(
         &mut self,
         numbers: &[u32],
@@ -39,16 +39,27 @@ pub trait Play {
         ensures shown { IfOk result (λ says. says ≡ true → shows self.old schedule.new.items ≡ Some text.new.items) };
 }
 
-/// What a search found: each text with a schedule that shows it, in the order of the texts' bytes; whether a run is left after those that
-/// were made; and whether each of these came to something. Where none is left and each did, no schedule shows any other text.
+/// Something that is shown how far a search has come. Nothing of a search depends on it.
+pub trait Watch {
+    /// So many runs were made, and so many different texts were found. It is called after each run.
+    fn ran(&mut self, runs: u32, found: usize);
+
+    /// The search has made its last run. It is not called where the search is refused.
+    fn over(&mut self);
+}
+
+/// What a search found. Where no run is left and each had a result, no schedule has any other text for its result.
 #[derive(Drop)]
 pub struct Searched {
+    /// Each text that was found, with a schedule whose run has it for its result, in the order of the texts' bytes.
     pub found: BTreeMap<Vec<u8>, Vec<u32>>,
+    /// Whether there is a further run after those that were made.
     pub left: bool,
+    /// Whether each run that was made had a result.
     pub says: bool,
 }
 
-// Writes the numbers of picks.
+// Writes the number of each pick, in place of what the list held.
 fn write_numbers(path: &[Pick], numbers: &mut Vec<u32>) -> Result<(), AllocError>
     ensures { OnOk result (numbers.new.items ≡ digits path.now) }
 {
@@ -89,7 +100,7 @@ fn both(first: bool, second: bool) -> bool
     first && second
 }
 
-// Makes one run by these numbers and keeps what it comes to. It is true where the run came to something.
+// Makes one run by these numbers, and keeps its result. The answer is whether it had one.
 #[tactic(auto, using(crate::proofs::FoundLaws::run_kept, crate::proofs::FoundLaws::run_silent, crate::proofs::FoundLaws::run_picks))]
 fn run_by<P: Play>(
     alloc: Global,
@@ -118,11 +129,16 @@ fn run_by<P: Play>(
     Ok(true)
 }
 
-/// Searches through the runs of `play`, the first `runs` of them, or all where there are fewer. Each text found is the one that its
-/// schedule shows, and the text of each of these runs is found. Where no run is left after these and each of them came to something, no
-/// numbers lead to any other text. It fails only out of memory, and then nothing was found. Memory
-/// grows with the texts and the picks of a run, not with the runs.
-pub fn search_all<P: Play>(alloc: Global, play: &mut P, runs: u32) -> Result<Searched, AllocError>
+/// Makes the first `runs` runs of `play`, or all where there are fewer. Each text that is found is the result of the run by its schedule,
+/// and the result of each run that was made is found. Where no run is left, and each that was made had a result, no schedule leads to any
+/// other text. It is refused only when out of memory; then nothing is found. The memory that it takes grows with the texts and with the
+/// picks of one run, and not with the number of runs. After each run `watch` is shown how many runs were made, and how many texts found.
+pub fn search_all<P: Play, W: Watch>(
+    alloc: Global,
+    play: &mut P,
+    runs: u32,
+    watch: &mut W,
+) -> Result<Searched, AllocError>
     requires { P.ready play.old }
     ensures shown { IfOk result (λ s. Shown (P.shows play.old) s.found) }
     ensures numbers { IfOk result (λ s. AreNumbers s.found) }
@@ -137,7 +153,7 @@ pub fn search_all<P: Play>(alloc: Global, play: &mut P, runs: u32) -> Result<Sea
     let mut text = Vec::new(alloc);
     let mut schedule = Vec::new(alloc);
     let mut whole = true;
-    for _run in 0..runs {
+    for run in 0..runs {
         let says = run_by(
             alloc,
             play,
@@ -147,8 +163,10 @@ pub fn search_all<P: Play>(alloc: Global, play: &mut P, runs: u32) -> Result<Sea
             &mut schedule,
             &mut found,
         )?;
+        watch.ran(run + 1, found.len());
         whole = both(whole, says);
         if !advance(&mut made) {
+            watch.over();
             return Ok(Searched {
                 found,
                 left: false,
@@ -157,6 +175,7 @@ pub fn search_all<P: Play>(alloc: Global, play: &mut P, runs: u32) -> Result<Sea
         }
         write_numbers(&made, &mut numbers)?;
     }
+    watch.over();
     Ok(Searched {
         found,
         left: true,

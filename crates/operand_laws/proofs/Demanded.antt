@@ -42,7 +42,7 @@ use Rattle.checked_code.specs.Accesses.{access_demands}
 use Rattle.checked_code.specs.Stacks.{trapping_demands, threadlocal_demands, switch_demands}
 use Rattle.checked_code.specs.Commons.{common_demands}
 use Rattle.checked_code.specs.Instructions.{op_demands}
-use Rattle.bundle_laws.proofs.TypedOperands.{nat_eq_is}
+use Rattle.bundle_laws.specs.Lemmas.TypedOperands.{nat_eq_is}
 use Rattle.operand_laws.specs.Asked.{Asked, Wanted, OfClass, Int64, arguments, destination_operands, computation_operands, case_operands, control_operands, allocation_operands, addressing_operands, access_operands, trapping_operands, entered_operands, threadlocal_operands, switch_operands, common_operands, form_operands, optional_operands}
 
 -- ---- lists

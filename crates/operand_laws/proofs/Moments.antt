@@ -7,8 +7,8 @@ use Rattle.bundle_names.specs.Naming.{name_demands}
 use Rattle.checked_code.specs.Blocks.{head_locals}
 use Rattle.checked_code.specs.Checking.{bundle_tables, check_demands}
 use Rattle.bundle_laws.specs.Accepted.{head_classes}
-use Rattle.bundle_laws.proofs.Bodies.{some_is as some_same}
-use Rattle.bundle_laws.proofs.Heads.{head_fits, head_has}
+use Rattle.bundle_laws.specs.Lemmas.Bodies.{some_is as some_same}
+use Rattle.bundle_laws.specs.Lemmas.Heads.{head_fits, head_has}
 use Rattle.bundle_laws.specs.Typed.{joined}
 use Rattle.bundle_laws.specs.TypedLaws.{all_gives}
 use Rattle.typed_heap.specs.Fits.{World}
@@ -20,15 +20,15 @@ use Rattle.mu_model.specs.Turns.{turn_of}
 use Rattle.model_laws.specs.FramesFit.{Stands}
 use Rattle.model_laws.specs.Values.{world, HasGlobals}
 use Rattle.model_laws.specs.WellTyped.{WellTyped}
-use Rattle.model_laws.proofs.Basics.{some_more}
-use Rattle.model_laws.proofs.Placing.{Placed, has_place}
-use Rattle.model_laws.proofs.Proved.{first_well}
+use Rattle.model_laws.specs.Lemmas.Basics.{some_more}
+use Rattle.model_laws.specs.Lemmas.Placing.{Placed, has_place}
+use Rattle.model_laws.specs.Lemmas.Proved.{first_well}
 use Rattle.typed_programs.specs.PlacesOf.{classes_before, places_of}
-use Rattle.typed_programs.proofs.Blocks.{Standing, scope_of, standing}
-use Rattle.typed_programs.proofs.Running.{accepted_is_typed}
-use Rattle.text_programs.proofs.Texts.{read_have_blocks}
-use Rattle.text_programs.proofs.Entered.{nothing_is_taken}
-use Rattle.text_programs.proofs.Moments.{stays_typed}
+use Rattle.typed_programs.specs.Lemmas.Blocks.{Standing, scope_of, standing}
+use Rattle.typed_programs.specs.Lemmas.Running.{accepted_is_typed}
+use Rattle.text_programs.specs.Lemmas.Texts.{read_have_blocks}
+use Rattle.text_programs.specs.Lemmas.Entered.{nothing_is_taken}
+use Rattle.text_programs.specs.Lemmas.Moments.{stays_typed}
 use Rattle.operand_laws.specs.Laws.{FrameHasOperands, MomentsOfTextsHaveOperands}
 use Rattle.operand_laws.proofs.Places.{Met, insts_met, operands_have_values}
 

@@ -7,8 +7,8 @@ use Rattle.mu_model.specs.Configuration.{Configuration}
 use Rattle.mu_model.specs.Outcomes.{Next, End, on}
 use Rattle.mu_model.specs.Run.{client_answers}
 use Rattle.mu_model.specs.Step.{ends_or_picks, picked, picking_thread, runnable, step, threads_from, turns}
-use Rattle.model_laws.proofs.Accessing.{pick_below}
-use Rattle.model_laws.proofs.Basics.{some_below}
+use Rattle.model_laws.specs.Lemmas.Accessing.{pick_below}
+use Rattle.model_laws.specs.Lemmas.Basics.{some_below}
 use Rattle.operand_laws.specs.Picks.{next_pick, IsPickedTurn, EndsBeforeAPick, StepsAreTurns, StepsMadeAreTurns}
 
 module _ (p : Program) (c : Configuration) where

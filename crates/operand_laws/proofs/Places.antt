@@ -26,22 +26,22 @@ use Rattle.checked_code.specs.Operands.{is_class, variable_class, variable_deman
 use Rattle.checked_code.specs.Instructions.{after, after_all, gives, is_ending, inst_demands, insts_demands, keepalive_of, exceptional_of, normal_of}
 use Rattle.bundle_laws.specs.Typed.{joined, SourceFits, Int64Fits, LocalsFit}
 use Rattle.bundle_laws.specs.TypedLaws.{all_gives}
-use Rattle.bundle_laws.proofs.TypedOperands.{operand_fits, int64_fits}
-use Rattle.bundle_laws.proofs.TypedInstructions.{after_fits, after_classes}
+use Rattle.bundle_laws.specs.Lemmas.TypedOperands.{operand_fits, int64_fits}
+use Rattle.bundle_laws.specs.Lemmas.TypedInstructions.{after_fits, after_classes}
 use Rattle.checked_code.specs.Checking.{bundle_tables}
 use Rattle.typed_heap.specs.Fits.{World, DefinitionFits}
 use Rattle.frames.specs.Activations.{Value}
 use Rattle.mu_model.specs.Types.{type_graph}
 use Rattle.mu_model.specs.Operands.{Scope, tables_in, variables, value_named, scalar_in}
 use Rattle.mu_model.specs.Programs.{kept_class}
-use Rattle.model_laws.proofs.Fitting.{values_append}
+use Rattle.model_laws.specs.Lemmas.Fitting.{Grows as Later, globals_more, values_append, values_more}
 use Rattle.model_numbers.specs.Sources.{value_at}
-use Rattle.model_numbers.proofs.Names.{Stay, all_stay}
-use Rattle.model_numbers.proofs.Operands.{ScopeFits, value_same, int64_same}
-use Rattle.bundle_facts.proofs.Accepted as facts
-use Rattle.typed_programs.proofs.Blocks.{scope_of}
-use Rattle.typed_programs.proofs.Classes.{int_is}
-use Rattle.typed_programs.proofs.Sources.{graph_of, Moment, source_fits, one_leaf}
+use Rattle.model_numbers.specs.Lemmas.Names.{Stay, all_stay}
+use Rattle.model_numbers.specs.Lemmas.Operands.{ScopeFits, value_same, int64_same}
+use Rattle.bundle_facts.specs.Lemmas.Accepted as facts
+use Rattle.typed_programs.specs.Lemmas.Blocks.{scope_of}
+use Rattle.typed_programs.specs.Lemmas.Classes.{int_is}
+use Rattle.typed_programs.specs.Lemmas.Sources.{graph_of, Moment, source_fits, one_leaf}
 use Rattle.operand_laws.specs.Asked.{Asked, Wanted, OfClass, Int64, of_class, form_operands, optional_operands, operands_before, operands_after}
 use Rattle.operand_laws.specs.Laws.{IsInt, Fits, HasValue, HaveValues, body_in, kept_operands, OperandsHaveValues}
 use Rattle.operand_laws.proofs.Demanded.{both_of, each_more, IsDemanded, IsDemandedOf, AreDemanded, form_demanded, optional_exceptional_demanded, optional_normal_demanded}
@@ -185,16 +185,17 @@ module _ (bundle : List Item) (r : Moment bundle) (definition : Funcdef) (first 
         (both_of (IsDemanded p m.locals) (form_operands p f i.op) (optional_operands f (exceptional_of i.op)) (form_demanded p f m.locals i.op m.met.1.1.0)
         (optional_exceptional_demanded p f m.locals (exceptional_of i.op) m.met.1.1.1.1.0));
     kept = all_kept bundle r definition first block m.locals m.known m.classes (keepalive_of i.op) m.met.1.1.1.1.1;
-    after = λ results fit.
+    after = λ later more results fit.
+        let g : Later r.world later = record { objects = more.objects; signatures = more.signatures; stacks = more.stacks; threads = more.threads } in
         have_values bundle
         (record {
           names = r.names;
           checked = r.checked;
-          world = r.world;
-          globals = r.globals;
+          world = later;
+          globals = globals_more p r.world later g r.globals;
           classes = r.classes ++ gives p i.op;
           values = r.values ++ results;
-          fit = values_append (type_graph p) r.world r.classes (gives p i.op) r.values results r.fit fit;
+          fit = values_append (type_graph p) later r.classes (gives p i.op) r.values results (values_more (type_graph p) r.world later r.classes r.values g r.fit) fit;
         })
         definition first block (after p m.locals i) m.later
         (after_classes p f m.locals m.ended i m.met ∙ ap (λ (ks : List ℕ). ks ++ gives p i.op) m.classes) (operands_after f i.op)

@@ -14,6 +14,7 @@ use Rattle.checked_code.specs.Instructions.{gives, keepalive_of}
 use Rattle.checked_code.specs.Functions.{body_of}
 use Rattle.checked_code.specs.Checking.{bundle_tables}
 use Rattle.typed_heap.specs.Fits.{World, ValueFits}
+use Rattle.typed_heap.specs.Laws.{Grows}
 use Rattle.frames.specs.Activations.{Value, Activation}
 use Rattle.mu_model.specs.Types.{type_graph}
 use Rattle.mu_model.specs.Acts.{Program}
@@ -55,11 +56,12 @@ abbrev pub kept_operands : Scope → Option (List Name) → List Asked
 kept_operands s ns = option_map_or (map (λ n. of_class (Local n) (kept_class s n))) ns []
 
 -- An instruction that is next, with these values of the variables before it. Where it gives results, what it reads after that has values
--- too, whatever values that fit its results stand after those of the variables.
+-- too, whatever values that fit its results stand after those of the variables. They may be of objects, stacks and threads that are made by
+-- then: they fit a later world, which has all that this one has.
 pub record OperandsHaveValues (s : Scope) (w : World) (vars : List Value) (i : Op) : Type 0 where
   pub before : HaveValues s w vars (operands_before (tables_in s) (body_in s) i)
   pub kept : HaveValues s w vars (kept_operands s (keepalive_of i))
-  pub after : (results : List Value) → ValuesFit (type_graph (tables_in s)) w (gives (tables_in s) i) results → HaveValues s w (vars ++ results) (operands_after (body_in s) i)
+  pub after : (later : World) → Grows w later → (results : List Value) → ValuesFit (type_graph (tables_in s)) later (gives (tables_in s) i) results → HaveValues s later (vars ++ results) (operands_after (body_in s) i)
 
 -- ---- a moment
 

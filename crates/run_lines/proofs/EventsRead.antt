@@ -32,9 +32,9 @@ use Rattle.checked_code.specs.Accesses.{may_fence}
 use Rattle.model_laws.specs.Orders as model
 use Rattle.model_laws.specs.Printable.{EventIsPrintable, KindIsPrintable}
 use Rattle.model_laws.specs.Values.{leaf_at}
-use Rattle.model_laws.proofs.Basics.{some_of}
-use Rattle.model_laws.proofs.Bounded.{some_inside}
-use Rattle.model_laws.proofs.Keeps.{at_place}
+use Rattle.model_laws.specs.Lemmas.Basics.{some_of}
+use Rattle.model_laws.specs.Lemmas.Bounded.{some_inside}
+use Rattle.model_laws.specs.Lemmas.Keeps.{at_place}
 use Rattle.log_lines.specs.Words.{is_order_of, is_fence_order}
 use Rattle.log_lines.specs.Values.{is_name}
 use Rattle.log_lines.specs.EventTexts.{NameOf}

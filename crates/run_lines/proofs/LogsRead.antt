@@ -10,7 +10,7 @@ use Rattle.mu_values.specs.Constants.{width_of}
 use Rattle.check_tables.specs.declared.tables.Tables.{Tables}
 use Rattle.check_tables.specs.Lookups.{noted_signature}
 use Rattle.checked_code.specs.Checking.{bundle_tables}
-use Rattle.bundle_facts.proofs.Accepted as facts
+use Rattle.bundle_facts.specs.Lemmas.Accepted as facts
 use Rattle.typed_heap.specs.Objects.{HeapObject}
 use Rattle.typed_heap.specs.Fits.{signature_classes}
 use Rattle.mem_axioms.specs.EventFits.{is_thread}
@@ -32,17 +32,17 @@ use Rattle.model_laws.specs.Printable.{EventIsPrintable, HasFewCells}
 use Rattle.model_laws.specs.ThreadsFit.{IsOn}
 use Rattle.model_laws.specs.Values.{world}
 use Rattle.model_laws.specs.WellTyped.{WellTyped}
-use Rattle.model_laws.proofs.Basics.{some_of}
-use Rattle.model_laws.proofs.Bounded.{first_in_bounds}
-use Rattle.model_laws.proofs.Proved.{first_well}
-use Rattle.model_laws.proofs.Printing.{first_is_printable}
+use Rattle.model_laws.specs.Lemmas.Basics.{some_of}
+use Rattle.model_laws.specs.Lemmas.Bounded.{first_in_bounds}
+use Rattle.model_laws.specs.Lemmas.Proved.{first_well}
+use Rattle.model_laws.specs.Lemmas.Printing.{first_is_printable}
 use Rattle.typed_programs.specs.PlacesOf.{places_of}
-use Rattle.typed_programs.proofs.Running.{accepted_is_typed}
+use Rattle.typed_programs.specs.Lemmas.Running.{accepted_is_typed}
 use Rattle.text_programs.specs.Moments.{IsLastLog, as_before, left}
-use Rattle.text_programs.proofs.Entered.{nothing_is_taken}
-use Rattle.text_programs.proofs.Moments.{first_budget, stays_in_bounds, stays_typed}
-use Rattle.text_programs.proofs.Printable.{stays_printable}
-use Rattle.text_programs.proofs.Texts.{read_have_blocks}
+use Rattle.text_programs.specs.Lemmas.Entered.{nothing_is_taken}
+use Rattle.text_programs.specs.Lemmas.Moments.{first_budget, stays_in_bounds, stays_typed}
+use Rattle.text_programs.specs.Lemmas.Printable.{stays_printable}
+use Rattle.text_programs.specs.Lemmas.Texts.{read_have_blocks}
 use Rattle.log_lines.specs.EventTexts.{NameOf}
 use Rattle.log_lines.specs.Readable.{EventIsReadable}
 use Rattle.run_lines.specs.Laws.{names_in}

@@ -1,7 +1,7 @@
 -- The lines of a run that are no event lines are passed over.
 use Rattle.run_lines.specs.PlainLines.{TextsArePlain}
 use Rattle.run_lines.proofs.Plain.{has_names, note_plain, note_begins, ending_plain, ending_begins}
-use Rattle.bundle_facts.proofs.Spelled.{names_spelled}
+use Rattle.bundle_facts.specs.Lemmas.Spelled.{names_spelled}
 
 pub texts_plain : TextsArePlain
 texts_plain bytes bundle read =

@@ -9,8 +9,8 @@ use Rattle.mu_model.specs.declared.lines.Line.TheVariants as lines
 use Rattle.mu_model.specs.declared.endings.Ending.{Ending}
 use Rattle.mu_model.specs.Programs.{named}
 use Rattle.text_programs.specs.Moments.{log_behind}
-use Rattle.text_programs.proofs.Numbers.{run_numbered}
-use Rattle.text_programs.proofs.RunLogs.{runs_leave_sound_logs}
+use Rattle.text_programs.specs.Lemmas.Numbers.{run_numbered}
+use Rattle.text_programs.specs.Lemmas.RunLogs.{runs_leave_sound_logs}
 use Rattle.run_texts.specs.Texts.{ending_text}
 use Rattle.log_lines.specs.Readable.{EventIsReadable}
 use Rattle.log_lines.specs.Laws.{OtherLine, LinesAreReadable}

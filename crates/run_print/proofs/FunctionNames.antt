@@ -11,7 +11,7 @@ use Rattle.bundle_names.specs.declared.globals.Sort.TheVariants as sorts
 use Rattle.bundle_names.specs.declared.globals.Globals.{Globals}
 use Rattle.bundle_names.specs.Globals.{with_item, with_items, no_globals, globals_of}
 use Rattle.check_tables.specs.declared.tables.Tables.{Tables}
-use Rattle.bundle_laws.proofs.Bodies.{found_added}
+use Rattle.bundle_laws.specs.Lemmas.Bodies.{found_added}
 use Rattle.checked_code.specs.Entries.{is_function, tables_of}
 use Rattle.checked_code.specs.declared.blocks.Function.{Function}
 use Rattle.checked_code.specs.Functions.{first_blocks, function_named, functions_behind, functions_from}

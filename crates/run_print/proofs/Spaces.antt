@@ -4,7 +4,7 @@ use Rattle.std.specs.Prelude.{Result, Ok, Err, OnErr}
 use Rattle.std.specs.List.{flat_map, zip}
 use Rattle.mu_base.specs.Files.{IsPrefix}
 use Rattle.mu_base.specs.Prefixes.{prefix_self, prefix_longer, prefix_again}
-use Rattle.bundle_laws.proofs.Bodies.{some_is}
+use Rattle.bundle_laws.specs.Lemmas.Bodies.{some_is}
 use Rattle.run_texts.specs.EventTexts.{spaced}
 
 -- ---- each behind a space

@@ -21,14 +21,13 @@ use Rattle.run_texts.specs.EventTexts.{Text}
 use Rattle.odometer.specs.Trees.{leaf}
 use Rattle.odometer.specs.Odometer.{path}
 use Rattle.odometer.specs.declared.picks.Pick.{Pick}
-use Rattle.seen_runs.specs.Seen.{by_picks}
-use Rattle.seen_runs.specs.Finals.{seen_by}
+use Rattle.seen_runs.specs.Seen.{by_picks, global_names}
+use Rattle.seen_runs.specs.Finals.{finals_in, seen_by}
 use Rattle.seen_runs.specs.declared.globals.Final.{Final}
-use Rattle.search_laws.specs.Moved.{run_tree, RunsAreTrees, TreesArePlain}
-use Rattle.search_laws.specs.Programs.{shows_by}
+use Rattle.search_laws.specs.Moved.{with_picks}
 use Rattle.run_search.specs.Given.{Given, objects_of, client_of, setting_of, tree_of, shows_of, BeginsAt, IsReady}
-use Rattle.run_search.specs.Playing.{ComesToEnd, RunsTo, MakesPicks}
-use Rattle.run_search.specs.Runs.{begins_with, run_is, run_path, run_leaf}
+use Rattle.run_search.specs.Steps.{AllEnd, MakesPicks, LeadsTo, RunsTo}
+use Rattle.run_search.specs.Runs.{begins_with, run_by, run_path, run_leaf, run_shown}
 
 -- what follows of a result follows where there is one
 pub if_ok : {A E : Type 0} (P Q : A → Type 0) → ((a : A) → P a → Q a) → (r : Result A E) → IfOk r P → IfOk r Q
@@ -86,13 +85,16 @@ module _ (g : Given) (ps : List ℕ) (heap : HeapContents) (k : Client) (m : Are
       ∙ ap (λ (r : Rule). first_configuration (named g.bundle) (record { objects = heap.objects; client = k; picks = ps; cells = g.cells; budget = g.budget; rule = r }) g.entry) (sym ruled)
       ∙ first g.cells m.filled.left
 
-  pub ends_so : (c : Configuration) → first_configuration (named g.bundle) (by_picks (setting_of g) ps) g.entry ≡ Some c → HasEnding (run (named g.bundle) (g.budget + 1) c)
+  pub ends_so : (c : Configuration) → first_configuration (named g.bundle) (by_picks (setting_of g) ps) g.entry ≡ Some c → AllEnd (named g.bundle) (g.budget + 1) c
   unfolding run_of
-  ends_so c begins =
-      let s : Setting = by_picks (setting_of g) ps in
-      let given : IsLoaded g.bundle s = record { objects = subst (AreFilled g.bundle) (sym same_objects) m.filled.objects; client = subst (IsScripted g.bundle) (sym same_client) m.scripted } in
-      let whole : HasEnding (run_of g.bundle g.entry s) = m.ready.begins.ends s given in
-      subst HasEnding (run_is g.bundle (setting_of g) g.entry ps c begins ∙ ap (λ n. run (named g.bundle) n c) (sym (add-one g.budget))) whole
+  ends_so c begins = record { each = each }
+    where
+      each : (qs : List ℕ) → HasEnding (run (named g.bundle) (g.budget + 1) (with_picks qs c))
+      each qs =
+          let s : Setting = by_picks (setting_of g) qs in
+          let given : IsLoaded g.bundle s = record { objects = subst (AreFilled g.bundle) (sym same_objects) m.filled.objects; client = subst (IsScripted g.bundle) (sym same_client) m.scripted } in
+          let whole : HasEnding (run_of g.bundle g.entry s) = m.ready.begins.ends s given in
+          subst HasEnding (run_by g.bundle (setting_of g) g.entry ps c begins qs ∙ ap (λ n. run (named g.bundle) n (with_picks qs c)) (sym (add-one g.budget))) whole
 
 -- the same of what stands in a player
 module _ (v g : Given) (ps : List ℕ) (heap : HeapContents) (k : Client) (rule : Rule) (c : Configuration) (same : v ≡ g) (m : AreMade g heap k) (ruled : rule ≡ v.rule)
@@ -107,8 +109,8 @@ module _ (v g : Given) (ps : List ℕ) (heap : HeapContents) (k : Client) (rule 
   pub first_by : BeginsAt g ps c
   first_by = record { is = first_is }
 
-  pub ends_by : ComesToEnd (named g.bundle) (g.budget + 1) c
-  ends_by = record { is = ends_so g ps heap k m c first_is }
+  pub ends_by : AllEnd (named g.bundle) (g.budget + 1) c
+  ends_by = ends_so g ps heap k m c first_is
 
   pub picks_by : c.picks ≡ ps
   picks_by = (begins_with g.bundle (setting_of g) g.entry ps c first_is).0
@@ -119,24 +121,32 @@ module _ (v g : Given) (ps ns : List ℕ) (c : Configuration) (same : v ≡ g) (
   begins : first_configuration (named g.bundle) (by_picks (setting_of g) ns) g.entry ≡ Some c
   begins = subst (λ ps. first_configuration (named g.bundle) (by_picks (setting_of g) ps) g.entry ≡ Some c) numbers first.is
 
-  pub path_so : TreesArePlain → (made : List Pick) → MakesPicks (named v.bundle) (v.budget + 1) c ns made → made ≡ path (tree_of g) ns
+  pub path_so : (made : List Pick) → MakesPicks (named v.bundle) (v.budget + 1) c ns made → made ≡ path (tree_of g) ns
   unfolding tree_of
-  path_so plain made is =
+  path_so made is =
       let whole : MakesPicks (named g.bundle) (g.budget + 1) c ns made = subst (λ (g : Given). MakesPicks (named g.bundle) (g.budget + 1) c ns made) same is in
       let counted : MakesPicks (named g.bundle) (suc g.budget) c ns made = subst (λ n. MakesPicks (named g.bundle) n c ns made) (add-one g.budget) whole in
-      counted.is ∙ sym (run_path g.bundle (setting_of g) g.entry ns c begins plain)
+      run_path g.bundle (setting_of g) g.entry ns c begins made counted
 
-  pub leaf_so : RunsAreTrees → IsReady g → (steps kept : List (List Line)) (fs : List Final) (e : Ending) (o : Option Text) → fs ≡ v.finals → kept ≡ steps
-      → RunsTo (named v.bundle) (v.budget + 1) c (flat_map (λ ls. ls) steps) e → seen_by v.bundle fs (flat_map (λ ls. ls) kept) e ≡ o → leaf (tree_of g) ns ≡ o
-  unfolding tree_of
-  leaf_so trees ready steps kept fs e o finals lines is seen =
-      let ran : RunsTo (named g.bundle) (g.budget + 1) c (flat_map (λ ls. ls) steps) e = subst (λ (g : Given). RunsTo (named g.bundle) (g.budget + 1) c (flat_map (λ ls. ls) steps) e) same is in
-      let counted : RunsTo (named g.bundle) (suc g.budget) c (flat_map (λ ls. ls) steps) e = subst (λ n. RunsTo (named g.bundle) n c (flat_map (λ ls. ls) steps) e) (add-one g.budget) ran in
-      run_leaf g.bundle (setting_of g) g.entry ns c begins trees (flat_map (λ ls. ls) steps) e counted.is
-      ∙ ap (λ fs. seen_by g.bundle fs (flat_map (λ ls. ls) steps) e) (sym ready.finals) ∙ ap (λ (g : Given). seen_by g.bundle g.finals (flat_map (λ ls. ls) steps) e) (sym same)
+  -- what is seen of the lines that were kept
+  seen_is : IsReady g → (steps kept : List (List Line)) (fs : List Final) (e : Ending) (o : Option Text) → fs ≡ v.finals → kept ≡ steps → seen_by v.bundle fs (flat_map (λ ls. ls) kept) e ≡ o
+      → seen_by g.bundle (finals_in 0 (global_names g.bundle) (setting_of g).objects) (flat_map (λ ls. ls) steps) e ≡ o
+  seen_is ready steps kept fs e o finals lines seen =
+      ap (λ fs. seen_by g.bundle fs (flat_map (λ ls. ls) steps) e) (sym ready.finals) ∙ ap (λ (g : Given). seen_by g.bundle g.finals (flat_map (λ ls. ls) steps) e) (sym same)
       ∙ ap (λ fs. seen_by v.bundle fs (flat_map (λ ls. ls) steps) e) (sym finals) ∙ ap (λ (ks : List (List Line)). seen_by v.bundle fs (flat_map (λ ls. ls) ks) e) (sym lines) ∙ seen
 
-  pub shown_so : RunsAreTrees → IsReady g → (steps kept : List (List Line)) (fs : List Final) (e : Ending) (o : Option Text) → fs ≡ v.finals → kept ≡ steps
-      → RunsTo (named v.bundle) (v.budget + 1) c (flat_map (λ ls. ls) steps) e → seen_by v.bundle fs (flat_map (λ ls. ls) kept) e ≡ o → shows_of g ns ≡ o
-  unfolding tree_of shows_of
-  shown_so trees ready steps kept fs e o finals lines is seen = shows_by trees g.bundle (setting_of g) g.entry ns ∙ leaf_so trees ready steps kept fs e o finals lines is seen
+  pub leaf_so : IsReady g → (steps kept : List (List Line)) (fs : List Final) (e : Ending) (o : Option Text) → fs ≡ v.finals → kept ≡ steps
+      → LeadsTo (named v.bundle) (v.budget + 1) c ns (flat_map (λ ls. ls) steps) e → seen_by v.bundle fs (flat_map (λ ls. ls) kept) e ≡ o → leaf (tree_of g) ns ≡ o
+  unfolding tree_of
+  leaf_so ready steps kept fs e o finals lines is seen =
+      let ran : LeadsTo (named g.bundle) (g.budget + 1) c ns (flat_map (λ ls. ls) steps) e = subst (λ (g : Given). LeadsTo (named g.bundle) (g.budget + 1) c ns (flat_map (λ ls. ls) steps) e) same is in
+      let counted : LeadsTo (named g.bundle) (suc g.budget) c ns (flat_map (λ ls. ls) steps) e = subst (λ n. LeadsTo (named g.bundle) n c ns (flat_map (λ ls. ls) steps) e) (add-one g.budget) ran in
+      run_leaf g.bundle (setting_of g) g.entry ns c begins (flat_map (λ ls. ls) steps) e counted ∙ seen_is ready steps kept fs e o finals lines seen
+
+  pub shown_so : IsReady g → (schedule : List ℕ) (steps kept : List (List Line)) (fs : List Final) (e : Ending) (o : Option Text) → fs ≡ v.finals → kept ≡ steps
+      → RunsTo (named v.bundle) (v.budget + 1) c schedule (flat_map (λ ls. ls) steps) e → seen_by v.bundle fs (flat_map (λ ls. ls) kept) e ≡ o → shows_of g schedule ≡ o
+  unfolding shows_of
+  shown_so ready schedule steps kept fs e o finals lines is seen =
+      let ran : RunsTo (named g.bundle) (g.budget + 1) c schedule (flat_map (λ ls. ls) steps) e = subst (λ (g : Given). RunsTo (named g.bundle) (g.budget + 1) c schedule (flat_map (λ ls. ls) steps) e) same is in
+      let counted : RunsTo (named g.bundle) (suc g.budget) c schedule (flat_map (λ ls. ls) steps) e = subst (λ n. RunsTo (named g.bundle) n c schedule (flat_map (λ ls. ls) steps) e) (add-one g.budget) ran in
+      run_shown g.bundle (setting_of g) g.entry ns c begins schedule (flat_map (λ ls. ls) steps) e counted ∙ seen_is ready steps kept fs e o finals lines seen

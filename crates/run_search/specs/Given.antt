@@ -12,7 +12,7 @@ use Rattle.odometer.specs.Trees.{Tree}
 use Rattle.seen_runs.specs.Seen.{by_picks, global_names, shows}
 use Rattle.seen_runs.specs.Finals.{finals_in}
 use Rattle.seen_runs.specs.declared.globals.Final.{Final}
-use Rattle.search_laws.specs.Programs.{shows_tree}
+use Rattle.local_laws.specs.LocalSearch.{local_shows_tree}
 use Rattle.mu_texts.specs.Answer.{Part, loaded, client_part}
 use Rattle.mu_texts.specs.Comes.{CanBegin}
 
@@ -49,8 +49,9 @@ setting_of g =
       rule = g.rule;
     }
 
+-- what each run shows in which local steps come first
 unfoldable pub tree_of : Given → Tree (Option Text)
-tree_of g = shows_tree g.bundle (setting_of g) g.entry
+tree_of g = local_shows_tree g.bundle (setting_of g) g.entry
 
 unfoldable pub shows_of : Given → List ℕ → Option Text
 shows_of g ps = shows g.bundle (setting_of g) g.entry ps

@@ -8,24 +8,27 @@ use Rattle.ir_tree.specs.declared.items.Item.{Item}
 use Rattle.mu_model.specs.Configuration.{Configuration}
 use Rattle.mu_model.specs.Programs.{named}
 use Rattle.mu_model.specs.Outcomes.{Outcome, Next, End, Stuck}
-use Rattle.mu_model.specs.Step.{threads_from, runnable, ends_or_picks, step}
+use Rattle.mu_model.specs.Step.{step}
 use Rattle.mu_model.specs.Run.{Run, Ends, Breaks, Unfinished, behind, goes_on, run, client_answers}
 use Rattle.model_laws.specs.Bounds.{HasEnding}
 use Rattle.mu_model.specs.declared.endings.StepEnd.{StepEnd}
 use Rattle.mu_model.specs.declared.endings.StepEnd.TheVariants.{Went, Ended}
+use Rattle.client_hooks.specs.Ways.{by_entries, client_answers_by, entries_answer}
 use Rattle.run_state.specs.Outcome.{outcome_of}
 use Rattle.odometer.specs.Trees.{pick, rest}
 use Rattle.odometer.specs.Odometer.{path}
 use Rattle.odometer.specs.GrownLaws.{picks_one}
 use Rattle.odometer.specs.declared.picks.Pick.{Pick}
-use Rattle.search_laws.specs.Moved.{step_tree, run_tree, StepsGoOn, StepsEnd, GoesOn, IsOver}
-use Rattle.std.proofs.lemmas.List.{reverse-reverse}
+use Rattle.search_laws.specs.Moved.{step_tree}
 use Rattle.run_state.specs.Options.{step_options}
 use Rattle.run_search.specs.StepPaths.{step_threads, step_path}
 
--- a step by the client's own answer
+-- a step by the client's own answer, which is that of its entries
 abbrev pub answered_step : Program → Configuration → Outcome
-answered_step p c = client_answers p c.client (step p c)
+answered_step p c = client_answers_by by_entries p c.client (step p c)
+
+pub own_answer : (p : Program) (c : Configuration) → answered_step p c ≡ client_answers p c.client (step p c)
+own_answer p c = entries_answer p c.client (step p c)
 
 -- the step went on from c to d, and its lines came after those that were kept
 pub record WentOn (p : Program) (c d : Configuration) (kept after : List Line) : Type 0 where
@@ -45,93 +48,21 @@ IsRun (Ends steps ls e) lines ending = (flat_map (λ ls. ls) steps ++ ls ≡ lin
 IsRun Breaks lines ending = ⊥
 IsRun Unfinished lines ending = ⊥
 
--- A run of so many steps at most: it comes to an ending; it has these lines and this ending; and the numbers make these picks. These are
--- records, so that no check computes the run.
-pub record ComesToEnd (p : Program) (n : ℕ) (c : Configuration) : Type 0 where
-  pub is : HasEnding (run p n c)
-
-pub record RunsTo (p : Program) (n : ℕ) (c : Configuration) (lines : List Line) (ending : Ending) : Type 0 where
-  pub is : IsRun (run p n c) lines ending
-
-pub record MakesPicks (p : Program) (n : ℕ) (c : Configuration) (numbers : List ℕ) (made : List Pick) : Type 0 where
-  pub is : made ≡ path (run_tree p n c) numbers
-
--- What was made of a run, and what is left of it, make the whole.
-pub record SoFar (p : Program) (whole : Run) (picks : List Pick) (numbers : List ℕ) (n : ℕ) (c : Configuration) (made : List Pick) (kept : List Line) : Type 0 where
-  pub ends : HasEnding (run p n c)
-  pub left : drop (length made) numbers ≡ c.picks
-  pub path : picks ≡ made ++ path (run_tree p n c) c.picks
-  pub run : (lines : List Line) (e : Ending) → IsRun (run p n c) lines e → IsRun whole (kept ++ lines) e
-
 -- ---- laws
 
 module _ (p : Program) (n : ℕ) (c : Configuration) (ends : HasEnding (run p (suc n) c)) where
   pub not_stuck : answered_step p c ≢ Stuck
-  not_stuck e = subst (λ o. HasEnding (goes_on (run p n) o)) e ends
+  not_stuck e = subst (λ o. HasEnding (goes_on (run p n) o)) (sym (own_answer p c) ∙ e) ends
 
-run_behind : (ls lines : List Line) (r : Run) (e : Ending) → IsRun r lines e → IsRun (behind ls r) (ls ++ lines) e
+pub run_behind : (ls lines : List Line) (r : Run) (e : Ending) → IsRun r lines e → IsRun (behind ls r) (ls ++ lines) e
 run_behind ls lines (Ends steps more x) e h = (append_assoc ls (flat_map (λ ls. ls) steps) more ∙ ap (λ ms. ls ++ ms) h.0, h.1)
 run_behind ls lines Breaks e h = h
 run_behind ls lines Unfinished e h = h
 
-behind_ends : (ls : List Line) (r : Run) → HasEnding (behind ls r) → HasEnding r
+pub behind_ends : (ls : List Line) (r : Run) → HasEnding (behind ls r) → HasEnding r
 behind_ends ls (Ends steps more x) h = tt
 behind_ends ls Breaks h = h
 behind_ends ls Unfinished h = h
-
--- lines of the step before are no part of a step
-lines_aside : (p : Program) (n : ℕ) (c : Configuration) (ls : List Line) → run p n (record c { lines = ls }) ≡ run p n c
-lines_aside p zero c ls = refl
-lines_aside p (suc n) c ls = ap (λ o. goes_on (run p n) (client_answers p c.client o)) (by (threads_from 0 c.threads) (runnable c))
-  where
-    by : (ts is : List ℕ) → ends_or_picks p (record c { lines = ls }) ts is ≡ ends_or_picks p c ts is
-    by [] is = refl
-    by (t ∷ ts) [] = refl
-    by (t ∷ ts) (i ∷ is) = refl
-
-run_goes : (p : Program) (n : ℕ) (c d : Configuration) (ls : List Line) → Next (record d { lines = reverse ls }) ≡ answered_step p c → run p (suc n) c ≡ behind ls (run p n d)
-run_goes p n c d ls e =
-    ap (goes_on (run p n)) (sym e)
-    ∙ ap (λ (r : Run). behind (reverse (reverse ls)) r) (lines_aside p n d (reverse ls))
-    ∙ ap (λ (l : List Line). behind l (run p n d)) (reverse-reverse ls)
-
-module _ (p : Program) (whole : Run) (picks : List Pick) (numbers : List ℕ) (n : ℕ) (c : Configuration) (made : List Pick) (kept : List Line) (far : SoFar p whole picks numbers (suc n) c made kept) where
-  pub one_more : (d : Configuration) (more : List Pick) (after : List Line) → StepsGoOn → more ≡ made ++ path (step_tree p c) c.picks → drop (length more) numbers ≡ rest (step_tree p c) c.picks → WentOn p c d kept after
-      → SoFar p whole picks numbers n d more after
-  one_more d more after goes noted left w =
-      let g : GoesOn p n c d w.lines = goes p n c d w.lines w.is in
-      let same : run p (suc n) c ≡ behind w.lines (run p n d) = run_goes p n c d w.lines w.is in
-      record {
-        ends = behind_ends w.lines (run p n d) (subst HasEnding same far.ends);
-        left = left ∙ g.picks;
-        path = far.path ∙ ap (λ ps. made ++ ps) g.path ∙ sym (append_assoc made (path (step_tree p c) c.picks) (path (run_tree p n d) d.picks))
-            ∙ ap (λ ps. ps ++ path (run_tree p n d) d.picks) (sym noted);
-        run =
-            λ lines e h.
-            let all : IsRun whole (kept ++ (w.lines ++ lines)) e = far.run (w.lines ++ lines) e (subst (λ r. IsRun r (w.lines ++ lines) e) (sym same) (run_behind w.lines lines (run p n d) e h)) in
-            subst (λ ls. IsRun whole ls e) (sym (append_assoc kept w.lines lines) ∙ ap (λ ls. ls ++ lines) (sym w.more)) all;
-      }
-
-  -- the whole run, with its picks
-  pub whole_picks : (more : List Pick) (after : List Line) (e : Ending) → StepsEnd → more ≡ made ++ path (step_tree p c) c.picks → CameToEnd p c kept after e → more ≡ picks
-  whole_picks more after e over noted w =
-      let o : IsOver p n c w.lines e = over p n c w.lines e w.is in
-      noted ∙ sym (far.path ∙ ap (λ ps. made ++ ps) o.path)
-
-  pub whole_run : (after : List Line) (e : Ending) → CameToEnd p c kept after e → IsRun whole after e
-  whole_run after e w =
-      let same : run p (suc n) c ≡ Ends [] w.lines e = ap (goes_on (run p n)) (sym w.is) in
-      subst (λ ls. IsRun whole ls e) (sym w.more) (far.run w.lines e (subst (λ r. IsRun r w.lines e) (sym same) (refl, refl)))
-
--- at the beginning
-pub begins_far : (p : Program) (numbers : List ℕ) (n : ℕ) (c : Configuration) (made : List Pick) (kept : List Line) → HasEnding (run p n c) → c.picks ≡ numbers → made ≡ [] → kept ≡ []
-    → SoFar p (run p n c) (path (run_tree p n c) numbers) numbers n c made kept
-begins_far p numbers n c made kept ends same none empty = record {
-  ends = ends;
-  left = ap (λ (ps : List Pick). drop (length ps) numbers) none ∙ sym same;
-  path = ap (path (run_tree p n c)) (sym same) ∙ ap (λ ps. ps ++ path (run_tree p n c) c.picks) (sym none);
-  run = λ lines e h. subst (λ ls. IsRun (run p n c) (ls ++ lines) e) (sym empty) h;
-}
 
 -- ---- a step, by what the machine answered and how many options there were
 

@@ -3,5 +3,6 @@
 
 mod player;
 mod playing;
+mod zeros;
 
 pub use player::{Player, Scripts};

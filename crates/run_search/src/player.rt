@@ -6,7 +6,7 @@ ghost use Rattle.mu_model.specs.Programs.{named};
 ghost use Rattle.loaded_programs.specs.Laws.{IsScripted};
 ghost use Rattle.mu_texts.specs.Answer.{loaded, client_part};
 ghost use Rattle.mu_texts.specs.Comes.{IsFilled};
-ghost use Rattle.run_search.specs.Playing.{ComesToEnd};
+ghost use Rattle.run_search.specs.Steps.{AllEnd};
 ghost use Rattle.run_search.specs.Given.{tree_of, shows_of, BeginsAt, IsReady};
 
 use crate::playing::play_whole;
@@ -20,7 +20,6 @@ use mu_texts::{Stop, judge_client, judge_heap_script};
 use mu_threads::Schedule;
 use odometer::{Pick, Play};
 use run_start::RunInputs;
-use search_laws::picks_are_only_picked_from;
 use seen_runs::{Final, seen_text};
 use std::alloc::{AllocError, Global};
 use std::marker::Model;
@@ -49,7 +48,7 @@ pub struct Player<'a> {
 }
 
 impl<'a> Model for Player<'a> {
-    ghost use Rattle.run_search.specs.Playing.{ComesToEnd};
+    ghost use Rattle.run_search.specs.Steps.{AllEnd};
     ghost use Rattle.run_search.specs.Given.{Given};
 
     ghost Value = { Given };
@@ -126,7 +125,7 @@ impl<'a> Player<'a> {
         ensures bundle { IfOk result (λ m. m.bundle ≡ self.now.bundle) }
         ensures fresh { IfOk result (λ m. m.ended ≡ false) }
         ensures first { IfOk result (λ m. BeginsAt self.now picks m.configuration) }
-        ensures ends { IfOk result (λ m. ComesToEnd (named self.now.bundle) (self.now.budget + 1) m.configuration) }
+        ensures ends { IfOk result (λ m. AllEnd (named self.now.bundle) (self.now.budget + 1) m.configuration) }
         ensures picks { IfOk result (λ m. m.configuration.picks ≡ picks) }
     {
         let scripts = &self.scripts;
@@ -143,26 +142,30 @@ impl<'a> Player<'a> {
         Machine::new(self.alloc, self.code, scripts.entry, inputs)
     }
 
-    // Makes the run of these numbers, and writes what is seen of it. False where it comes to its budget.
+    // Makes the run of these numbers in which local steps come first, and writes what is seen of it and the schedule that it is the run of.
+    // False where it comes to its budget.
     fn run(
         &self,
         numbers: &[u32],
         made: &mut Vec<Pick>,
         text: &mut Vec<u8>,
+        schedule: &mut Vec<u32>,
     ) -> Result<bool, AllocError>
         requires { IsReady self.now }
         ensures path { OnOk result (made.new.items ≡ path (tree_of self.now) numbers.now) }
         ensures text { IfOk result (λ says. says ≡ true → leaf (tree_of self.now) numbers.now ≡ Some text.new.items) }
         ensures silent { IfOk result (λ says. says ≡ false → leaf (tree_of self.now) numbers.now ≡ None) }
-        ensures shown { IfOk result (λ says. says ≡ true → shows_of self.now numbers.now ≡ Some text.new.items) }
+        ensures shown { IfOk result (λ says. says ≡ true → shows_of self.now schedule.new.items ≡ Some text.new.items) }
     {
-        picks_are_only_picked_from();
         made.clear();
+        schedule.clear();
         let picks = self.schedule(numbers)?;
         let machine = self.begin(picks)?;
         let mut kept = Vec::new(self.alloc);
         let steps = self.scripts.budget as u64 + 1;
-        let ending = play_whole(self.code, machine, steps, numbers, made, &mut kept)?;
+        let ending = play_whole(
+            self.alloc, self.code, machine, steps, numbers, made, &mut kept, schedule,
+        )?;
         let finals = self.finals.as_slice();
         let lines = kept.as_slice();
         seen_text(self.code, finals, lines, &ending, text)
@@ -183,7 +186,6 @@ impl<'a> Play for Player<'a> {
         text: &mut Vec<u8>,
         schedule: &mut Vec<u32>,
     ) -> Result<bool, AllocError> {
-        copy_numbers(numbers, schedule)?;
-        self.run(numbers, made, text)
+        self.run(numbers, made, text, schedule)
     }
 }

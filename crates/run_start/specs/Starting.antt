@@ -1,5 +1,5 @@
 -- Nothing that a reader believes of a run rests on this. It is the first configuration of a run, by the numbers of the code.
-use Rattle.std.specs.Prelude.{◌≡◌, ℕ, zero, suc, ◌+◌, ◌-◌, ◌<◌, ◌==◌, ◌||◌, false, nat_lt, List, [], ◌∷◌, ◌++◌, Option, Some, None, IsSome, IsSomeAnd, length, map, take, slice_get, slice_index_or, refl}
+use Rattle.std.specs.Prelude.{◌≡◌, ℕ, zero, suc, ◌+◌, ◌-◌, ◌^◌, ◌<◌, ◌==◌, ◌||◌, false, nat_lt, List, [], ◌∷◌, ◌++◌, Option, Some, None, IsSome, IsSomeAnd, length, map, take, slice_get, slice_index_or, refl}
 use Rattle.std.proofs.Common.{sym, ◌∙◌, ap, subst, arith, add-one, inl, inr}
 use Rattle.std.proofs.lemmas.Bool.Decides.{nat_tests, eqb_tells}
 use Rattle.std.proofs.Math.Seq.{take-suc}
@@ -44,6 +44,14 @@ starting bundle set f = first_configuration (numbered bundle) set f
 abbrev pub leaves_of : List TypeDef → Option TypeDef → List ℕ
 leaves_of graph (Some (Iref t)) = leaf_classes graph t
 leaves_of graph _ = []
+
+-- references to places, of a type with fewer than 2^32 leaves
+abbrev pub AreFewPlaces : List TypeDef → Option TypeDef → Type 0
+AreFewPlaces graph (Some (Iref t)) = length (leaf_classes graph t) < 2 ^ 32
+AreFewPlaces graph _ = ⊥
+
+abbrev pub HasFewPlaces : List TypeDef → ℕ → Type 0
+HasFewPlaces graph c = AreFewPlaces graph (slice_get graph c)
 
 -- the object of a global whose places have that class
 unfoldable pub global_object : List TypeDef → ℕ → HeapObject

@@ -1,5 +1,5 @@
 // What a run begins with.
-ghost use Rattle.std.specs.Prelude.{◌≡◌, ◌<◌, ◌++◌, ◌∷◌, [], IsSome, IsSomeAnd, Some, IfOk, OnOk, length};
+ghost use Rattle.std.specs.Prelude.{◌≡◌, ◌^◌, ◌<◌, ◌++◌, ◌∷◌, [], IsSome, IsSomeAnd, Some, IfOk, OnOk, length};
 ghost use Rattle.type_definitions.specs.Same.{IsGraph};
 ghost use Rattle.checked_code.specs.Checking.{bundle_tables};
 ghost use Rattle.typed_heap.specs.Objects.{leaf_classes, object_of};
@@ -7,7 +7,7 @@ ghost use Rattle.typed_heap.specs.Heap.{AreNarrow};
 ghost use Rattle.mu_model.specs.Run.{global_objects};
 ghost use Rattle.model_numbers.specs.Numbered.{numbered};
 ghost use Rattle.run_state.specs.Acting.{entered};
-ghost use Rattle.run_start.specs.Starting.{global_object};
+ghost use Rattle.run_start.specs.Starting.{HasFewPlaces, global_object};
 
 use bundle_facts::{globals_are_types, widths_are_narrow};
 use checked_code::Checked;
@@ -22,15 +22,17 @@ use run_state::waiting::entered;
 use std::alloc::{AllocError, Global};
 use typed_heap::Heap;
 
-/// Adds the object of a global with the leaves of that type.
+/// Adds the object of a global with the leaves of that type. It is refused when out of memory, and where the heap would have too many
+/// objects; no clause says what the heap holds then.
 fn add_object(classes: &Classes, t: u32, heap: &mut Heap) -> Result<(), AllocError>
     requires graph { IsGraph classes.now.definitions }
     requires narrow { AreNarrow classes.now.definitions }
     requires t { t < length classes.now.definitions }
+    requires few { length (leaf_classes classes.now.definitions t) < 2 ^ 32 }
     ensures objects { OnOk result (heap.new.objects ≡ heap.old.objects ++ object_of classes.now.definitions (leaf_classes classes.now.definitions t) ∷ []) }
     ensures left { OnOk result (heap.new.left ≡ heap.old.left) }
 {
-    if u32::try_from(classes.leaves(t).len()).is_err() || heap.objects() >= MOST_OBJECTS {
+    if heap.objects() >= MOST_OBJECTS {
         return Err(AllocError);
     }
     heap.add_global(classes, t)?;
@@ -43,17 +45,19 @@ fn add_global(classes: &Classes, class: u32, heap: &mut Heap) -> Result<(), Allo
     requires graph { IsGraph classes.now.definitions }
     requires narrow { AreNarrow classes.now.definitions }
     requires class { class < length classes.now.definitions }
+    requires places { HasFewPlaces classes.now.definitions class }
     ensures objects { OnOk result (heap.new.objects ≡ heap.old.objects ++ global_object classes.now.definitions class ∷ []) }
     ensures left { OnOk result (heap.new.left ≡ heap.old.left) }
 {
     match classes.definition(class) {
         TypeDef::Iref(t) => add_object(classes, *t, heap),
-        _ => Err(AllocError),
+        _ => unreachable!(),
     }
 }
 
-/// A heap with the objects of the globals, in text order, in which so many cells may be made besides.
-#[tactic(auto, using(crate::specs::Starting::globals))]
+/// A heap with the objects of the globals, in text order, in which so many cells may be made besides. It is refused when out of memory, and
+/// where there would be more than the most objects of a heap. Then there is no heap.
+#[tactic(auto, using(crate::specs::Starting::globals, crate::proofs::FewPlaces::have_few_places))]
 pub fn first_heap(alloc: Global, code: &Checked, cells: u32) -> Result<Heap, AllocError>
     ensures objects { IfOk result (λ heap. heap.objects ≡ global_objects (bundle_tables code.now)) }
     ensures left { IfOk result (λ heap. heap.left ≡ cells) }

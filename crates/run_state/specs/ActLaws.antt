@@ -41,7 +41,7 @@ use Rattle.run_state.specs.Outcome.{outcome_of}
 use Rattle.run_state.specs.Held.{Held, configuration}
 use Rattle.run_state.specs.Acting.{begun, turn, doing_of, answers, went_on, acting, faulting, is_fault, undefined_at, goes_on, gets, entered, Awaited, with_awaited, awaited_by, awaits, awaited, entered_above, objects_end, thread_ended}
 use Rattle.run_state.specs.StepLaws.{set_again, on_there, on_is, some_there, some_of, with_there, with_is, get_below, doing_at, doing_is, code_is, code_there, acting_there, acting_is}
-use Rattle.run_state.specs.Unwinding.{Catches, catches_first, uncaught}
+use Rattle.run_state.specs.Unwinding.{Catches, catches_first, unwinds, uncaught}
 
 -- ---- the frames that the thread goes on with
 
@@ -613,15 +613,15 @@ throw_uncaught bundle s e h none =
     acting_is bundle s (Throws e) r.0 r.1 ∙ tried_is (numbered bundle) s r.0 EnteredFrames (unwinding (numbered bundle) e (frames_of s.frames)) (Err cases.Uncaught) (throw_go s r.0) (uncaught (numbered bundle) e (frames_of s.frames) none)
 
 caught_there : (bundle : List Item) (s : Held) (e : Scalar) (n : ℕ) → acting bundle s (Throws e) ≢ Stuck → first_handler (frames_of s.frames) ≡ Some n
-    → (c : Catches (numbered bundle) e (frames_of s.frames) n) × (h : Activation) × (gets bundle c.frame c.goal e ≡ Some h)
+    → (c : Catches (frames_of s.frames) n) × (h : Activation) × (gets bundle c.frame c.goal e ≡ Some h)
 unfolding throw_go gets
 caught_there bundle s e n h first =
     let p = numbered bundle in
-    let c = catches_first p e (frames_of s.frames) n first in
+    let c = catches_first (frames_of s.frames) n first in
     let r = acting_there bundle s (Throws e) h in
     let q = tried_there p s r.0 EnteredFrames (unwinding p e (frames_of s.frames)) (throw_go s r.0) r.2 in
     let go : Activation → Option (Result EnteredFrames Case) = λ h. Some (Ok (record { frames = h ∷ drop (suc n) (frames_of s.frames); ended = take n (frames_of s.frames) })) in
-    let w = with_there (caught p c.frame c.goal e) go q.0 (sym c.unwound ∙ q.1) in
+    let w = with_there (caught p c.frame c.goal e) go q.0 (sym (unwinds p e (frames_of s.frames) n c.frame c.goal first c.there c.handler) ∙ q.1) in
     (c, w.0, w.1)
 
 pub throw_there : (bundle : List Item) (s : Held) (e : Scalar) (n : ℕ) → acting bundle s (Throws e) ≢ Stuck → first_handler (frames_of s.frames) ≡ Some n
@@ -641,17 +641,12 @@ pub throw_is : (bundle : List Item) (s : Held) (e : Scalar) (n : ℕ) (c : Chain
 unfolding throw_go gets objects_end
 throw_is bundle s e n c f g h going first there handler left way =
     let p = numbered bundle in
-    let fs = frames_of s.frames in
-    let k = catches_first p e (frames_of s.frames) n first in
-    let same : k.frame ≡ f = let found = k.there in cc in
-    let goal : k.goal ≡ g = let found = k.handler in let by = ap (λ (f : Activation). f.handler) same in cc in
     let go : Activation → Option (Result EnteredFrames Case) = λ h. Some (Ok (record { frames = h ∷ drop (suc n) (frames_of s.frames); ended = take n (frames_of s.frames) })) in
-    let so : caught p k.frame k.goal e ≡ Some h = ap (λ x. caught p x k.goal e) same ∙ ap (λ y. caught p f y e) goal ∙ way in
     let rest = drop_at (frames_of s.frames) n f c.top c.below there left in
     let r = acting_there bundle s (Throws e) going in
     let os = fold (λ os n. changed killed n os) s.objects (flat_map (λ (f : Activation). f.objects) (take n (frames_of s.frames))) in
     acting_is bundle s (Throws e) r.0 r.1
-    ∙ tried_is p s r.0 EnteredFrames (unwinding p e (frames_of s.frames)) (Ok (record { frames = h ∷ drop (suc n) (frames_of s.frames); ended = take n (frames_of s.frames) })) (throw_go s r.0) (k.unwound ∙ ap (λ o. with_some o go) so)
+    ∙ tried_is p s r.0 EnteredFrames (unwinding p e (frames_of s.frames)) (Ok (record { frames = h ∷ drop (suc n) (frames_of s.frames); ended = take n (frames_of s.frames) })) (throw_go s r.0) (unwinds p e (frames_of s.frames) n f g first there handler ∙ ap (λ o. with_some o go) way)
     ∙ next_is s r.0 h (drop (suc n) (frames_of s.frames)) os (Some (h ∷ drop (suc n) (frames_of s.frames))) refl
     ∙ ap (λ bs. went_on (record s { frames = record { top = h; below = bs }; objects = os })) (sym rest.1)
 

@@ -23,11 +23,11 @@ use Rattle.mu_model.specs.Turns.{Turn}
 use Rattle.mu_model.specs.Frames.{passed, caught}
 use Rattle.mu_model.specs.Changes.{changed}
 use Rattle.mu_model.specs.Outcomes.{Outcome, Next, on, faulted, case_of_fault}
-use Rattle.mu_model.specs.Run.{client_answers}
 use Rattle.mu_model.specs.Traps.{trapped}
 use Rattle.mu_model.specs.Step.{performed, turned}
 use Rattle.futex.specs.Waiting.{is_of}
 use Rattle.model_numbers.specs.Numbered.{numbered}
+use Rattle.client_hooks.specs.Ways.{Way, client_answers_by}
 use Rattle.run_state.specs.Outcome.{outcome_of}
 use Rattle.run_state.specs.Held.{Held, held_stacks, configured, configuration}
 
@@ -52,9 +52,9 @@ doing_of p s = p.doing s.frames.top.block s.frames.top.at s.frames.top.vars
 unfoldable pub stepping : List Item → Held → Outcome
 stepping bundle s = on (doing_of (numbered bundle) s) (λ d. turned (numbered bundle) (begun s) (find (is_of s.thread) s.seats.waiters) (turn s d))
 
--- what comes of an outcome where this client answers
-abbrev pub told : List Item → Client → Outcome → Outcome
-told bundle k o = client_answers (numbered bundle) k o
+-- what comes of an outcome where this client answers in that way
+abbrev pub told : Way → List Item → Client → Outcome → Outcome
+told w bundle k o = client_answers_by w (numbered bundle) k o
 
 -- what an answer says, with the thread as it is left
 unfoldable pub answers : StepEnd → Held → Outcome

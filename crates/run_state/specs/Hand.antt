@@ -24,6 +24,7 @@ use Rattle.mu_model.specs.Step.{threads_from, is_blocked, turned, turns, picked,
 use Rattle.model_numbers.specs.Numbered.{numbered}
 use Rattle.mu_threads.specs.Picks.{pick, picked_from}
 use Rattle.seats.specs.Seats.{Seats, seat_of, IsOn, runnable_of}
+use Rattle.client_hooks.specs.Ways.{Way}
 use Rattle.run_state.specs.Held.{Held, ahead, held_stacks, configured, configuration}
 use Rattle.run_state.specs.Outcome.{outcome_of}
 use Rattle.run_state.specs.Acting.{begun, turn, doing_of, stepping, answers, told}
@@ -277,24 +278,24 @@ pub step_over : (bundle : List Item) (s : Held) → length (runnable_of s.seats)
 step_over bundle s some over =
     over_by bundle (configuration s) (threads_from 0 s.seats.threads) (runnable_of s.seats) some (none_filtered (λ i. not (is_blocked s.seats.waiters i)) (threads_from 0 s.seats.threads)) over
 
-pub done_so : (bundle : List Item) (k : Client) (s : Held) (left : List ℕ) (end : StepEnd) → length (runnable_of s.seats) ≡ 0 → left ≡ threads_from 0 s.seats.threads → length left ≡ 0 → answers end s ≡ End [] Done
-    → outcome_of end (configuration s) ≡ told bundle k (step (numbered bundle) (configuration s))
+pub done_so : (w : Way) (bundle : List Item) (k : Client) (s : Held) (left : List ℕ) (end : StepEnd) → length (runnable_of s.seats) ≡ 0 → left ≡ threads_from 0 s.seats.threads → length left ≡ 0 → answers end s ≡ End [] Done
+    → outcome_of end (configuration s) ≡ told w bundle k (step (numbered bundle) (configuration s))
 unfolding answers
-done_so bundle k s left end none same empty is = is ∙ sym (ap (told bundle k) (step_done bundle s left none same empty))
+done_so w bundle k s left end none same empty is = is ∙ sym (ap (told w bundle k) (step_done bundle s left none same empty))
 
-pub waits_so : (bundle : List Item) (k : Client) (s : Held) (left : List ℕ) (end : StepEnd) → length (runnable_of s.seats) ≡ 0 → left ≡ threads_from 0 s.seats.threads → length left ≢ 0 → answers end s ≡ End [] (AllWaiting left)
-    → outcome_of end (configuration s) ≡ told bundle k (step (numbered bundle) (configuration s))
+pub waits_so : (w : Way) (bundle : List Item) (k : Client) (s : Held) (left : List ℕ) (end : StepEnd) → length (runnable_of s.seats) ≡ 0 → left ≡ threads_from 0 s.seats.threads → length left ≢ 0 → answers end s ≡ End [] (AllWaiting left)
+    → outcome_of end (configuration s) ≡ told w bundle k (step (numbered bundle) (configuration s))
 unfolding answers
-waits_so bundle k s left end none same some is = is ∙ sym (ap (told bundle k) (step_waits bundle s left none same some))
+waits_so w bundle k s left end none same some is = is ∙ sym (ap (told w bundle k) (step_waits bundle s left none same some))
 
-pub over_so : (bundle : List Item) (k : Client) (s : Held) (end : StepEnd) → length (runnable_of s.seats) ≢ 0 → s.steps ≡ s.budget → answers end s ≡ End [] (Budget s.steps)
-    → outcome_of end (configuration s) ≡ told bundle k (step (numbered bundle) (configuration s))
+pub over_so : (w : Way) (bundle : List Item) (k : Client) (s : Held) (end : StepEnd) → length (runnable_of s.seats) ≢ 0 → s.steps ≡ s.budget → answers end s ≡ End [] (Budget s.steps)
+    → outcome_of end (configuration s) ≡ told w bundle k (step (numbered bundle) (configuration s))
 unfolding answers
-over_so bundle k s end some over is = is ∙ sym (ap (told bundle k) (step_over bundle s some over))
+over_so w bundle k s end some over is = is ∙ sym (ap (told w bundle k) (step_over bundle s some over))
 
 -- a step that has a rule with the client's answer has one
-pub told_there : (bundle : List Item) (k : Client) (o : Outcome) → told bundle k o ≢ Stuck → o ≢ Stuck
-told_there bundle k o h = λ e. h (ap (told bundle k) e)
+pub told_there : (w : Way) (bundle : List Item) (k : Client) (o : Outcome) → told w bundle k o ≢ Stuck → o ≢ Stuck
+told_there w bundle k o h = λ e. h (ap (told w bundle k) e)
 
 -- ---- what an answer says once the picks are taken, or left
 
@@ -303,12 +304,12 @@ is_went (Ok (Went ls)) = true
 is_went (Ok (Ended ls e)) = false
 is_went (Err e) = false
 
-pub settled : {E : Type 0} (bundle : List Item) (k : Client) (r : Result StepEnd E) (s t u v : Held) → step (numbered bundle) (configuration s) ≡ stepping bundle t → IfOk r (λ end. answers end u ≡ told bundle k (stepping bundle t))
-    → (is_went r ≡ true → configuration v ≡ configuration u) → IfOk r (λ end. outcome_of end (configuration v) ≡ told bundle k (step (numbered bundle) (configuration s)))
+pub settled : {E : Type 0} (w : Way) (bundle : List Item) (k : Client) (r : Result StepEnd E) (s t u v : Held) → step (numbered bundle) (configuration s) ≡ stepping bundle t → IfOk r (λ end. answers end u ≡ told w bundle k (stepping bundle t))
+    → (is_went r ≡ true → configuration v ≡ configuration u) → IfOk r (λ end. outcome_of end (configuration v) ≡ told w bundle k (step (numbered bundle) (configuration s)))
 unfolding answers
-settled bundle k (Ok (Went ls)) s t u v same is taken = ap (outcome_of (Went ls)) (taken refl) ∙ is ∙ ap (told bundle k) (sym same)
-settled bundle k (Ok (Ended ls e)) s t u v same is taken = is ∙ ap (told bundle k) (sym same)
-settled bundle k (Err e) s t u v same is taken = tt
+settled w bundle k (Ok (Went ls)) s t u v same is taken = ap (outcome_of (Went ls)) (taken refl) ∙ is ∙ ap (told w bundle k) (sym same)
+settled w bundle k (Ok (Ended ls e)) s t u v same is taken = is ∙ ap (told w bundle k) (sym same)
+settled w bundle k (Err e) s t u v same is taken = tt
 
 -- ---- the end of a thread
 

@@ -22,6 +22,7 @@ use Rattle.mu_model.specs.Step.{performed, turned}
 use Rattle.futex.specs.Waiting.{is_of}
 use Rattle.model_numbers.specs.Forms.{act_at}
 use Rattle.model_numbers.specs.Numbered.{does_at, numbered}
+use Rattle.client_hooks.specs.Ways.{Way}
 use Rattle.run_state.specs.Outcome.{outcome_of}
 use Rattle.run_state.specs.Held.{Held, held_stacks, configured, configuration}
 use Rattle.run_state.specs.Acting.{told, left_configuration, begun, turn, doing_of, stepping, answers, went_on, acting, found_or}
@@ -100,14 +101,14 @@ unfolding answers
 ends_with c s end e h same = ap (outcome_of end) (sym same) ∙ h
 
 -- what an answer says is no question
-pub told_so : (bundle : List Item) (k : Client) (end : StepEnd) (s : Held) (o : Outcome) → answers end s ≡ o → answers end s ≡ told bundle k o
+pub told_so : (w : Way) (bundle : List Item) (k : Client) (end : StepEnd) (s : Held) (o : Outcome) → answers end s ≡ o → answers end s ≡ told w bundle k o
 unfolding answers
-told_so bundle k (Went ls) s o h = ap (told bundle k) h
-told_so bundle k (Ended ls e) s o h = ap (told bundle k) h
+told_so w bundle k (Went ls) s o h = ap (told w bundle k) h
+told_so w bundle k (Ended ls e) s o h = ap (told w bundle k) h
 
-pub told_plain : {E : Type 0} (bundle : List Item) (k : Client) (r : Result StepEnd E) (s : Held) (o : Outcome) → IfOk r (λ end. answers end s ≡ o) → IfOk r (λ end. answers end s ≡ told bundle k o)
-told_plain bundle k (Ok end) s o h = told_so bundle k end s o h
-told_plain bundle k (Err e) s o h = tt
+pub told_plain : {E : Type 0} (w : Way) (bundle : List Item) (k : Client) (r : Result StepEnd E) (s : Held) (o : Outcome) → IfOk r (λ end. answers end s ≡ o) → IfOk r (λ end. answers end s ≡ told w bundle k o)
+told_plain w bundle k (Ok end) s o h = told_so w bundle k end s o h
+told_plain w bundle k (Err e) s o h = tt
 
 -- ---- steps
 

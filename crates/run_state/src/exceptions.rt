@@ -32,7 +32,8 @@ pub fn is_fault(case: Case) -> bool
     }
 }
 
-/// Adds an exception to the values for a block, where the block has a handler.
+/// Adds an exception to the values for a block, where the block has a handler; else the values stay. It is refused only when out of memory;
+/// no clause says what the list holds then.
 #[tactic(auto, using(crate::specs::ActLaws::gets_plain, crate::specs::ActLaws::gets_exception))]
 pub fn add_exception(
     code: &Checked,
@@ -49,7 +50,8 @@ pub fn add_exception(
     Ok(())
 }
 
-/// The block of a frame's handler. The values for it are written to a list.
+/// The block of a frame's handler. The values for it are written to a list, in place of what it held. It is refused only when out of memory;
+/// then values may be missing.
 pub fn handler_goal(frame: &Frame, out: &mut Slots) -> Result<u32, AllocError>
     requires { IsSome frame.now.handler }
     ensures { IfOk result (λ block. IsSomeAnd frame.now.handler (λ h. goal_of h ≡ record { block = block; values = out.new.values })) }

@@ -63,8 +63,9 @@ fn arriving(
     })
 }
 
-/// Where a frame stands next, once its instruction or the function that it called has these results. Its variables then are written
-/// to a list.
+/// Where a frame stands next, once its instruction or the function that it called has these results. The values of its variables there are
+/// written to a list, in place of what it held. It is refused when out of memory, and where no number tells the next place; then values may
+/// be missing.
 #[tactic(auto, using(crate::specs::ActLaws::going))]
 pub fn passing(
     code: &Checked,

@@ -9,7 +9,8 @@ use std::alloc::{AllocError, Global};
 use std::mem;
 use step_forms::Room;
 
-/// The values in the room with their classes, of which there are as many.
+/// The values in the room with their classes, which are moved out of it: both lists of the room are empty then. The error comes exactly
+/// where the room has not as many classes as values; then the room is as it was. It takes no memory.
 pub fn taken(alloc: Global, room: &mut Room) -> Result<Passed, AllocError>
     ensures { IfOk result (λ values. values ≡ record { types = room.old.types.members; values = room.old.values.values }) }
 {

@@ -43,7 +43,8 @@ impl Wait {
         &self.waits
     }
 
-    /// The room of its list of classes goes to that one.
+    /// Ends a wait that no frame takes up. That list becomes its list of classes, with its room, so that a later wait needs no new
+    /// memory. What the list held, and all else of the wait, is dropped. It takes no memory, and so is not refused.
     pub fn leave_room(mut self, list: &mut Types) {
         mem::swap(&mut self.waits, list);
     }
@@ -129,7 +130,9 @@ pub fn waits_for_values(code: &Checked, frame: &Frame) -> bool
     }
 }
 
-/// What a frame waits for that is to be given values of these classes.
+/// What a frame waits for that is to be given values of these classes: with the arguments of its instruction's exceptional destination, and
+/// the values that it keeps for a client, both copied from its variables. It is refused only when out of memory; then the list of classes
+/// is dropped.
 #[tactic(auto, using(crate::specs::ActLaws::awaiting))]
 pub fn waiting_for(
     alloc: Global,

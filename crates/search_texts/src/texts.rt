@@ -74,10 +74,11 @@ fn last(n: u64, left: bool, says: bool, out: &mut Vec<u8>) -> Result<(), AllocEr
     out.extend_from_slice(b"\n")
 }
 
-/// The text of what a search found, in the order of the outcomes' bytes, as the map has them. It fails only out of memory.
-pub fn search_text(alloc: Global, searched: &Searched) -> Result<Vec<u8>, AllocError>
+/// The text of what a search found, in the order of the outcomes' bytes, as the map has them, with these lines before the last one. It
+/// fails only out of memory.
+pub fn search_text(alloc: Global, searched: &Searched, lines: &[u8]) -> Result<Vec<u8>, AllocError>
     ensures ordered { IsOrdered text_cmp searched.now.found }
-    ensures text { IfOk result (λ text. text.items ≡ entries_text 0 searched.now.found.entries ++ last_line (length searched.now.found.entries) searched.now.left searched.now.says) }
+    ensures text { IfOk result (λ text. text.items ≡ entries_text 0 searched.now.found.entries ++ lines.now ++ last_line (length searched.now.found.entries) searched.now.left searched.now.says) }
 {
     let mut out = Vec::new(alloc);
     let mut k = 0;
@@ -85,6 +86,7 @@ pub fn search_text(alloc: Global, searched: &Searched) -> Result<Vec<u8>, AllocE
         outcome(k, text, picks, &mut out)?;
         k += 1;
     }
+    out.extend_from_slice(lines)?;
     last(k, searched.left, searched.says, &mut out)?;
     Ok(out)
 }

@@ -6,7 +6,7 @@ use Rattle.std.proofs.lemmas.Option.{slice_get_within, same_Some}
 use Rattle.frames.specs.Chains.{StoredChain}
 use Rattle.stacks.specs.Stacks.{Bound}
 use Rattle.stacks.specs.Directories.{Entry, Ready, Active, Dead}
-use Rattle.stacks.proofs.Writes.{get_written, get_unwritten, map_written, get_last}
+use Rattle.stacks.specs.Lemmas.Writes.{get_written, get_unwritten, map_written, get_last}
 use Rattle.mu_threads.specs.Threads.{there}
 use Rattle.mu_model.specs.Configuration as stacks
 use Rattle.seats.proofs.Lists.{get_more}

@@ -9,7 +9,7 @@ use Rattle.stacks.specs.Stacks.{Bound, Unbound}
 use Rattle.stacks.specs.Directories.{Entry, Ready, Active, Dead, state_of, ready_frames}
 use Rattle.stacks.specs.declared.entered.Entered.{Entered}
 use Rattle.stacks.specs.declared.state.StackState.TheVariants as states
-use Rattle.stacks.proofs.Writes.{get_written, get_unwritten, map_pushed}
+use Rattle.stacks.specs.Lemmas.Writes.{get_written, get_unwritten, map_pushed}
 use Rattle.mu_threads.specs.Threads.{Threads, there, stack_of, with_stack, with_state, IsLeft}
 use Rattle.mu_threads.specs.declared.state.ThreadState.{ThreadState}
 use Rattle.mu_threads.specs.declared.state.ThreadState.TheVariants.{Runs, Ended}

@@ -5,7 +5,7 @@ use Rattle.std.proofs.lemmas.Option.{slice_get_within, slice_get_past, same_Some
 use Rattle.frames.specs.Chains.{StoredChain, frames_in}
 use Rattle.stacks.specs.Stacks.{Bound}
 use Rattle.stacks.specs.Directories.{Entry, Ready, Active, Dead}
-use Rattle.stacks.proofs.Writes.{get_written, get_unwritten, get_last}
+use Rattle.stacks.specs.Lemmas.Writes.{get_written, get_unwritten, get_last}
 use Rattle.mu_threads.specs.Threads.{there}
 use Rattle.mu_model.specs.Configuration as stacks
 use Rattle.seats.specs.Kept.{frames_there, stack_seen, stacks_seen, Agree}

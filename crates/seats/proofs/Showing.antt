@@ -8,7 +8,7 @@ use Rattle.frames.specs.Activations.{Activation}
 use Rattle.frames.specs.Chains.{frames_in}
 use Rattle.stacks.specs.Stacks.{Bound}
 use Rattle.stacks.specs.Directories.{Entry}
-use Rattle.stacks.proofs.Writes.{get_written}
+use Rattle.stacks.specs.Lemmas.Writes.{get_written}
 use Rattle.mu_threads.specs.Threads.{Threads, there, stack_of, with_stack}
 use Rattle.futex.specs.declared.waiters.Waiter.{Waiter}
 use Rattle.mu_model.specs.Configuration.{Active}

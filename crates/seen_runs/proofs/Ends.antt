@@ -1,4 +1,4 @@
--- Lemmas on what is seen of the lines of a run.
+-- Lemmas on the outcome of a run's lines.
 use Rattle.std.specs.Prelude.{◌≡◌, ◌≢◌, ◌<◌, ◌≤◌, ◌==◌, ℕ, zero, suc, ◌+◌, Bool, true, false, List, [], ◌∷◌, ◌++◌, Option, Some, None, IsSomeAnd, flat_map, drop, length, slice_get, slice_index_or, codes, if◌then◌else◌, refl}
 use Rattle.std.proofs.Common.{sym, ◌∙◌, ap, arith, append_assoc, add-one, inl, inr, get_or}
 use Rattle.std.proofs.Math.Seq.{drop-cons}
@@ -50,7 +50,7 @@ after_both cell before (l ∷ ls) ms = after_both cell (line_after cell before l
 pub after_step : (cell : CellId) (now later : Scalar) (all more : List (List Line)) (ls : List Line) → all ≡ ls ∷ more → later ≡ last_after cell now ls → last_after cell later (flat_map (λ ls. ls) more) ≡ last_after cell now (flat_map (λ ls. ls) all)
 after_step cell now later all more ls e is = ap (λ s. last_after cell s (flat_map (λ ls. ls) more)) is ∙ sym (after_both cell now ls (flat_map (λ ls. ls) more)) ∙ ap (λ ss. last_after cell now (flat_map (λ ls. ls) ss)) (sym e)
 
--- the list from a place on begins with what stands there
+-- the part of a list from place k on begins with the member at k
 pub item_next : {A : Type 0} (xs : List A) (k : ℕ) (x d : A) → k < length xs → x ≡ get_or xs k d → drop k xs ≡ x ∷ drop (k + 1) xs
 item_next xs k x d l e = drop-cons xs k d l ∙ ap (λ y. y ∷ drop (suc k) xs) (sym e) ∙ ap (λ m. x ∷ drop m xs) (sym (add-one k))
 

@@ -1,4 +1,4 @@
--- Nothing that a reader believes of a search rests on this. It is what is seen of a run, by a list of the globals of one cell.
+-- The outcome of a run, as the code makes it, from a list of the globals of one cell; and a proof that it is the outcome as Seen.antt says it.
 use Rattle.std.specs.Prelude.{◌≡◌, ℕ, zero, suc, ◌+◌, ◌==◌, Bool, true, false, List, [], ◌∷◌, ◌++◌, Option, Some, None, map, option_map, flat_map, length, slice_get, slice_index_or, codes, if◌then◌else◌, refl}
 use Rattle.std.proofs.Common.{sym, ◌∙◌, ap, arith, zero-add}
 use Rattle.ir_tree.specs.declared.items.Item.{Item}
@@ -18,17 +18,17 @@ use Rattle.seen_runs.specs.Seen.{end_of, thread_ends, last_after, small_cells, l
 
 -- ---- the globals of one cell
 
--- the global with that number, where its object has one cell
+-- the global with that name, whose object has number n, where the object has one cell
 abbrev pub small : ℕ → Text → HeapObject → List Final
 small n name o = if length o.leaves == 1 then record { name = name; cell = record { object = n; at = 0 }; before = slice_index_or o.initial 0 Null } ∷ [] else []
 
--- those of globals with these names, from a number on
+-- the same of globals with these names, whose objects have the numbers from n on
 abbrev pub finals_in : ℕ → List Text → List HeapObject → List Final
 finals_in n [] os = []
 finals_in n (name ∷ names) [] = []
 finals_in n (name ∷ names) (o ∷ os) = small n name o ++ finals_in (suc n) names os
 
--- ---- what is seen, by them
+-- ---- the outcome's text, with these globals
 
 abbrev pub line_end : List Item → ℕ → Line → Text
 line_end bundle i l = flat_map (λ n. note_text bundle n ++ codes "\n") (end_of i l)
@@ -51,9 +51,9 @@ seen_by bundle fs ls (endings.AllWaiting is) = Some (over_text bundle fs ls (end
 seen_by bundle fs ls (endings.Budget n) = None
 seen_by bundle fs ls e = Some (cut_text bundle e)
 
--- ---- that this is what is seen
+-- ---- it is the text of the outcome
 
--- what the first cells of objects from a number on begin with
+-- what the first cell of each object holds at the beginning, where the first object has number n
 abbrev AreFirst : (CellId → Scalar) → ℕ → List HeapObject → Type 0
 AreFirst first n os = (m : ℕ) (o : HeapObject) → slice_get os m ≡ Some o → first (record { object = n + m; at = 0 }) ≡ slice_index_or o.initial 0 Null
 
@@ -62,7 +62,7 @@ first_later first n o os h m p e =
     let same : suc n + m ≡ n + suc m = omega arith in
     ap (λ k. first (record { object = k; at = 0 })) same ∙ h (suc m) p e
 
--- one global more, or one whose object has another size
+-- one global more, whose object has one cell or another size
 final_more : (bundle : List Item) (ls : List Line) (now : CellId → Scalar) (f : Final) (fs : List Final) (names : List Text) (cells : List CellId) (b : Bool) → last_after f.cell f.before ls ≡ now f.cell
     → flat_map (final_line bundle ls) fs ≡ final_texts bundle names (map now cells)
     → flat_map (final_line bundle ls) ((if b then f ∷ [] else []) ++ fs) ≡ final_texts bundle (if b then f.name ∷ names else names) (map now (if b then f.cell ∷ cells else cells))

@@ -1,2 +1,3 @@
 pub mod Seen
 pub mod Finals
+pub mod Writes

@@ -12,15 +12,18 @@ use std::alloc::{AllocError, Global};
 use text_forms::Listing;
 use typed_heap::Heap;
 
-/// A global of one cell: its name with its sigil, its cell, and what that begins with.
+/// A global of one cell.
 #[derive(Drop)]
 pub struct Final {
+    /// Its name, with the sigil.
     pub name: Listing<u8>,
+    /// Its cell.
     pub cell: CellId,
+    /// What the cell holds at the beginning.
     pub before: Scalar,
 }
 
-// Adds the global with that name and number, where its object has one cell. It answers the number of the next object.
+// Adds the global with that name, whose object has number n, where the object has one cell. The answer is the number of the next object.
 #[tactic(auto, using(crate::proofs::Ends::globals))]
 fn add_global(
     alloc: Global,
@@ -63,8 +66,8 @@ fn add_item(
     }
 }
 
-/// The globals of one cell, in text order, each with what its cell begins with in this heap, whose first objects are those of the
-/// globals. It fails only out of memory.
+/// The globals of one cell, in text order, each with what its cell holds in this heap at the beginning. The first objects of the heap are
+/// those of the globals. It is refused only when out of memory.
 pub fn finals(alloc: Global, code: &Checked, heap: &Heap) -> Result<Vec<Final>, AllocError>
     ensures { IfOk result (λ found. found.items ≡ finals_in 0 (global_names code.now) heap.now.objects) }
 {

@@ -3,7 +3,6 @@ use Rattle.std.proofs.Common.{◌≡◌, ℕ, zero, suc, ◌+◌, ◌<◌, ◌�
 use Rattle.std.specs.List.{position_from}
 use Rattle.std.proofs.lemmas.Iterator.Adapters.{position_from-zero}
 use Rattle.ir_tree.specs.declared.items.Item.{Item}
-use Rattle.mu_values.specs.declared.scalars.Scalar.TheVariants.{Null}
 use Rattle.checked_code.specs.declared.blocks.Function.{Function}
 use Rattle.checked_code.specs.Checking.{bundle_functions, bundle_tables}
 use Rattle.typed_heap.specs.Places.{with_some}
@@ -121,7 +120,7 @@ handler_below g fs none =
     position_from-zero catches (g ∷ fs) ∙ ap (λ (o : Option Goal). cond (is_some o) (Some 0) (position_from catches (0 + 1) fs)) none ∙ from_more 0 fs ∙ ap (option_map (λ n. n + 1)) (sym (position_from-zero catches fs))
 
 handler_at : (fs : List Activation) (n : ℕ) → first_handler fs ≡ Some n → (f : Activation) × (slice_get fs n ≡ Some f)
-handler_at fs n h = let c = catches_first (numbered []) Null fs n h in (c.frame, c.there)
+handler_at fs n h = let c = catches_first fs n h in (c.frame, c.there)
 
 -- the frame that was found is there
 pub found_there : (fs : List Activation) (from n : ℕ) (u : Unwound) → caught_below u ≡ first_handler (drop from fs) → u ≡ Caught n → from + n < length fs

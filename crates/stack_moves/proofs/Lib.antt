@@ -1,2 +1,1 @@
 mod EditedViews
-pub mod EnteringViews

@@ -31,7 +31,7 @@ use Rattle.run_state.specs.Acting.{goes_on, gets}
 use Rattle.run_state.specs.Hand.{IsSound, frames_back}
 use Rattle.run_state.specs.StepLaws.{some_there, some_of, with_there, with_is, get_below, set_again, set_there}
 use Rattle.run_state.specs.ActLaws.{drop_at}
-use Rattle.run_state.specs.Unwinding.{catches_first, uncaught}
+use Rattle.run_state.specs.Unwinding.{catches_first, unwinds, uncaught}
 use Rattle.stack_moves.specs.Entering.{entered_by, landed, handed, IsMoved}
 
 -- ---- values that enter the top frame
@@ -78,10 +78,10 @@ pub thrown_there : (bundle : List Item) (fs : List Activation) (e : Scalar) (n :
 unfolding gets
 thrown_there bundle fs e n h first =
     let p = numbered bundle in
-    let c = catches_first p e fs n first in
+    let c = catches_first fs n first in
     let r = some_of (entered_by bundle fs (ThrowsInto e)) h in
     let go : Activation → Option (Result EnteredFrames Case) = λ h. Some (Ok (record { frames = h ∷ drop (suc n) fs; ended = take n fs })) in
-    let w = with_there (caught p c.frame c.goal e) go r.0 (sym (thrown bundle fs e ∙ c.unwound) ∙ r.1) in
+    let w = with_there (caught p c.frame c.goal e) go r.0 (sym (thrown bundle fs e ∙ unwinds p e fs n c.frame c.goal first c.there c.handler) ∙ r.1) in
     (c.frame, c.goal, c.there, c.handler, some_there (caught p c.frame c.goal e) w.0 w.1, get_below fs n c.frame c.there)
 
 pub thrown_enters : (bundle : List Item) (fs : List Activation) (e : Scalar) (n block at : ℕ) (f : Activation) (g : Goal) (vs : List Value) → first_handler fs ≡ Some n → slice_get fs n ≡ Some f → f.handler ≡ Some g
@@ -89,14 +89,10 @@ pub thrown_enters : (bundle : List Item) (fs : List Activation) (e : Scalar) (n 
 unfolding gets
 thrown_enters bundle fs e n block at f g vs first there handler way =
     let p = numbered bundle in
-    let k = catches_first p e fs n first in
-    let same : k.frame ≡ f = let found = k.there in cc in
-    let goal : k.goal ≡ g = let found = k.handler in let by = ap (λ (f : Activation). f.handler) same in cc in
     let go : Activation → Option (Result EnteredFrames Case) = λ h. Some (Ok (record { frames = h ∷ drop (suc n) fs; ended = take n fs })) in
-    let so : caught p k.frame k.goal e ≡ Some (stands f block at vs) = ap (λ x. caught p x k.goal e) same ∙ ap (λ y. caught p f y e) goal ∙ way in
     let lands : landed fs n block at vs ≡ Some (record { frames = stands f block at vs ∷ drop (suc n) fs; ended = take n fs }) =
     with_is (slice_get fs n) f (λ f. Some (record { frames = stands f block at vs ∷ drop (suc n) fs; ended = take n fs })) there in
-    thrown bundle fs e ∙ k.unwound ∙ ap (λ o. with_some o go) so ∙ sym (ap (option_map Ok) lands)
+    thrown bundle fs e ∙ unwinds p e fs n f g first there handler ∙ ap (λ o. with_some o go) way ∙ sym (ap (option_map Ok) lands)
 
 pub misfits : (bundle : List Item) (fs : List Activation) → entered_by bundle fs Misfits ≡ Some (Err StackTypes)
 unfolding entered_by

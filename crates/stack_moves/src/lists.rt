@@ -14,7 +14,8 @@ pub struct Lists {
 }
 
 impl Lists {
-    /// Empty lists. They take no memory yet.
+    /// Empty lists, which take their memory from this allocator when they grow. They take none yet, so this is not refused. Where a list is
+    /// refused more memory later, what it holds then means nothing.
     pub fn new(alloc: Global) -> Lists {
         Lists {
             room: Room::new(alloc),

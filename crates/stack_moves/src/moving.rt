@@ -61,8 +61,9 @@ pub fn lines_of(
     Ok(lines)
 }
 
-/// What is handed to a stack: what stands in the room is moved out of it. A refusal comes only when out of memory, and leaves the room as
-/// it was.
+/// What is handed to a stack. Values are moved out of the room with their classes, and both lists of the room are empty then. An exception
+/// leaves the room as it is. The error comes exactly where values are to be handed on and the room has not as many classes as values; then
+/// the room is as it was. It takes no memory.
 pub fn hand_over(alloc: Global, entering: Entering, room: &mut Room) -> Result<Entered, AllocError>
     requires { entering ≢ asked_to.Misfits }
     ensures { IfOk result (λ e. handed e ≡ entering_of entering room.old.types.members room.old.values.values) }
@@ -74,7 +75,8 @@ pub fn hand_over(alloc: Global, entering: Entering, room: &mut Room) -> Result<E
     }
 }
 
-/// What was handed to a stack is moved back to the room.
+/// What was handed to a stack is moved back to the room. Values and their classes take the place of what the room held. An exception
+/// leaves the room as it is. All else in the room stays. It takes no memory, and so is not refused.
 pub fn hand_back(passed: Entered, room: &mut Room) {
     match passed {
         Entered::Values(values) => {

@@ -108,7 +108,7 @@ fn leave_and_go_back(
 }
 
 // Thread 5 leaves stack 0, which goes back to the directory.
-#[tactic(auto, using(stacks::proofs::Writes::get_written))]
+#[tactic(auto, using(stacks::specs::Lemmas::Writes::get_written))]
 fn leave_first(
     rt: &impl Abort,
     all: &mut Directory,

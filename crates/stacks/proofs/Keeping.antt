@@ -13,7 +13,7 @@ use Rattle.stacks.specs.Kept.{entry_of, entry_of_body, state_kept, is_active, Ha
 use Rattle.stacks.specs.declared.state.StackState.{StackState}
 use Rattle.stacks.specs.declared.directory.Kept.{Kept}
 use Rattle.stacks.specs.declared.directory.Kept.TheVariants.{Ready, Active, Dead}
-use Rattle.stacks.proofs.Writes.{get_written, get_unwritten, map_written, map_pushed, get_pushed, get_last}
+use Rattle.stacks.specs.Lemmas.Writes.{get_written, get_unwritten, map_written, map_pushed, get_pushed, get_last}
 
 -- no stack but n has its body under the key
 abbrev IsFree : List Kept → ℕ → ℕ → Type 0

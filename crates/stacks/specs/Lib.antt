@@ -3,3 +3,4 @@ pub mod Directories
 pub mod DirectoryExamples
 pub mod Lending
 pub mod Kept
+pub mod Lemmas

@@ -29,12 +29,12 @@ use Rattle.checked_code.specs.declared.code.Form.{Form}
 use Rattle.checked_code.specs.declared.code.Form.TheVariants as forms
 use Rattle.checked_code.specs.declared.code.Code.{Code}
 use Rattle.bundle_laws.specs.Typed.{Blocks, HasType, HaveValueTypes, ComputationFits, AllocationFits, AddressingFits, TrappingFits, FormFits}
-use Rattle.bundle_laws.proofs.TypedEndings.{code_at}
+use Rattle.bundle_laws.specs.Lemmas.TypedEndings.{code_at}
 use Rattle.checked_code.specs.declared.blocks.BlockCode.{BlockCode}
 use Rattle.checked_code.specs.Functions.{body_of}
 use Rattle.checked_code.specs.Checking.{bundle_tables, bundle_blocks, check_demands}
 use Rattle.bundle_laws.specs.Accepted.{CodeOf, blocks_from, head_classes}
-use Rattle.bundle_laws.proofs.Numbered.{code_fits}
+use Rattle.bundle_laws.specs.Lemmas.Numbered.{code_fits}
 use Rattle.mu_values.specs.declared.cells.CellId.{CellId}
 use Rattle.typed_heap.specs.Places.{with_some, Way, Field, Element, Shift, VarPart}
 use Rattle.frames.specs.Activations.{Value, Goal}
@@ -44,7 +44,7 @@ use Rattle.mu_model.specs.ControlForms.{Arm, branch_act, first_equal, function_a
 use Rattle.mu_model.specs.ObjectForms.{object_act}
 use Rattle.mu_model.specs.AccessForms.{cell_act}
 use Rattle.model_numbers.specs.Forms.{computation_at, control_at, allocation_at, addressing_at, access_at, trapping_at, switch_at, common_at, act_at}
-use Rattle.bundle_facts.proofs.Accepted.{classes_are_defined}
+use Rattle.bundle_facts.specs.Lemmas.Accepted.{classes_are_defined}
 use Rattle.step_forms.specs.declared.act.Act.{Act}
 use Rattle.step_forms.specs.declared.act.Act.TheVariants as made
 use Rattle.step_forms.specs.declared.way.Way.TheVariants as ways

@@ -9,7 +9,7 @@ use Rattle.std.proofs.lemmas.Option.{slice_get_within, get_or_from_slice_get}
 use Rattle.type_definitions.specs.declared.definition.TypeDef.{TypeDef}
 use Rattle.type_definitions.specs.declared.definition.TypeDef.TheVariants.{Struct}
 use Rattle.type_definitions.specs.Same.{IsGraph}
-use Rattle.type_definitions.proofs.Depth.{args_within}
+use Rattle.type_definitions.specs.Lemmas.Depth.{args_within}
 use Rattle.mu_values.specs.declared.scalars.Scalar.{Scalar}
 use Rattle.check_tables.specs.declared.tables.Tables.{Tables}
 use Rattle.check_tables.specs.TypeTests.{fields_of}

@@ -29,7 +29,7 @@ use Rattle.stack_moves.specs.Entering.{entered_by, arrives, frames_at, IsStarted
 use Rattle.stack_moves.specs.SwapLaws.{frames_objects, two_told, frames_are}
 use Rattle.mem_axioms.specs.EventFits.{is_thread, EventFits}
 use Rattle.swap_acts.specs.StartLaws.{at_thread, makes, enters_new, new_thread, Begun, begun_is, start_looks, start_results, start_goes, made_fits, started_sound}
-use Rattle.stack_moves.proofs.EnteringViews.{lands_by}
+use Rattle.stack_moves.specs.Lemmas.EnteringViews.{lands_by}
 
 pub few_threads : (n : ℕ) → n < 64 → nat_lt n 64 ≡ true
 few_threads n h = grind (arith, nat_tests, h)

@@ -12,3 +12,4 @@ pub mod Places
 pub mod Laws
 pub mod Sample
 pub mod Examples
+pub mod Lemmas

@@ -1,9 +1,0 @@
-pub mod Texts
-pub mod Entered
-pub mod Endings
-pub mod Offers
-pub mod Moments
-pub mod RunLogs
-pub mod Printable
-pub mod Numbers
-pub mod Asking

@@ -5,3 +5,4 @@ pub mod Lines
 pub mod RunLogs
 pub mod Printable
 pub mod Numbers
+pub mod Lemmas

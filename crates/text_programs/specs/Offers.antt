@@ -1,5 +1,5 @@
 -- What an access is offered: exactly what the axioms of memory and its comparison let it take.
-use Rattle.std.specs.Prelude.{◌≡◌, ◌↔◌, ℕ, suc, Bool, true, false, List, ◌∷◌, Some, None, Ok, ◌==◌, find, slice_get, if◌then◌else◌}
+use Rattle.std.specs.Prelude.{◌≡◌, ◌↔◌, ℕ, Bool, true, false, List, ◌∷◌, Some, None, Ok, ◌==◌, find, slice_get}
 use Rattle.mu_base.specs.declared.order.Order.TheVariants.{Relaxed}
 use Rattle.mu_values.specs.declared.scalars.Scalar.{Scalar}
 use Rattle.mu_values.specs.declared.cells.CellId.{CellId}
@@ -7,9 +7,6 @@ use Rattle.typed_heap.specs.Places.{cell_in}
 use Rattle.mem_axioms.specs.Logs.{newest}
 use Rattle.mem_axioms.specs.Form.{value_at}
 use Rattle.mem_axioms.specs.Axioms.{meets_axioms}
-use Rattle.mem_axioms.specs.declared.types.Mode.TheVariants.{Read, Write, Update}
-use Rattle.mem_axioms.specs.declared.types.Kind.{Kind}
-use Rattle.mem_axioms.specs.declared.types.Kind.TheVariants as kinds
 use Rattle.mem_axioms.specs.declared.types.Chosen.{Chosen}
 use Rattle.mu_model.specs.declared.endings.Case.TheVariants.{DataRace}
 use Rattle.mu_model.specs.declared.endings.Ending.TheVariants.{Undefined}
@@ -18,20 +15,13 @@ use Rattle.mu_model.specs.Acts as acts
 use Rattle.mu_model.specs.Acts.{Access, Act, Loads, Stores, Compares, Updates, Program}
 use Rattle.mu_model.specs.Turns.{Turn, turn_of}
 use Rattle.mu_model.specs.Changes.{event}
-use Rattle.mu_model.specs.Accesses.{initial, takes_option}
+use Rattle.mu_model.specs.Accesses.{initial, taking, takes_option}
 use Rattle.mu_model.specs.Outcomes.{End, Next, Outcome, Stuck}
 use Rattle.futex.specs.Waiting.{is_of}
 use Rattle.mu_model.specs.Waiting.{waited}
 use Rattle.mu_model.specs.Step.{performed, picked, runnable, step, turns}
 
 -- ---- what the axioms allow
-
--- what is logged of an access that takes a choice, where an update writes w
-abbrev pub taking : Access → CellId → Chosen → Scalar → Kind
-taking (Loads o) cell k w = kinds.Access Read cell o k.position k.value
-taking (Stores o v) cell k w = kinds.Access Write cell o (suc k.position) v
-taking (Compares weak o f expected v) cell k w = if k.success then kinds.Access Update cell o (suc k.position) v else kinds.Access Read cell f k.position k.value
-taking (Updates o op v) cell k w = kinds.Access Update cell o (suc k.position) w
 
 -- No load succeeds; each store and each update does. A comparison succeeds at the expected value alone; a weak one may fail there too.
 abbrev pub Succeeds : Access → Chosen → Type 0

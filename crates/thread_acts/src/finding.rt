@@ -44,7 +44,8 @@ impl<M: Memory, C: Determined> State<M, C> {
         }
     }
 
-    /// The thread's instruction has what was found for its result, or meets the case of the fault.
+    /// The thread's instruction has what was found for its result, or meets the case of the fault. Where no memory is found the state is as
+    /// before; the lists may have changed.
     fn tell(
         &mut self,
         code: &Checked,
@@ -65,7 +66,7 @@ impl<M: Memory, C: Determined> State<M, C> {
         }
     }
 
-    /// The thread finds a place from another.
+    /// The thread finds a place from another. Where no memory is found the state is as before; the lists may have changed.
     #[tactic(auto, using(object_acts::specs::ObjectLaws::finding))]
     pub fn find(
         &mut self,
@@ -87,7 +88,7 @@ impl<M: Memory, C: Determined> State<M, C> {
         self.tell(code, found, values, out)
     }
 
-    /// The thread casts a reference to a class.
+    /// The thread casts a reference to a class. Where no memory is found the state is as before; the lists may have changed.
     #[tactic(auto, using(object_acts::specs::ObjectLaws::casting))]
     pub fn cast(
         &mut self,

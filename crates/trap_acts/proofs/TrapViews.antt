@@ -24,12 +24,12 @@ use Rattle.client_hooks.specs.declared.plan.Plan.{Plan}
 use Rattle.client_hooks.specs.Plans.{planned, end_planned}
 use Rattle.client_hooks.specs.Replies.{edit_of}
 use Rattle.client_hooks.specs.Traps.{Trap}
+use Rattle.client_hooks.specs.Ways.{Way}
 use Rattle.mu_model.specs.declared.endings.Case.{Case}
 use Rattle.mu_model.specs.declared.endings.Case.TheVariants.{StackNotReady}
 use Rattle.mu_model.specs.declared.endings.Ending.{Ending}
 use Rattle.mu_model.specs.declared.endings.Ending.TheVariants as endings
 use Rattle.mu_model.specs.Acts.{Entering}
-use Rattle.mu_model.specs.Answers.{answer_of, advanced}
 use Rattle.mu_model.specs.Operands.{scalar_in}
 use Rattle.mu_model.specs.Traps.{entering_of, watch}
 use Rattle.mu_model.specs.Changes.{changed, event, noted, thread_ends}
@@ -55,7 +55,7 @@ use Rattle.trap_acts.specs.Trapping.{Change, waiting_frames, seen, note_of, left
 use Rattle.stack_moves.specs.SwapLaws.{at_stack, entry, leaves, frames_objects, Moved, swapped_with_is}
 use Rattle.stack_moves.specs.EnteringLaws.{swapped_sound, waits_there}
 use Rattle.trap_acts.specs.TrapLaws.{answers_ended, reply_exits, reply_stops, trap_answered, trap_replies, edit_refuses, edit_goes, edit_replies, made_is, resume_enters, resume_goes, resume_refuses, rebind_looks, rebind_goes, rebind_refuses, rebind_not_ready}
-use Rattle.stack_moves.proofs.EnteringViews.{landed_low, lands_by, lands_there, lands_low, swaps_so}
+use Rattle.stack_moves.specs.Lemmas.EnteringViews.{landed_low, lands_by, lands_there, lands_low, swaps_so}
 
 -- ---- a frame that waits for a moment
 
@@ -168,15 +168,15 @@ swapped_edited v w c os k r ls frames objects =
     ∙ ap (λ fs. go (record (left_with v (record w { frames = fs })) { objects = os })) frames ∙ ap (λ os. go (record (left_with v w) { objects = os })) objects
 
 -- another stack is entered, and then the answer's changes are made
-pub entered_then : (end : StepEnd) (s t : Held) (w : EnteredFrames) (x : Change) (k number : ℕ) (r : EnteredFrames) (ls : List Line) (ws : List ℕ) (client : Client) → answers end t ≡ Next (record (enters s.thread k r (left_with s w)) { lines = reverse ls }) → ws ≡ x.watched → client ≡ advanced s.client
-    → number ≡ length s.log → ls ≡ x.lines ++ lines.Event (number + 1) (entry s k) ∷ [] → answers end (record t { watched = ws; client = client }) ≡ past s (entering_then s w x k r)
+pub entered_then : (how : Way) (end : StepEnd) (s t : Held) (w : EnteredFrames) (x : Change) (k number : ℕ) (r : EnteredFrames) (ls : List Line) (ws : List ℕ) (client : Client) → answers end t ≡ Next (record (enters s.thread k r (left_with s w)) { lines = reverse ls }) → ws ≡ x.watched → client ≡ how.past s.client
+    → number ≡ length s.log → ls ≡ x.lines ++ lines.Event (number + 1) (entry s k) ∷ [] → answers end (record t { watched = ws; client = client }) ≡ past how s (entering_then s w x k r)
 unfolding past entering_then
-entered_then end s t w x k number r ls ws client h enabled gone count told =
+entered_then how end s t w x k number r ls ws client h enabled gone count told =
     let c : Configuration = enters s.thread k r (left_with s w) in
     let number_is : number + 1 ≡ suc (length s.log) = add-one number ∙ ap suc count in
     ap (λ ns. answers end (record t { watched = ns; client = client })) enabled ∙ answers_changed end t (record c { lines = reverse ls }) x.watched client h ∙ ap (λ k. Next (record c { lines = reverse ls; watched = x.watched; client = k })) gone
-    ∙ ap (λ l. Next (record c { lines = l; watched = x.watched; client = advanced s.client })) (lines_then x (lines.Event (number + 1) (entry s k)) ls told)
-    ∙ ap (λ n. Next (record c { lines = lines.Event n (entry s k) ∷ reverse x.lines; watched = x.watched; client = advanced s.client })) number_is
+    ∙ ap (λ l. Next (record c { lines = l; watched = x.watched; client = how.past s.client })) (lines_then x (lines.Event (number + 1) (entry s k)) ls told)
+    ∙ ap (λ n. Next (record c { lines = lines.Event n (entry s k) ∷ reverse x.lines; watched = x.watched; client = how.past s.client })) number_is
 
 -- ---- the trapped stack goes on
 
@@ -229,12 +229,12 @@ moved_from old same new i n k left e h = subst (λ (s : Seats). IsMoved s new i 
 pub lands_low_own : (w : EnteredFrames) (fr : Chain) (a : Arrival) (vs : List Value) → frames_of fr ≡ w.frames → IsSome (arrives a w.frames vs) → a.above < length (frames_of fr)
 lands_low_own w fr a vs is h = landed_low (frames_of fr) a.above a.place.block a.place.at vs (subst (λ fs. IsSome (arrives a fs vs)) (sym is) h)
 
-pub resumed_so : (s v : Held) (w : EnteredFrames) (x : Change) (a : Arrival) (vs : List Value) (f2 f3 : Chain) (seats : Seats) (ds os : List HeapObject) (some cells number : ℕ) (lg after : List Event) (rl rest : Rule) (ls : List Line) (ws : List ℕ) (client : Client)
+pub resumed_so : (how : Way) (s v : Held) (w : EnteredFrames) (x : Change) (a : Arrival) (vs : List Value) (f2 f3 : Chain) (seats : Seats) (ds os : List HeapObject) (some cells number : ℕ) (lg after : List Event) (rl rest : Rule) (ls : List Line) (ws : List ℕ) (client : Client)
     → v ≡ s → s.left ≡ true → IsOn v.seats v.thread v.stack → v.stack < length v.seats.stacks → frames_of f2 ≡ w.frames → seats ≡ v.seats → ds ≡ objects_end v.objects (frames_objects w.ended) → some ≡ v.cells
     → arrives a (frames_of f2) vs ≡ Some (record { frames = frames_of f3; ended = take a.above (frames_of f2) }) → os ≡ objects_end ds (frames_objects (take a.above (frames_of f2))) → cells ≡ some
-    → lg ≡ v.log → rl ≡ v.rule → after ≡ entry v v.stack ∷ leaves v ∷ lg → rest ≡ rl → ws ≡ x.watched → client ≡ advanced v.client → number ≡ length v.log → ls ≡ x.lines ++ lines.Event (number + 1) (entry v v.stack) ∷ []
-    → IfSome (arrives a w.frames vs) (λ r. answers (Went ls) (record (at_stack v v.stack f3 seats os cells after rest) { watched = ws; client = client }) ≡ past s (entering_then s w x s.stack r))
-resumed_so s v w x a vs f2 f3 seats ds os some cells number lg after rl rest ls ws client view left seated within edit same_seats ended few arrived objects same log rule added still enabled gone count told =
+    → lg ≡ v.log → rl ≡ v.rule → after ≡ entry v v.stack ∷ leaves v ∷ lg → rest ≡ rl → ws ≡ x.watched → client ≡ how.past v.client → number ≡ length v.log → ls ≡ x.lines ++ lines.Event (number + 1) (entry v v.stack) ∷ []
+    → IfSome (arrives a w.frames vs) (λ r. answers (Went ls) (record (at_stack v v.stack f3 seats os cells after rest) { watched = ws; client = client }) ≡ past how s (entering_then s w x s.stack r))
+resumed_so how s v w x a vs f2 f3 seats ds os some cells number lg after rl rest ls ws client view left seated within edit same_seats ended few arrived objects same log rule added still enabled gone count told =
     let r : EnteredFrames = record { frames = frames_of f3; ended = take a.above (frames_of f2) } in
     let n : Held = record v { frames = f2; objects = ds } in
     let q : Moved n (Ready (f2.top ∷ f2.below)) v.stack r (objects_end ds (frames_objects r.ended)) (entry v v.stack ∷ leaves v ∷ v.log) (reverse ls) f3 seats os cells after rest ls = record {
@@ -249,11 +249,11 @@ resumed_so s v w x a vs f2 f3 seats ds os some cells number lg after rl rest ls 
     } in
     let is = swapped_with_is n f2.top v.stack r f3 seats os cells after rest ls q in
     let t : Held = at_stack v v.stack f3 seats os cells after rest in
-    let done = entered_then (Went ls) v t w x v.stack number r ls ws client (is ∙ swapped_edited v w f2 ds v.stack r ls edit ended) enabled gone count told in
+    let done = entered_then how (Went ls) v t w x v.stack number r ls ws client (is ∙ swapped_edited v w f2 ds v.stack r ls edit ended) enabled gone count told in
     let found : arrives a w.frames vs ≡ Some r = ap (λ fs. arrives a fs vs) (sym edit) ∙ arrived in
-    let main : IfSome (arrives a w.frames vs) (λ r. answers (Went ls) (record t { watched = ws; client = client }) ≡ past v (entering_then v w x v.stack r)) =
-    subst (λ o. IfSome o (λ r. answers (Went ls) (record t { watched = ws; client = client }) ≡ past v (entering_then v w x v.stack r))) (sym found) done in
-    subst (λ (s : Held). IfSome (arrives a w.frames vs) (λ r. answers (Went ls) (record t { watched = ws; client = client }) ≡ past s (entering_then s w x s.stack r))) view main
+    let main : IfSome (arrives a w.frames vs) (λ r. answers (Went ls) (record t { watched = ws; client = client }) ≡ past how v (entering_then v w x v.stack r)) =
+    subst (λ o. IfSome o (λ r. answers (Went ls) (record t { watched = ws; client = client }) ≡ past how v (entering_then v w x v.stack r))) (sym found) done in
+    subst (λ (s : Held). IfSome (arrives a w.frames vs) (λ r. answers (Went ls) (record t { watched = ws; client = client }) ≡ past how s (entering_then s w x s.stack r))) view main
 
 -- two events that make no thread
 pub stays_sound : (left : Bool) (i k : ℕ) (seats same : Seats) (log lg after : List Event) → IsSound left i k seats log → left ≡ true → same ≡ seats → lg ≡ log → after ≡ event i (Enter k) ∷ event i (Leave k) ∷ lg → IsSound left i k same after
@@ -286,32 +286,32 @@ seats_exited v w f2 s0 s1 s2 edit same first second =
     ∙ ap (λ ss. record v.seats { threads = slice_set v.seats.threads v.thread None; stacks = ss })
     (changed_here left_ready v.stack v.seats.stacks (Active v.thread w.frames) ∙ sym (set_again v.seats.stacks v.stack (Active v.thread (frames_of v.frames)) now))
 
-exit_is : (v : Held) (w : EnteredFrames) (x : Change) (rest : Chain) (ls : List Line) → reverse ls ≡ lines.Note (Exited v.thread) ∷ reverse x.lines
-    → answers (Went ls) (gone_with v rest (seats_then v w) (objects_end v.objects (frames_objects w.ended)) v.cells (leaves v ∷ v.log) v.rule x.watched (advanced v.client) (suc v.steps))
-    ≡ Next (record (noted (Exited v.thread) (thread_ends v.thread (changed_by v w x))) { client = advanced v.client })
+exit_is : (how : Way) (v : Held) (w : EnteredFrames) (x : Change) (rest : Chain) (ls : List Line) → reverse ls ≡ lines.Note (Exited v.thread) ∷ reverse x.lines
+    → answers (Went ls) (gone_with v rest (seats_then v w) (objects_end v.objects (frames_objects w.ended)) v.cells (leaves v ∷ v.log) v.rule x.watched (how.past v.client) (suc v.steps))
+    ≡ Next (record (noted (Exited v.thread) (thread_ends v.thread (changed_by v w x))) { client = how.past v.client })
 unfolding answers gone_with seats_then objects_end
-exit_is v w x rest ls told = ap (λ l. Next (record (noted (Exited v.thread) (thread_ends v.thread (changed_by v w x))) { client = advanced v.client; lines = l })) told
+exit_is how v w x rest ls told = ap (λ l. Next (record (noted (Exited v.thread) (thread_ends v.thread (changed_by v w x))) { client = how.past v.client; lines = l })) told
 
-pub exited_so : (bundle : List Item) (s v : Held) (w : EnteredFrames) (x : Change) (f2 rest : Chain) (s0 s1 s2 : Seats) (os : List HeapObject) (cells : ℕ) (lg after : List Event) (rl still : Rule) (ls : List Line) (ws : List ℕ) (client : Client)
+pub exited_so : (how : Way) (bundle : List Item) (s v : Held) (w : EnteredFrames) (x : Change) (f2 rest : Chain) (s0 s1 s2 : Seats) (os : List HeapObject) (cells : ℕ) (lg after : List Event) (rl still : Rule) (ls : List Line) (ws : List ℕ) (client : Client)
     → v ≡ s → replying bundle s w x Exit ≢ Stuck → frames_of f2 ≡ w.frames → os ≡ objects_end v.objects (frames_objects w.ended) → cells ≡ v.cells → s0 ≡ v.seats → s1 ≡ record s0 { stacks = slice_set s0.stacks v.stack (Active v.thread (frames_of f2)) }
-    → s2 ≡ record s1 { threads = slice_set s1.threads v.thread None; stacks = changed left_ready v.stack s1.stacks } → lg ≡ v.log → rl ≡ v.rule → after ≡ leaves v ∷ lg → still ≡ rl → ws ≡ x.watched → client ≡ advanced v.client
+    → s2 ≡ record s1 { threads = slice_set s1.threads v.thread None; stacks = changed left_ready v.stack s1.stacks } → lg ≡ v.log → rl ≡ v.rule → after ≡ leaves v ∷ lg → still ≡ rl → ws ≡ x.watched → client ≡ how.past v.client
     → ls ≡ x.lines ++ lines.Note (Exited v.thread) ∷ []
-    → answers (Went ls) (record v { left = false; frames = rest; seats = s2; objects = os; cells = cells; log = after; rule = still; watched = ws; client = client; steps = v.steps + 1 }) ≡ past s (replying bundle s w x Exit)
+    → answers (Went ls) (record v { left = false; frames = rest; seats = s2; objects = os; cells = cells; log = after; rule = still; watched = ws; client = client; steps = v.steps + 1 }) ≡ past how s (replying bundle s w x Exit)
 unfolding gone_with
-exited_so bundle s v w x f2 rest s0 s1 s2 os cells lg after rl still ls ws client view there edit ended few same first second log rule added stays enabled gone told =
+exited_so how bundle s v w x f2 rest s0 s1 s2 os cells lg after rl still ls ws client view there edit ended few same first second log rule added stays enabled gone told =
     let go : Seats → List HeapObject → ℕ → List Event → Rule → Client → ℕ → Outcome = λ seats os cells lg rl k n. answers (Went ls) (gone_with v rest seats os cells lg rl x.watched k n) in
     let dead = objects_end v.objects (frames_objects w.ended) in
-    let done : go s2 os cells after still client (v.steps + 1) ≡ Next (record (noted (Exited v.thread) (thread_ends v.thread (changed_by v w x))) { client = advanced v.client }) =
+    let done : go s2 os cells after still client (v.steps + 1) ≡ Next (record (noted (Exited v.thread) (thread_ends v.thread (changed_by v w x))) { client = how.past v.client }) =
     ap (λ seats. go seats os cells after still client (v.steps + 1)) (seats_exited v w f2 s0 s1 s2 edit same first second)
     ∙ ap (λ os. go (seats_then v w) os cells after still client (v.steps + 1)) ended
     ∙ ap (λ cells. go (seats_then v w) dead cells after still client (v.steps + 1)) few
     ∙ ap (λ lg. go (seats_then v w) dead v.cells lg still client (v.steps + 1)) (added ∙ ap (λ lg. leaves v ∷ lg) log)
     ∙ ap (λ rl. go (seats_then v w) dead v.cells (leaves v ∷ v.log) rl client (v.steps + 1)) (stays ∙ rule)
     ∙ ap (λ k. go (seats_then v w) dead v.cells (leaves v ∷ v.log) v.rule k (v.steps + 1)) gone
-    ∙ ap (go (seats_then v w) dead v.cells (leaves v ∷ v.log) v.rule (advanced v.client)) (add-one v.steps)
-    ∙ exit_is v w x rest ls (lines_then x (lines.Note (Exited v.thread)) ls told) in
+    ∙ ap (go (seats_then v w) dead v.cells (leaves v ∷ v.log) v.rule (how.past v.client)) (add-one v.steps)
+    ∙ exit_is how v w x rest ls (lines_then x (lines.Note (Exited v.thread)) ls told) in
     let here : replying bundle v w x Exit ≢ Stuck = subst (λ (s : Held). replying bundle s w x Exit ≢ Stuck) (sym view) there in
-    ap (λ ns. answers (Went ls) (gone_with v rest s2 os cells after still ns client (v.steps + 1))) enabled ∙ done ∙ sym (reply_exits bundle v w x here) ∙ ap (λ (s : Held). past s (replying bundle s w x Exit)) view
+    ap (λ ns. answers (Went ls) (gone_with v rest s2 os cells after still ns client (v.steps + 1))) enabled ∙ done ∙ sym (reply_exits how bundle v w x here) ∙ ap (λ (s : Held). past how s (replying bundle s w x Exit)) view
 
 -- nobody is in hand then, and as many threads were made
 pub gone_sound : (left : Bool) (i k : ℕ) (seats s0 s1 s2 : Seats) (fs : List Activation) (log lg after : List Event) → IsSound left i k seats log → s0 ≡ seats → s1 ≡ record s0 { stacks = slice_set s0.stacks k (Active i fs) }
@@ -358,12 +358,12 @@ view_is s v view w f1 same thread asked waits =
     ap (λ i. record { thread = i; watchpoint = view.watchpoint; asked = view.asked; frames = frames_of f1 }) thread ∙ ap (λ cs. record { thread = s.thread; watchpoint = view.watchpoint; asked = cs; frames = frames_of f1 }) asked
     ∙ ap (λ (fr : Chain). record { thread = s.thread; watchpoint = view.watchpoint; asked = w.waits; frames = frames_of fr }) frames
 
-pub seen_so : {E : Type 0} (r : Result (Option Plan) E) (p : Tables) (s v : Held) (view : Trap) (w : Awaited) (f1 : Chain) → v ≡ s → view.thread ≡ s.thread → view.asked ≡ w.waits → f1 ≡ record v.frames { top = with_awaited v.frames.top w }
-    → IfOk r (λ plan. option_map planned plan ≡ answer_of p (record { thread = view.thread; watchpoint = view.watchpoint; asked = view.asked; frames = frames_of f1 }) v.client)
-    → IfOk r (λ plan. option_map planned plan ≡ answer_of p (seen s view.watchpoint w) s.client)
-seen_so r p s v view w f1 same thread asked waits h =
-    subst (λ k. IfOk r (λ plan. option_map planned plan ≡ answer_of p (seen s view.watchpoint w) k)) (ap (λ (s : Held). s.client) same)
-    (subst (λ z. IfOk r (λ plan. option_map planned plan ≡ answer_of p z v.client)) (view_is s v view w f1 same thread asked waits) h)
+pub seen_so : {E : Type 0} (how : Way) (r : Result (Option Plan) E) (p : Tables) (s v : Held) (view : Trap) (w : Awaited) (f1 : Chain) → v ≡ s → view.thread ≡ s.thread → view.asked ≡ w.waits → f1 ≡ record v.frames { top = with_awaited v.frames.top w }
+    → IfOk r (λ plan. option_map planned plan ≡ how.answer p (record { thread = view.thread; watchpoint = view.watchpoint; asked = view.asked; frames = frames_of f1 }) v.client)
+    → IfOk r (λ plan. option_map planned plan ≡ how.answer p (seen s view.watchpoint w) s.client)
+seen_so how r p s v view w f1 same thread asked waits h =
+    subst (λ k. IfOk r (λ plan. option_map planned plan ≡ how.answer p (seen s view.watchpoint w) k)) (ap (λ (s : Held). s.client) same)
+    (subst (λ z. IfOk r (λ plan. option_map planned plan ≡ how.answer p z v.client)) (view_is s v view w f1 same thread asked waits) h)
 
 -- ---- a stack that is looked at for a reply
 
@@ -387,53 +387,53 @@ lands_again bundle s t w u d e r a vs same waits is lands there =
 some_by : {A : Type 0} (P : A → Type 0) (o : Option A) (a : A) → o ≡ Some a → IfSome o P → P a
 some_by P o a e h = subst (λ o. IfSome o P) e h
 
-pub resume_answered : {E : Type 0} (bundle : List Item) (s t n : Held) (w u : Awaited) (d : Edit) (x y : Change) (v : With TypedValues Classed) (e : Entering) (r : Found) (a : Arrival) (vs : List Value) (q : Result StepEnd E) → t ≡ s → u ≡ w → y ≡ x
+pub resume_answered : {E : Type 0} (how : Way) (bundle : List Item) (s t n : Held) (w u : Awaited) (d : Edit) (x y : Change) (v : With TypedValues Classed) (e : Entering) (r : Found) (a : Arrival) (vs : List Value) (q : Result StepEnd E) → t ≡ s → u ≡ w → y ≡ x
     → replying bundle s (after_edit bundle d (frames_of (waiting_frames s w))) x (Resume v) ≢ Stuck → s.stack < length s.seats.stacks → entering_of (bundle_tables bundle) v ≡ Some e
     → entered_by bundle (after_edit bundle d (frames_of (waiting_frames s w))).frames e ≡ found r (after_edit bundle d (frames_of (waiting_frames s w))).frames vs → r ≡ Lands a
-    → IfOk q (λ end. IfSome (arrives a (after_edit bundle d (frames_of (waiting_frames t u))).frames vs) (λ r. answers end n ≡ past t (entering_then t (after_edit bundle d (frames_of (waiting_frames t u))) y t.stack r)))
-    → IfOk q (λ end. answers end n ≡ past s (replying bundle s (after_edit bundle d (frames_of (waiting_frames s w))) x (Resume v)))
-resume_answered bundle s t n w u d x y v e r a vs (Err q) same waits alike there low brings is lands h = tt
-resume_answered bundle s t n w u d x y v e r a vs (Ok end) same waits alike there low brings is lands h =
+    → IfOk q (λ end. IfSome (arrives a (after_edit bundle d (frames_of (waiting_frames t u))).frames vs) (λ r. answers end n ≡ past how t (entering_then t (after_edit bundle d (frames_of (waiting_frames t u))) y t.stack r)))
+    → IfOk q (λ end. answers end n ≡ past how s (replying bundle s (after_edit bundle d (frames_of (waiting_frames s w))) x (Resume v)))
+resume_answered how bundle s t n w u d x y v e r a vs (Err q) same waits alike there low brings is lands h = tt
+resume_answered how bundle s t n w u d x y v e r a vs (Ok end) same waits alike there low brings is lands h =
     let k = after_edit bundle d (frames_of (waiting_frames s w)) in
     let l = lands_by (entered_by bundle k.frames e) (arrives a k.frames vs) (is ∙ ap (λ r. found r k.frames vs) lands) (resume_enters bundle s k x v there e low brings) in
-    let one = subst (λ (q : EnteredFrames). IfSome (arrives a q.frames vs) (λ r. answers end n ≡ past t (entering_then t q x t.stack r))) (left_again bundle s t w u d same waits)
-    (subst (λ (y : Change). IfSome (arrives a (after_edit bundle d (frames_of (waiting_frames t u))).frames vs) (λ r. answers end n ≡ past t (entering_then t (after_edit bundle d (frames_of (waiting_frames t u))) y t.stack r))) alike h) in
-    let two = subst (λ (t : Held). IfSome (arrives a k.frames vs) (λ r. answers end n ≡ past t (entering_then t k x t.stack r))) same one in
-    some_by (λ r. answers end n ≡ past s (entering_then s k x s.stack r)) (arrives a k.frames vs) l.0 l.1 two ∙ ap (past s) (sym (resume_goes bundle s k x v there e l.0 low brings l.2))
+    let one = subst (λ (q : EnteredFrames). IfSome (arrives a q.frames vs) (λ r. answers end n ≡ past how t (entering_then t q x t.stack r))) (left_again bundle s t w u d same waits)
+    (subst (λ (y : Change). IfSome (arrives a (after_edit bundle d (frames_of (waiting_frames t u))).frames vs) (λ r. answers end n ≡ past how t (entering_then t (after_edit bundle d (frames_of (waiting_frames t u))) y t.stack r))) alike h) in
+    let two = subst (λ (t : Held). IfSome (arrives a k.frames vs) (λ r. answers end n ≡ past how t (entering_then t k x t.stack r))) same one in
+    some_by (λ r. answers end n ≡ past how s (entering_then s k x s.stack r)) (arrives a k.frames vs) l.0 l.1 two ∙ ap (past how s) (sym (resume_goes bundle s k x v there e l.0 low brings l.2))
 
-pub resume_ended : (bundle : List Item) (s t n : Held) (w : EnteredFrames) (x : Change) (v : With TypedValues Classed) (e : Entering) (r : Found) (k : Case) (vs : List Value) (ending : Ending) → t ≡ s → replying bundle s w x (Resume v) ≢ Stuck
+pub resume_ended : (how : Way) (bundle : List Item) (s t n : Held) (w : EnteredFrames) (x : Change) (v : With TypedValues Classed) (e : Entering) (r : Found) (k : Case) (vs : List Value) (ending : Ending) → t ≡ s → replying bundle s w x (Resume v) ≢ Stuck
     → s.stack < length s.seats.stacks → entering_of (bundle_tables bundle) v ≡ Some e → entered_by bundle w.frames e ≡ found r w.frames vs → IsPlain r → r ≡ Refused k → ending ≡ undefined_at t k
-    → answers (Ended x.lines ending) n ≡ past s (replying bundle s w x (Resume v))
-resume_ended bundle s t n w x v e r k vs ending same there low brings is plain refused told =
+    → answers (Ended x.lines ending) n ≡ past how s (replying bundle s w x (Resume v))
+resume_ended how bundle s t n w x v e r k vs ending same there low brings is plain refused told =
     answers_ended n x.lines x.lines ending (undefined_at s k) refl (told ∙ ap (λ (s : Held). undefined_at s k) same)
-    ∙ sym (resume_refuses bundle s w x v there e k low brings (is ∙ ap (λ r. found r w.frames vs) refused) (subst IsPlain refused plain))
+    ∙ sym (resume_refuses bundle s w x v there how e k low brings (is ∙ ap (λ r. found r w.frames vs) refused) (subst IsPlain refused plain))
 
-pub rebind_answered : {E : Type 0} (bundle : List Item) (s v0 n : Held) (w : EnteredFrames) (x : Change) (c : Classed) (v : With TypedValues Classed) (sc : Scalar) (k : ℕ) (e : Entering) (r : Found) (a : Arrival) (vs : List Value) (q : Result StepEnd E) → v0 ≡ s
+pub rebind_answered : {E : Type 0} (how : Way) (bundle : List Item) (s v0 n : Held) (w : EnteredFrames) (x : Change) (c : Classed) (v : With TypedValues Classed) (sc : Scalar) (k : ℕ) (e : Entering) (r : Found) (a : Arrival) (vs : List Value) (q : Result StepEnd E) → v0 ≡ s
     → replying bundle s w x (Rebind c v) ≢ Stuck → scalar_in (Some c.1) ≡ Some sc → sc ≡ scalars.Stack k → k ≢ s.stack → IsReady (slice_get s.seats.stacks k) → entering_of (bundle_tables bundle) v ≡ Some e
     → entered_by bundle (frames_at (slice_get v0.seats.stacks k)) e ≡ found r (frames_at (slice_get v0.seats.stacks k)) vs → r ≡ Lands a
-    → IfOk q (λ end. IfSome (arrives a (frames_at (slice_get s.seats.stacks k)) vs) (λ r. answers end n ≡ past s (entering_then s w x k r))) → IfOk q (λ end. answers end n ≡ past s (replying bundle s w x (Rebind c v)))
-rebind_answered bundle s v0 n w x c v sc k e r a vs (Err q) view there named stack other ready brings is lands h = tt
-rebind_answered bundle s v0 n w x c v sc k e r a vs (Ok end) view there named stack other ready brings at lands h =
+    → IfOk q (λ end. IfSome (arrives a (frames_at (slice_get s.seats.stacks k)) vs) (λ r. answers end n ≡ past how s (entering_then s w x k r))) → IfOk q (λ end. answers end n ≡ past how s (replying bundle s w x (Rebind c v)))
+rebind_answered how bundle s v0 n w x c v sc k e r a vs (Err q) view there named stack other ready brings is lands h = tt
+rebind_answered how bundle s v0 n w x c v sc k e r a vs (Ok end) view there named stack other ready brings at lands h =
     let is = subst (λ (s : Held). entered_by bundle (frames_at (slice_get s.seats.stacks k)) e ≡ found r (frames_at (slice_get s.seats.stacks k)) vs) view at in
     let fs = frames_at (slice_get s.seats.stacks k) in
     let name : scalar_in (Some c.1) ≡ Some (scalars.Stack k) = named ∙ ap Some stack in
     let l = lands_by (entered_by bundle fs e) (arrives a fs vs) (is ∙ ap (λ r. found r fs vs) lands) (rebind_looks bundle s w x c v there k e name other ready brings) in
-    some_by (λ r. answers end n ≡ past s (entering_then s w x k r)) (arrives a fs vs) l.0 l.1 h ∙ ap (past s) (sym (rebind_goes bundle s w x c v there k e l.0 name other ready brings l.2))
+    some_by (λ r. answers end n ≡ past how s (entering_then s w x k r)) (arrives a fs vs) l.0 l.1 h ∙ ap (past how s) (sym (rebind_goes bundle s w x c v there k e l.0 name other ready brings l.2))
 
-pub rebind_ended : (bundle : List Item) (s v0 n : Held) (w : EnteredFrames) (x : Change) (c : Classed) (v : With TypedValues Classed) (sc : Scalar) (k : ℕ) (e : Entering) (r : Found) (q : Case) (vs : List Value) (ending : Ending) → v0 ≡ s
+pub rebind_ended : (how : Way) (bundle : List Item) (s v0 n : Held) (w : EnteredFrames) (x : Change) (c : Classed) (v : With TypedValues Classed) (sc : Scalar) (k : ℕ) (e : Entering) (r : Found) (q : Case) (vs : List Value) (ending : Ending) → v0 ≡ s
     → replying bundle s w x (Rebind c v) ≢ Stuck → scalar_in (Some c.1) ≡ Some sc → sc ≡ scalars.Stack k → k ≢ s.stack → IsReady (slice_get s.seats.stacks k) → entering_of (bundle_tables bundle) v ≡ Some e
     → entered_by bundle (frames_at (slice_get v0.seats.stacks k)) e ≡ found r (frames_at (slice_get v0.seats.stacks k)) vs → IsPlain r → r ≡ Refused q → ending ≡ undefined_at s q
-    → answers (Ended x.lines ending) n ≡ past s (replying bundle s w x (Rebind c v))
-rebind_ended bundle s v0 n w x c v sc k e r q vs ending view there named stack other ready brings at plain refused told =
+    → answers (Ended x.lines ending) n ≡ past how s (replying bundle s w x (Rebind c v))
+rebind_ended how bundle s v0 n w x c v sc k e r q vs ending view there named stack other ready brings at plain refused told =
     let is = subst (λ (s : Held). entered_by bundle (frames_at (slice_get s.seats.stacks k)) e ≡ found r (frames_at (slice_get s.seats.stacks k)) vs) view at in
     let fs = frames_at (slice_get s.seats.stacks k) in
     answers_ended n x.lines x.lines ending (undefined_at s q) refl told
-    ∙ sym (rebind_refuses bundle s w x c v there k e q (named ∙ ap Some stack) other ready brings (is ∙ ap (λ r. found r fs vs) refused) (subst IsPlain refused plain))
+    ∙ sym (rebind_refuses bundle s w x c v there how k e q (named ∙ ap Some stack) other ready brings (is ∙ ap (λ r. found r fs vs) refused) (subst IsPlain refused plain))
 
-pub rebind_unready : (bundle : List Item) (s n : Held) (w : EnteredFrames) (x : Change) (c : Classed) (v : With TypedValues Classed) (sc : Scalar) (ending : Ending) → replying bundle s w x (Rebind c v) ≢ Stuck → scalar_in (Some c.1) ≡ Some sc
-    → sc ≢ scalars.Stack s.stack → ready (held_stacks s) sc ≡ Some (Err StackNotReady) → ending ≡ undefined_at s StackNotReady → answers (Ended x.lines ending) n ≡ past s (replying bundle s w x (Rebind c v))
-rebind_unready bundle s n w x c v sc ending there named other none told =
-    answers_ended n x.lines x.lines ending (undefined_at s StackNotReady) refl told ∙ sym (rebind_not_ready bundle s w x c v there sc named other none)
+pub rebind_unready : (how : Way) (bundle : List Item) (s n : Held) (w : EnteredFrames) (x : Change) (c : Classed) (v : With TypedValues Classed) (sc : Scalar) (ending : Ending) → replying bundle s w x (Rebind c v) ≢ Stuck → scalar_in (Some c.1) ≡ Some sc
+    → sc ≢ scalars.Stack s.stack → ready (held_stacks s) sc ≡ Some (Err StackNotReady) → ending ≡ undefined_at s StackNotReady → answers (Ended x.lines ending) n ≡ past how s (replying bundle s w x (Rebind c v))
+rebind_unready how bundle s n w x c v sc ending there named other none told =
+    answers_ended n x.lines x.lines ending (undefined_at s StackNotReady) refl told ∙ sym (rebind_not_ready bundle s w x c v there how sc named other none)
 
 -- the lines of a trap, with what is recorded
 pub taken_lines : (s v : Held) (number : ℕ) (ls : List Line) (note : Note) (notes : List Note) → v ≡ s → number ≡ length v.log → ls ≡ lines.Event number (leaves v) ∷ lines.Note note ∷ map lines.Note notes
@@ -445,9 +445,9 @@ pub take_there : (bundle : List Item) (s : Held) (w : Awaited) (e : Edit) (ns : 
     → answering bundle s w e (record { watched = ns; lines = ls }) r ≢ Stuck
 take_there bundle s w e ns ls ms r same h = subst (λ ls. answering bundle s w e (record { watched = ns; lines = ls }) r ≢ Stuck) (sym same) h
 
-pub take_answered : {E : Type 0} (bundle : List Item) (s n : Held) (w : Awaited) (e : Edit) (ns : List ℕ) (ls ms : List Line) (r : Reply TypedValues Classed) (q : Result StepEnd E) → ls ≡ ms
-    → IfOk q (λ end. answers end n ≡ past s (answering bundle s w e (record { watched = ns; lines = ls }) r)) → IfOk q (λ end. answers end n ≡ past s (answering bundle s w e (record { watched = ns; lines = ms }) r))
-take_answered bundle s n w e ns ls ms r q same h = subst (λ ls. IfOk q (λ end. answers end n ≡ past s (answering bundle s w e (record { watched = ns; lines = ls }) r))) same h
+pub take_answered : {E : Type 0} (how : Way) (bundle : List Item) (s n : Held) (w : Awaited) (e : Edit) (ns : List ℕ) (ls ms : List Line) (r : Reply TypedValues Classed) (q : Result StepEnd E) → ls ≡ ms
+    → IfOk q (λ end. answers end n ≡ past how s (answering bundle s w e (record { watched = ns; lines = ls }) r)) → IfOk q (λ end. answers end n ≡ past how s (answering bundle s w e (record { watched = ns; lines = ms }) r))
+take_answered how bundle s n w e ns ls ms r q same h = subst (λ ls. IfOk q (λ end. answers end n ≡ past how s (answering bundle s w e (record { watched = ns; lines = ls }) r))) same h
 
 -- the same where nothing is recorded
 pub misuse_lines : (s v : Held) (number : ℕ) (ls : List Line) (note : Note) (notes : List Note) → v ≡ s → number ≡ length v.log → ls ≡ lines.Event number (leaves v) ∷ lines.Note note ∷ map lines.Note notes → notes ≡ []
@@ -456,10 +456,10 @@ misuse_lines s v number ls note notes view count told none =
     told ∙ ap (λ n. lines.Event n (leaves v) ∷ lines.Note note ∷ map lines.Note notes) count ∙ ap (λ ns. lines.Event (length v.log) (leaves v) ∷ lines.Note note ∷ map lines.Note ns) none
     ∙ ap (λ (s : Held). lines.Event (length s.log) (leaves s) ∷ lines.Note note ∷ []) view
 
-pub stop_answered : (bundle : List Item) (s n : Held) (w : EnteredFrames) (x : Change) (r : Reply TypedValues Classed) (ls : List Line) → replying bundle s w x r ≢ Stuck → r ≡ Stop → ls ≡ x.lines → answers (Ended ls endings.Stop) n ≡ past s (replying bundle s w x r)
-stop_answered bundle s n w x r ls there stops told =
+pub stop_answered : (how : Way) (bundle : List Item) (s n : Held) (w : EnteredFrames) (x : Change) (r : Reply TypedValues Classed) (ls : List Line) → replying bundle s w x r ≢ Stuck → r ≡ Stop → ls ≡ x.lines → answers (Ended ls endings.Stop) n ≡ past how s (replying bundle s w x r)
+stop_answered how bundle s n w x r ls there stops told =
     let here : replying bundle s w x Stop ≢ Stuck = subst (λ r. replying bundle s w x r ≢ Stuck) stops there in
-    answers_ended n ls x.lines endings.Stop endings.Stop told refl ∙ sym (reply_stops bundle s w x here) ∙ ap (λ r. past s (replying bundle s w x r)) (sym stops)
+    answers_ended n ls x.lines endings.Stop endings.Stop told refl ∙ sym (reply_stops how bundle s w x here) ∙ ap (λ r. past how s (replying bundle s w x r)) (sym stops)
 
 -- ---- another stack is entered, once the frames are edited
 
@@ -467,23 +467,23 @@ stop_answered bundle s n w x r ls there stops told =
 own_wait : Activation → Awaited
 own_wait f = record { waits = f.waits; handler = f.handler; kept = f.kept }
 
-pub rebound_so : (s v : Held) (w : EnteredFrames) (x : Change) (to : ℕ) (a : Arrival) (vs : List Value) (f2 f3 f4 : Chain) (same after_seats : Seats) (ds os : List HeapObject) (some cells number : ℕ) (lg after : List Event) (rl rest : Rule) (ls : List Line) (ws : List ℕ) (client : Client)
+pub rebound_so : (how : Way) (s v : Held) (w : EnteredFrames) (x : Change) (to : ℕ) (a : Arrival) (vs : List Value) (f2 f3 f4 : Chain) (same after_seats : Seats) (ds os : List HeapObject) (some cells number : ℕ) (lg after : List Event) (rl rest : Rule) (ls : List Line) (ws : List ℕ) (client : Client)
     → v ≡ s → s.left ≡ true → frames_of f2 ≡ w.frames → same ≡ v.seats → ds ≡ objects_end v.objects (frames_objects w.ended) → some ≡ v.cells
     → slice_get same.stacks to ≡ Some (Ready (frames_of f3)) → IsMoved same after_seats v.thread v.stack to (Ready (frames_of f2))
     → arrives a (frames_of f3) vs ≡ Some (record { frames = frames_of f4; ended = take a.above (frames_of f3) }) → os ≡ objects_end ds (frames_objects (take a.above (frames_of f3))) → cells ≡ some
-    → lg ≡ v.log → rl ≡ v.rule → after ≡ entry v to ∷ leaves v ∷ lg → rest ≡ rl → ws ≡ x.watched → client ≡ advanced v.client → number ≡ length v.log → ls ≡ x.lines ++ lines.Event (number + 1) (entry v to) ∷ []
-    → IfSome (arrives a (frames_at (slice_get s.seats.stacks to)) vs) (λ r. answers (Went ls) (record (at_stack v to f4 after_seats os cells after rest) { watched = ws; client = client }) ≡ past s (entering_then s w x to r))
+    → lg ≡ v.log → rl ≡ v.rule → after ≡ entry v to ∷ leaves v ∷ lg → rest ≡ rl → ws ≡ x.watched → client ≡ how.past v.client → number ≡ length v.log → ls ≡ x.lines ++ lines.Event (number + 1) (entry v to) ∷ []
+    → IfSome (arrives a (frames_at (slice_get s.seats.stacks to)) vs) (λ r. answers (Went ls) (record (at_stack v to f4 after_seats os cells after rest) { watched = ws; client = client }) ≡ past how s (entering_then s w x to r))
 unfolding own_wait
-rebound_so s v w x to a vs f2 f3 f4 same after_seats ds os some cells number lg after rl rest ls ws client view left edit same_seats ended few ready seated arrived objects cells_same log rule added still enabled gone count told =
+rebound_so how s v w x to a vs f2 f3 f4 same after_seats ds os some cells number lg after rl rest ls ws client view left edit same_seats ended few ready seated arrived objects cells_same log rule added still enabled gone count told =
     let n : Held = record v { frames = f2; objects = ds; cells = some } in
     let there : slice_get v.seats.stacks to ≡ Some (Ready (frames_of f3)) = ap (λ (s : Seats). slice_get s.stacks to) (sym same_seats) ∙ ready in
     let moved = subst (λ (s : Seats). IsMoved s after_seats v.thread v.stack to (Ready (frames_of f2))) same_seats seated in
     let swaps = swaps_so n n (own_wait f2.top) to a vs f2 f3 f4 after_seats os cells lg after rl rest ls refl (ap (λ (s : Held). s.left) view ∙ left) refl there moved arrived objects cells_same log rule added still in
     let t : Held = at_stack v to f4 after_seats os cells after rest in
-    let main : IfSome (arrives a (frames_at (slice_get v.seats.stacks to)) vs) (λ r. answers (Went ls) (record t { watched = ws; client = client }) ≡ past v (entering_then v w x to r)) =
-    mapped (λ r. answers (Went ls) t ≡ swapped_with n f2.top to r ls) (λ r. answers (Went ls) (record t { watched = ws; client = client }) ≡ past v (entering_then v w x to r)) (arrives a (frames_at (slice_get v.seats.stacks to)) vs)
-    (λ r h. entered_then (Went ls) v t w x to number r ls ws client (h ∙ swapped_few r ∙ swapped_edited v w f2 ds to r ls edit ended) enabled gone count told) swaps in
-    subst (λ (s : Held). IfSome (arrives a (frames_at (slice_get s.seats.stacks to)) vs) (λ r. answers (Went ls) (record t { watched = ws; client = client }) ≡ past s (entering_then s w x to r))) view main
+    let main : IfSome (arrives a (frames_at (slice_get v.seats.stacks to)) vs) (λ r. answers (Went ls) (record t { watched = ws; client = client }) ≡ past how v (entering_then v w x to r)) =
+    mapped (λ r. answers (Went ls) t ≡ swapped_with n f2.top to r ls) (λ r. answers (Went ls) (record t { watched = ws; client = client }) ≡ past how v (entering_then v w x to r)) (arrives a (frames_at (slice_get v.seats.stacks to)) vs)
+    (λ r h. entered_then how (Went ls) v t w x to number r ls ws client (h ∙ swapped_few r ∙ swapped_edited v w f2 ds to r ls edit ended) enabled gone count told) swaps in
+    subst (λ (s : Held). IfSome (arrives a (frames_at (slice_get s.seats.stacks to)) vs) (λ r. answers (Went ls) (record t { watched = ws; client = client }) ≡ past how s (entering_then s w x to r))) view main
   where
     mapped : (P Q : EnteredFrames → Type 0) (o : Option EnteredFrames) → ((r : EnteredFrames) → P r → Q r) → IfSome o P → IfSome o Q
     mapped P Q None go h = tt
@@ -497,40 +497,40 @@ rebound_so s v w x to a vs f2 f3 f4 same after_seats ds os some cells number lg 
 pub awaits_in : (bundle : List Item) (s v : Held) (f : Activation) (cs ds : List ℕ) (w : Awaited) → v ≡ s → f ≡ v.frames.top → ds ≡ cs → awaits bundle f ds ≡ Some w → awaits bundle s.frames.top cs ≡ Some w
 awaits_in bundle s v f cs ds w view top same h = ap (λ f. awaits bundle f cs) (sym (top ∙ ap (λ (s : Held). s.frames.top) view)) ∙ ap (awaits bundle f) (sym same) ∙ h
 
-pub answer_in : (bundle : List Item) (p : Tables) (view : Trap) (s : Held) (w : Awaited) (i : ℕ) (wp : Option ℕ) (cs : List ℕ) (o : Option Plan) (plan : Plan) → option_map planned o ≡ answer_of view.tables (seen s view.watchpoint w) s.client
-    → view ≡ record { tables = p; thread = i; watchpoint = wp; asked = cs } → p ≡ bundle_tables bundle → o ≡ Some plan → Some (planned plan) ≡ answer_of (bundle_tables bundle) (seen s wp w) s.client
-answer_in bundle p view s w i wp cs o plan h is tables there =
-    ap (option_map planned) (sym there) ∙ h ∙ ap (λ (v : Trap). answer_of v.tables (seen s v.watchpoint w) s.client) is ∙ ap (λ p. answer_of p (seen s wp w) s.client) tables
+pub answer_in : (how : Way) (bundle : List Item) (p : Tables) (view : Trap) (s : Held) (w : Awaited) (i : ℕ) (wp : Option ℕ) (cs : List ℕ) (o : Option Plan) (plan : Plan) → option_map planned o ≡ how.answer view.tables (seen s view.watchpoint w) s.client
+    → view ≡ record { tables = p; thread = i; watchpoint = wp; asked = cs } → p ≡ bundle_tables bundle → o ≡ Some plan → Some (planned plan) ≡ how.answer (bundle_tables bundle) (seen s wp w) s.client
+answer_in how bundle p view s w i wp cs o plan h is tables there =
+    ap (option_map planned) (sym there) ∙ h ∙ ap (λ (v : Trap). how.answer v.tables (seen s v.watchpoint w) s.client) is ∙ ap (λ p. how.answer p (seen s wp w) s.client) tables
 
 -- what the answer changes
 plan_change : Held → Note → Plan → Change
 plan_change s note plan = record { watched = fold watch s.watched plan.watches; lines = lines.Event (length s.log) (leaves s) ∷ lines.Note note ∷ map lines.Note plan.notes }
 
-pub trap_there : (bundle : List Item) (s t : Held) (wp : Option ℕ) (cs : List ℕ) (w u : Awaited) (note : Note) (plan : Plan) → told bundle s.client (trapping bundle s wp cs) ≢ Stuck → t ≡ s → u ≡ w → awaits bundle s.frames.top cs ≡ Some w
-    → Some (planned plan) ≡ answer_of (bundle_tables bundle) (seen s wp w) s.client → note ≡ note_of s wp
+pub trap_there : (how : Way) (bundle : List Item) (s t : Held) (wp : Option ℕ) (cs : List ℕ) (w u : Awaited) (note : Note) (plan : Plan) → told how bundle s.client (trapping bundle s wp cs) ≢ Stuck → t ≡ s → u ≡ w → awaits bundle s.frames.top cs ≡ Some w
+    → Some (planned plan) ≡ how.answer (bundle_tables bundle) (seen s wp w) s.client → note ≡ note_of s wp
     → answering bundle t u (edit_of plan.edit) (record { watched = fold watch t.watched plan.watches; lines = lines.Event (length t.log) (leaves t) ∷ lines.Note note ∷ map lines.Note plan.notes }) (end_planned plan.end) ≢ Stuck
 unfolding plan_change
-trap_there bundle s t wp cs w u note plan h same waits awaited answer noted =
-    let here = trap_replies bundle s wp cs h w (planned plan) awaited answer in
+trap_there how bundle s t wp cs w u note plan h same waits awaited answer noted =
+    let here = trap_replies how bundle s wp cs h w (planned plan) awaited answer in
     subst (λ (t : Held). answering bundle t u (edit_of plan.edit) (plan_change t note plan) (end_planned plan.end) ≢ Stuck) (sym same)
     (subst (λ u. answering bundle s u (edit_of plan.edit) (plan_change s note plan) (end_planned plan.end) ≢ Stuck) (sym waits) (subst (λ n. answering bundle s w (edit_of plan.edit) (plan_change s n plan) (end_planned plan.end) ≢ Stuck) (sym noted) here))
 
-pub trap_taken : {E : Type 0} (bundle : List Item) (s t n : Held) (wp : Option ℕ) (cs : List ℕ) (w u : Awaited) (note : Note) (plan : Plan) (q : Result StepEnd E) → told bundle s.client (trapping bundle s wp cs) ≢ Stuck → t ≡ s → u ≡ w → awaits bundle s.frames.top cs ≡ Some w
-    → Some (planned plan) ≡ answer_of (bundle_tables bundle) (seen s wp w) s.client → note ≡ note_of s wp
-    → IfOk q (λ end. answers end n ≡ past t (answering bundle t u (edit_of plan.edit) (record { watched = fold watch t.watched plan.watches; lines = lines.Event (length t.log) (leaves t) ∷ lines.Note note ∷ map lines.Note plan.notes }) (end_planned plan.end)))
-    → IfOk q (λ end. answers end n ≡ told bundle s.client (trapping bundle s wp cs))
+pub trap_taken : {E : Type 0} (how : Way) (bundle : List Item) (s t n : Held) (wp : Option ℕ) (cs : List ℕ) (w u : Awaited) (note : Note) (plan : Plan) (q : Result StepEnd E) → told how bundle s.client (trapping bundle s wp cs) ≢ Stuck → t ≡ s → u ≡ w → awaits bundle s.frames.top cs ≡ Some w
+    → Some (planned plan) ≡ how.answer (bundle_tables bundle) (seen s wp w) s.client → note ≡ note_of s wp
+    → IfOk q (λ end. answers end n ≡ past how t (answering bundle t u (edit_of plan.edit) (record { watched = fold watch t.watched plan.watches; lines = lines.Event (length t.log) (leaves t) ∷ lines.Note note ∷ map lines.Note plan.notes }) (end_planned plan.end)))
+    → IfOk q (λ end. answers end n ≡ told how bundle s.client (trapping bundle s wp cs))
 unfolding plan_change
-trap_taken bundle s t n wp cs w u note plan (Err q) h same waits awaited answer noted so = tt
-trap_taken bundle s t n wp cs w u note plan (Ok end) h same waits awaited answer noted so =
-    so ∙ ap (λ (t : Held). past t (answering bundle t u (edit_of plan.edit) (plan_change t note plan) (end_planned plan.end))) same ∙ ap (λ u. past s (answering bundle s u (edit_of plan.edit) (plan_change s note plan) (end_planned plan.end))) waits
-    ∙ ap (λ n. past s (answering bundle s w (edit_of plan.edit) (plan_change s n plan) (end_planned plan.end))) noted ∙ sym (trap_answered bundle s wp cs h w (planned plan) awaited answer)
+trap_taken how bundle s t n wp cs w u note plan (Err q) h same waits awaited answer noted so = tt
+trap_taken how bundle s t n wp cs w u note plan (Ok end) h same waits awaited answer noted so =
+    so ∙ ap (λ (t : Held). past how t (answering bundle t u (edit_of plan.edit) (plan_change t note plan) (end_planned plan.end))) same ∙ ap (λ u. past how s (answering bundle s u (edit_of plan.edit) (plan_change s note plan) (end_planned plan.end))) waits
+    ∙ ap (λ n. past how s (answering bundle s w (edit_of plan.edit) (plan_change s n plan) (end_planned plan.end))) noted ∙ sym (trap_answered how bundle s wp cs h w (planned plan) awaited answer)
 
 -- ---- the edit, and then the reply
 
-pub edit_ended : (bundle : List Item) (s t n : Held) (w : Awaited) (e : Edit) (x : Change) (r : Reply TypedValues Classed) (k : Case) (ending : Ending) → t ≡ s → answering bundle s w e x r ≢ Stuck → edited (numbered bundle) e (frames_of (waiting_frames s w)) ≡ Some (Err k)
-    → ending ≡ undefined_at t k → answers (Ended x.lines ending) n ≡ past s (answering bundle s w e x r)
-edit_ended bundle s t n w e x r k ending same there refused told =
-    answers_ended n x.lines x.lines ending (undefined_at s k) refl (told ∙ ap (λ (s : Held). undefined_at s k) same) ∙ sym (edit_refuses bundle s w e x r there k refused)
+pub edit_ended : (how : Way) (bundle : List Item) (s t n : Held) (w : Awaited) (e : Edit) (x : Change) (r : Reply TypedValues Classed) (k : Case) (ending : Ending) → t ≡ s → answering bundle s w e x r ≢ Stuck → edited (numbered bundle) e (frames_of (waiting_frames s w)) ≡ Some (Err k)
+    → ending ≡ undefined_at t k → answers (Ended x.lines ending) n ≡ past how s (answering bundle s w e x r)
+edit_ended how bundle s t n w e x r k ending same there refused told =
+    answers_ended n x.lines x.lines ending (undefined_at s k) refl (told ∙ ap (λ (s : Held). undefined_at s k) same) ∙ sym (edit_refuses bundle s w e x r there how k refused)
 
 pub reply_there : (bundle : List Item) (s t : Held) (w u : Awaited) (e : Edit) (x y : Change) (r : Reply TypedValues Classed) → t ≡ s → u ≡ w → y ≡ x → answering bundle s w e x r ≢ Stuck → IsMade bundle e (frames_of (waiting_frames s w))
     → replying bundle t (after_edit bundle e (frames_of (waiting_frames t u))) y r ≢ Stuck
@@ -539,12 +539,12 @@ reply_there bundle s t w u e x y r same waits alike there goes =
     (subst (λ (t : Held). replying bundle t (after_edit bundle e (frames_of (waiting_frames s w))) y r ≢ Stuck) (sym same)
     (subst (λ (y : Change). replying bundle s (after_edit bundle e (frames_of (waiting_frames s w))) y r ≢ Stuck) (sym alike) (edit_replies bundle s w e x r there goes)))
 
-pub edit_answered : {E : Type 0} (bundle : List Item) (s t n : Held) (w u : Awaited) (e : Edit) (x y : Change) (r : Reply TypedValues Classed) (q : Result StepEnd E) → t ≡ s → u ≡ w → y ≡ x → answering bundle s w e x r ≢ Stuck → IsMade bundle e (frames_of (waiting_frames s w))
-    → IfOk q (λ end. answers end n ≡ past t (replying bundle t (after_edit bundle e (frames_of (waiting_frames t u))) y r)) → IfOk q (λ end. answers end n ≡ past s (answering bundle s w e x r))
-edit_answered bundle s t n w u e x y r (Err q) same waits alike there goes h = tt
-edit_answered bundle s t n w u e x y r (Ok end) same waits alike there goes h =
-    h ∙ ap (λ (y : Change). past t (replying bundle t (after_edit bundle e (frames_of (waiting_frames t u))) y r)) alike ∙ ap (λ (q : EnteredFrames). past t (replying bundle t q x r)) (left_again bundle s t w u e same waits) ∙ ap (λ (t : Held). past t (replying bundle t (after_edit bundle e (frames_of (waiting_frames s w))) x r)) same
-    ∙ ap (past s) (sym (edit_goes bundle s w e x r there goes))
+pub edit_answered : {E : Type 0} (how : Way) (bundle : List Item) (s t n : Held) (w u : Awaited) (e : Edit) (x y : Change) (r : Reply TypedValues Classed) (q : Result StepEnd E) → t ≡ s → u ≡ w → y ≡ x → answering bundle s w e x r ≢ Stuck → IsMade bundle e (frames_of (waiting_frames s w))
+    → IfOk q (λ end. answers end n ≡ past how t (replying bundle t (after_edit bundle e (frames_of (waiting_frames t u))) y r)) → IfOk q (λ end. answers end n ≡ past how s (answering bundle s w e x r))
+edit_answered how bundle s t n w u e x y r (Err q) same waits alike there goes h = tt
+edit_answered how bundle s t n w u e x y r (Ok end) same waits alike there goes h =
+    h ∙ ap (λ (y : Change). past how t (replying bundle t (after_edit bundle e (frames_of (waiting_frames t u))) y r)) alike ∙ ap (λ (q : EnteredFrames). past how t (replying bundle t q x r)) (left_again bundle s t w u e same waits) ∙ ap (λ (t : Held). past how t (replying bundle t (after_edit bundle e (frames_of (waiting_frames s w))) x r)) same
+    ∙ ap (past how s) (sym (edit_goes bundle s w e x r there goes))
 
 -- ---- frames that are edited in their seat
 

@@ -23,7 +23,6 @@ use Rattle.mu_model.specs.declared.endings.Ending.{Ending}
 use Rattle.mu_model.specs.declared.endings.Ending.TheVariants as endings
 use Rattle.mu_model.specs.Clients.{Client, Classed, With, Reply, Resume, Rebind, Exit, Stop, Answer, Edit, no_edit}
 use Rattle.mu_model.specs.Acts.{Entering, Goes, Traps, Watches, Chooses, Doing, Program}
-use Rattle.mu_model.specs.Answers.{answer_of, advanced}
 use Rattle.mu_model.specs.Changes.{event, noted, thread_ends}
 use Rattle.mu_model.specs.Configuration.{Stack, Ready, Active, Configuration}
 use Rattle.mu_model.specs.Types.{classes_given}
@@ -39,6 +38,7 @@ use Rattle.mu_model.specs.Traps.{is_watched, watch, taken, enters_by, edits, rep
 use Rattle.mu_model.specs.Turns.{Turn, waiting}
 use Rattle.model_numbers.specs.Numbered.{numbered}
 use Rattle.seats.specs.Seats.{IsReady}
+use Rattle.client_hooks.specs.Ways.{Way}
 use Rattle.run_state.specs.Held.{Held, held_stacks}
 use Rattle.run_state.specs.Acting.{begun, turn, doing_of, told, answers, acting, trapping, is_fault, undefined_at, Awaited, with_awaited, awaited_by, awaits, objects_end}
 use Rattle.run_state.specs.StepLaws.{told_so, on_there, on_is, some_there, some_of, with_is, set_again, set_there}
@@ -85,11 +85,11 @@ pub choice_disabled : (bundle : List Item) (s : Held) (n : ℕ) (disabled enable
 unfolding acting
 choice_disabled bundle s n disabled enabled e = chosen_by bundle s n disabled enabled (doing_of (numbered bundle) s) false e
 
-pub watch_asks_so : (bundle : List Item) (s : Held) (k : Client) (n : ℕ) (cs : List ℕ) (g : Goal) → is_watched n s.watched ≡ true → told bundle k (acting bundle s (Watches n cs g)) ≢ Stuck → told bundle k (trapping bundle s (Some n) cs) ≢ Stuck
-watch_asks_so bundle s k n cs g e h = λ stuck. h (ap (told bundle k) (watch_asks bundle s n cs g e) ∙ stuck)
+pub watch_asks_so : (how : Way) (bundle : List Item) (s : Held) (k : Client) (n : ℕ) (cs : List ℕ) (g : Goal) → is_watched n s.watched ≡ true → told how bundle k (acting bundle s (Watches n cs g)) ≢ Stuck → told how bundle k (trapping bundle s (Some n) cs) ≢ Stuck
+watch_asks_so how bundle s k n cs g e h = λ stuck. h (ap (told how bundle k) (watch_asks bundle s n cs g e) ∙ stuck)
 
-pub watch_goes_so : (bundle : List Item) (s : Held) (k : Client) (n : ℕ) (cs : List ℕ) (g : Goal) → is_watched n s.watched ≡ false → told bundle k (acting bundle s (Watches n cs g)) ≢ Stuck → acting bundle s (Goes g) ≢ Stuck
-watch_goes_so bundle s k n cs g e h = λ stuck. h (ap (told bundle k) (watch_goes bundle s n cs g e ∙ stuck))
+pub watch_goes_so : (how : Way) (bundle : List Item) (s : Held) (k : Client) (n : ℕ) (cs : List ℕ) (g : Goal) → is_watched n s.watched ≡ false → told how bundle k (acting bundle s (Watches n cs g)) ≢ Stuck → acting bundle s (Goes g) ≢ Stuck
+watch_goes_so how bundle s k n cs g e h = λ stuck. h (ap (told how bundle k) (watch_goes bundle s n cs g e ∙ stuck))
 
 pub ruleset meeting = (watch_asks, watch_goes, watch_asks_so, watch_goes_so, goes_is, told_so)
 
@@ -108,16 +108,16 @@ answers_ended s ls ms e f same is = ap (λ ls. End ls e) same ∙ ap (End ms) is
 
 -- ---- a trap
 
-past_stuck : (s : Held) → past s Stuck ≡ Stuck
+past_stuck : (how : Way) (s : Held) → past how s Stuck ≡ Stuck
 unfolding past
-past_stuck s = refl
+past_stuck how s = refl
 
-past_end : (s : Held) (ls : List Line) (e : Ending) → past s (End ls e) ≡ End ls e
+past_end : (how : Way) (s : Held) (ls : List Line) (e : Ending) → past how s (End ls e) ≡ End ls e
 unfolding past
-past_end s ls e = refl
+past_end how s ls e = refl
 
-past_there : (s : Held) (o : Outcome) → past s o ≢ Stuck → o ≢ Stuck
-past_there s o h = λ e. h (ap (past s) e ∙ past_stuck s)
+past_there : (how : Way) (s : Held) (o : Outcome) → past how s o ≢ Stuck → o ≢ Stuck
+past_there how s o h = λ e. h (ap (past how s) e ∙ past_stuck how s)
 
 -- the lines of an answer, newest first
 lines_taken : (n : ℕ) (e : Line) (note : Line) (ls : List Line) → reverse (e ∷ note ∷ ls) ≡ reverse ls ++ note ∷ e ∷ []
@@ -156,14 +156,14 @@ answered_is p s d w note a =
     (λ q. ap (λ c. replied p c (turn s d) a.reply) (edits_is s fs q x d))
 
 -- the client is asked where the top frame waits
-record TrapsAt (bundle : List Item) (s : Held) (watchpoint : Option ℕ) (cs : List ℕ) : Type 0 where
+record TrapsAt (how : Way) (bundle : List Item) (s : Held) (watchpoint : Option ℕ) (cs : List ℕ) : Type 0 where
   pub doing : Doing
   pub there : doing_of (numbered bundle) s ≡ Some doing
   pub awaited : Awaited
   pub waits : awaits bundle s.frames.top cs ≡ Some awaited
   pub classes : awaited.waits ≡ cs
-  pub is : told bundle s.client (trapping bundle s watchpoint cs)
-      ≡ past s (answered (numbered bundle) (noted (note_of s watchpoint) (leaving (turn s nothing) (with_awaited s.frames.top awaited) (begun s))) (turn s doing) (frames_of (waiting_frames s awaited)) (answer_of (bundle_tables bundle) (seen s watchpoint awaited) s.client))
+  pub is : told how bundle s.client (trapping bundle s watchpoint cs)
+      ≡ past how s (answered (numbered bundle) (noted (note_of s watchpoint) (leaving (turn s nothing) (with_awaited s.frames.top awaited) (begun s))) (turn s doing) (frames_of (waiting_frames s awaited)) (how.answer (bundle_tables bundle) (seen s watchpoint awaited) s.client))
 
 awaited_classes : (o : Option (Option Goal)) (ks : Option TypedValues) (cs : List ℕ) (w : Awaited) → with_some o (λ h. with_some ks (λ k. Some (record { waits = cs; handler = h; kept = k }))) ≡ Some w → w.waits ≡ cs
 awaited_classes None ks cs w h = cc
@@ -177,11 +177,11 @@ asked_of : List Item → Held → Option ℕ → List ℕ → Doing → Activati
 asked_of bundle s watchpoint cs d f =
     Asks (record { thread = s.thread; watchpoint = watchpoint; asked = cs; frames = f ∷ s.frames.below }) (answered (numbered bundle) (noted (note_of s watchpoint) (leaving (turn s nothing) f (begun s))) (turn s d) (f ∷ s.frames.below))
 
-trap_at : (bundle : List Item) (s : Held) (watchpoint : Option ℕ) (cs : List ℕ) → told bundle s.client (trapping bundle s watchpoint cs) ≢ Stuck → TrapsAt bundle s watchpoint cs
+trap_at : (how : Way) (bundle : List Item) (s : Held) (watchpoint : Option ℕ) (cs : List ℕ) → told how bundle s.client (trapping bundle s watchpoint cs) ≢ Stuck → TrapsAt how bundle s watchpoint cs
 unfolding trapping awaits past asked_of
-trap_at bundle s watchpoint cs h =
+trap_at how bundle s watchpoint cs h =
     let p = numbered bundle in
-    let r = on_there (doing_of p s) (λ d. trapped p (begun s) (turn s d) watchpoint cs) (λ e. h (ap (told bundle s.client) e)) in
+    let r = on_there (doing_of p s) (λ d. trapped p (begun s) (turn s d) watchpoint cs) (λ e. h (ap (told how bundle s.client) e)) in
     let f = on_there (waiting (turn s r.0) cs) (asked_of bundle s watchpoint cs r.0) r.2 in
     let w = waits_there r.0.exceptional r.0.kept s.frames.top f.0 cs f.1 in
     let same : w.0.waits ≡ cs = awaited_classes r.0.exceptional r.0.kept cs w.0 w.1 in
@@ -195,14 +195,14 @@ trap_at bundle s watchpoint cs h =
       waits = with_is (doing_of p s) r.0 (awaited_by cs) r.1 ∙ w.1;
       classes = same;
       is =
-          ap (told bundle s.client) asks
-          ∙ ap (λ asked. with_client (advanced s.client) (answered p (noted (note_of s watchpoint) (leaving (turn s nothing) (with_awaited s.frames.top w.0) (begun s))) (turn s r.0) (frames_of (waiting_frames s w.0))
-          (answer_of (bundle_tables bundle) (record { thread = s.thread; watchpoint = watchpoint; asked = asked; frames = with_awaited s.frames.top w.0 ∷ s.frames.below }) s.client))) (sym same);
+          ap (told how bundle s.client) asks
+          ∙ ap (λ asked. with_client (how.past s.client) (answered p (noted (note_of s watchpoint) (leaving (turn s nothing) (with_awaited s.frames.top w.0) (begun s))) (turn s r.0) (frames_of (waiting_frames s w.0))
+          (how.answer (bundle_tables bundle) (record { thread = s.thread; watchpoint = watchpoint; asked = asked; frames = with_awaited s.frames.top w.0 ∷ s.frames.below }) s.client))) (sym same);
     }
 
-module _ (bundle : List Item) (s : Held) (watchpoint : Option ℕ) (cs : List ℕ) (h : told bundle s.client (trapping bundle s watchpoint cs) ≢ Stuck) where
-  at : TrapsAt bundle s watchpoint cs
-  at = trap_at bundle s watchpoint cs h
+module _ (how : Way) (bundle : List Item) (s : Held) (watchpoint : Option ℕ) (cs : List ℕ) (h : told how bundle s.client (trapping bundle s watchpoint cs) ≢ Stuck) where
+  at : TrapsAt how bundle s watchpoint cs
+  at = trap_at how bundle s watchpoint cs h
 
   pub trap_awaits : IsSome (awaits bundle s.frames.top cs)
   trap_awaits = some_there (awaits bundle s.frames.top cs) at.awaited at.waits
@@ -213,34 +213,34 @@ module _ (bundle : List Item) (s : Held) (watchpoint : Option ℕ) (cs : List �
   pub trap_waits : (w : Awaited) → awaits bundle s.frames.top cs ≡ Some w → w.waits ≡ cs
   trap_waits w e = ap (λ (w : Awaited). w.waits) (sym (same_wait w e)) ∙ at.classes
 
-  answered_so : (w : Awaited) (o : Option Answer) → awaits bundle s.frames.top cs ≡ Some w → o ≡ answer_of (bundle_tables bundle) (seen s watchpoint w) s.client
-      → told bundle s.client (trapping bundle s watchpoint cs) ≡ past s (answered (numbered bundle) (noted (note_of s watchpoint) (leaving (turn s nothing) (with_awaited s.frames.top w) (begun s))) (turn s at.doing) (frames_of (waiting_frames s w)) o)
+  answered_so : (w : Awaited) (o : Option Answer) → awaits bundle s.frames.top cs ≡ Some w → o ≡ how.answer (bundle_tables bundle) (seen s watchpoint w) s.client
+      → told how bundle s.client (trapping bundle s watchpoint cs) ≡ past how s (answered (numbered bundle) (noted (note_of s watchpoint) (leaving (turn s nothing) (with_awaited s.frames.top w) (begun s))) (turn s at.doing) (frames_of (waiting_frames s w)) o)
   answered_so w o e answer =
       at.is
-      ∙ ap (λ w. past s (answered (numbered bundle) (noted (note_of s watchpoint) (leaving (turn s nothing) (with_awaited s.frames.top w) (begun s))) (turn s at.doing) (frames_of (waiting_frames s w)) (answer_of (bundle_tables bundle) (seen s watchpoint w) s.client))) (same_wait w e)
-      ∙ ap (λ o. past s (answered (numbered bundle) (noted (note_of s watchpoint) (leaving (turn s nothing) (with_awaited s.frames.top w) (begun s))) (turn s at.doing) (frames_of (waiting_frames s w)) o)) (sym answer)
+      ∙ ap (λ w. past how s (answered (numbered bundle) (noted (note_of s watchpoint) (leaving (turn s nothing) (with_awaited s.frames.top w) (begun s))) (turn s at.doing) (frames_of (waiting_frames s w)) (how.answer (bundle_tables bundle) (seen s watchpoint w) s.client))) (same_wait w e)
+      ∙ ap (λ o. past how s (answered (numbered bundle) (noted (note_of s watchpoint) (leaving (turn s nothing) (with_awaited s.frames.top w) (begun s))) (turn s at.doing) (frames_of (waiting_frames s w)) o)) (sym answer)
 
-  pub trap_misused : (w : Awaited) → awaits bundle s.frames.top cs ≡ Some w → None ≡ answer_of (bundle_tables bundle) (seen s watchpoint w) s.client
-      → told bundle s.client (trapping bundle s watchpoint cs) ≡ End (lines.Event (length s.log) (event s.thread (Leave s.stack)) ∷ lines.Note (note_of s watchpoint) ∷ []) (undefined_at s cases.ClientMisuse)
+  pub trap_misused : (w : Awaited) → awaits bundle s.frames.top cs ≡ Some w → None ≡ how.answer (bundle_tables bundle) (seen s watchpoint w) s.client
+      → told how bundle s.client (trapping bundle s watchpoint cs) ≡ End (lines.Event (length s.log) (event s.thread (Leave s.stack)) ∷ lines.Note (note_of s watchpoint) ∷ []) (undefined_at s cases.ClientMisuse)
   unfolding past
   trap_misused w e answer = answered_so w None e answer
 
-  pub trap_answered : (w : Awaited) (a : Answer) → awaits bundle s.frames.top cs ≡ Some w → Some a ≡ answer_of (bundle_tables bundle) (seen s watchpoint w) s.client
-      → told bundle s.client (trapping bundle s watchpoint cs) ≡ past s (answering bundle s w a.edit (change_of s (note_of s watchpoint) a.watches a.notes) a.reply)
+  pub trap_answered : (w : Awaited) (a : Answer) → awaits bundle s.frames.top cs ≡ Some w → Some a ≡ how.answer (bundle_tables bundle) (seen s watchpoint w) s.client
+      → told how bundle s.client (trapping bundle s watchpoint cs) ≡ past how s (answering bundle s w a.edit (change_of s (note_of s watchpoint) a.watches a.notes) a.reply)
   unfolding answering
   trap_answered w a e answer =
       let p = numbered bundle in
       let fs = frames_of (waiting_frames s w) in
       let x = change_of s (note_of s watchpoint) a.watches a.notes in
-      answered_so w (Some a) e answer ∙ ap (past s) (answered_is p s at.doing w (note_of s watchpoint) a)
-      ∙ ap (past s) (sym (on_is (doing_of p s) at.doing (λ d. tried p (changed_by s (kept fs) x) (turn s d) (edited p a.edit fs) (λ q. replied p (changed_by s q x) (turn s d) a.reply)) at.there))
+      answered_so w (Some a) e answer ∙ ap (past how s) (answered_is p s at.doing w (note_of s watchpoint) a)
+      ∙ ap (past how s) (sym (on_is (doing_of p s) at.doing (λ d. tried p (changed_by s (kept fs) x) (turn s d) (edited p a.edit fs) (λ q. replied p (changed_by s q x) (turn s d) a.reply)) at.there))
 
-  pub trap_replies : (w : Awaited) (a : Answer) → awaits bundle s.frames.top cs ≡ Some w → Some a ≡ answer_of (bundle_tables bundle) (seen s watchpoint w) s.client
+  pub trap_replies : (w : Awaited) (a : Answer) → awaits bundle s.frames.top cs ≡ Some w → Some a ≡ how.answer (bundle_tables bundle) (seen s watchpoint w) s.client
       → answering bundle s w a.edit (change_of s (note_of s watchpoint) a.watches a.notes) a.reply ≢ Stuck
-  trap_replies w a e answer = past_there s (answering bundle s w a.edit (change_of s (note_of s watchpoint) a.watches a.notes) a.reply) (λ stuck. h (trap_answered w a e answer ∙ stuck))
+  trap_replies w a e answer = past_there how s (answering bundle s w a.edit (change_of s (note_of s watchpoint) a.watches a.notes) a.reply) (λ stuck. h (trap_answered w a e answer ∙ stuck))
 
-pub trapped_asks : (bundle : List Item) (s : Held) (k : Client) (cs : List ℕ) → told bundle k (acting bundle s (Traps cs)) ≢ Stuck → told bundle k (trapping bundle s None cs) ≢ Stuck
-trapped_asks bundle s k cs h = λ stuck. h (ap (told bundle k) (trap_asks bundle s cs) ∙ stuck)
+pub trapped_asks : (how : Way) (bundle : List Item) (s : Held) (k : Client) (cs : List ℕ) → told how bundle k (acting bundle s (Traps cs)) ≢ Stuck → told how bundle k (trapping bundle s None cs) ≢ Stuck
+trapped_asks how bundle s k cs h = λ stuck. h (ap (told how bundle k) (trap_asks bundle s cs) ∙ stuck)
 
 pub ruleset asking = (trap_awaits, trap_waits, trap_misused, trap_answered, trap_replies)
 
@@ -253,14 +253,14 @@ reply_at bundle s w x r h =
     let q = on_there (doing_of (numbered bundle) s) (λ d. replied (numbered bundle) (changed_by s w x) (turn s d) r) h in
     (q.0, on_is (doing_of (numbered bundle) s) q.0 (λ d. replied (numbered bundle) (changed_by s w x) (turn s d) r) q.1)
 
-pub reply_stops : (bundle : List Item) (s : Held) (w : EnteredFrames) (x : Change) → replying bundle s w x Stop ≢ Stuck → past s (replying bundle s w x Stop) ≡ End x.lines endings.Stop
+pub reply_stops : (how : Way) (bundle : List Item) (s : Held) (w : EnteredFrames) (x : Change) → replying bundle s w x Stop ≢ Stuck → past how s (replying bundle s w x Stop) ≡ End x.lines endings.Stop
 unfolding past
-reply_stops bundle s w x h = let q = reply_at bundle s w x Stop h in ap (past s) q.1 ∙ ap (λ ls. End ls endings.Stop) (reverse-reverse x.lines)
+reply_stops how bundle s w x h = let q = reply_at bundle s w x Stop h in ap (past how s) q.1 ∙ ap (λ ls. End ls endings.Stop) (reverse-reverse x.lines)
 
-pub reply_exits : (bundle : List Item) (s : Held) (w : EnteredFrames) (x : Change) → replying bundle s w x Exit ≢ Stuck
-    → past s (replying bundle s w x Exit) ≡ Next (record (noted (Exited s.thread) (thread_ends s.thread (changed_by s w x))) { client = advanced s.client })
+pub reply_exits : (how : Way) (bundle : List Item) (s : Held) (w : EnteredFrames) (x : Change) → replying bundle s w x Exit ≢ Stuck
+    → past how s (replying bundle s w x Exit) ≡ Next (record (noted (Exited s.thread) (thread_ends s.thread (changed_by s w x))) { client = how.past s.client })
 unfolding past
-reply_exits bundle s w x h = let q = reply_at bundle s w x Exit h in ap (past s) q.1
+reply_exits how bundle s w x h = let q = reply_at bundle s w x Exit h in ap (past how s) q.1
 
 -- ---- a stack that is entered by a reply
 
@@ -362,12 +362,12 @@ module _ (bundle : List Item) (s : Held) (w : Awaited) (e : Edit) (x : Change) (
       let q = tries_there p (changed_by s (kept now) x) (turn s answer_at.0) (edited p e now) (λ q. replied p (changed_by s q x) (turn s answer_at.0) r) (λ stuck. h (answer_at.2 ∙ stuck)) in
       some_there (edited p e now) q.0 q.1
 
-  pub edit_refuses : (k : Case) → edited (numbered bundle) e now ≡ Some (Err k) → past s (answering bundle s w e x r) ≡ End x.lines (undefined_at s k)
-  edit_refuses k refuses =
+  pub edit_refuses : (how : Way) (k : Case) → edited (numbered bundle) e now ≡ Some (Err k) → past how s (answering bundle s w e x r) ≡ End x.lines (undefined_at s k)
+  edit_refuses how k refuses =
       let p = numbered bundle in
       let c = changed_by s (kept now) x in
-      ap (past s) (answer_at.2 ∙ tries_is p c (turn s answer_at.0) (edited p e now) (Err k) (λ q. replied p (changed_by s q x) (turn s answer_at.0) r) refuses ∙ reply_refused p s (kept now) x answer_at.0 k (edited_plain p e now k refuses))
-      ∙ past_end s (reverse (reverse x.lines)) (undefined_at s k) ∙ ap (λ ls. End ls (undefined_at s k)) (reverse-reverse x.lines)
+      ap (past how s) (answer_at.2 ∙ tries_is p c (turn s answer_at.0) (edited p e now) (Err k) (λ q. replied p (changed_by s q x) (turn s answer_at.0) r) refuses ∙ reply_refused p s (kept now) x answer_at.0 k (edited_plain p e now k refuses))
+      ∙ past_end how s (reverse (reverse x.lines)) (undefined_at s k) ∙ ap (λ ls. End ls (undefined_at s k)) (reverse-reverse x.lines)
 
   pub edit_goes : IsMade bundle e now → answering bundle s w e x r ≡ replying bundle s (after_edit bundle e now) x r
   unfolding replying
@@ -471,12 +471,12 @@ module _ (bundle : List Item) (s : Held) (w : EnteredFrames) (x : Change) (v : W
   resume_enters e low brings =
       enter_there bundle s w x resume_at.0 (scalars.Stack s.stack) e s.stack w.frames (λ stuck. h (resume_is e brings ∙ stuck)) (own_ready s w low)
 
-  pub resume_refuses : (e : Entering) (k : Case) → s.stack < length s.seats.stacks → traps.entering_of (bundle_tables bundle) v ≡ Some e → entered_by bundle w.frames e ≡ Some (Err k) → is_fault k ≡ false
-      → past s (replying bundle s w x (Resume v)) ≡ End x.lines (undefined_at s k)
-  resume_refuses e k low brings refused plain =
-      ap (past s)
+  pub resume_refuses : (how : Way) (e : Entering) (k : Case) → s.stack < length s.seats.stacks → traps.entering_of (bundle_tables bundle) v ≡ Some e → entered_by bundle w.frames e ≡ Some (Err k) → is_fault k ≡ false
+      → past how s (replying bundle s w x (Resume v)) ≡ End x.lines (undefined_at s k)
+  resume_refuses how e k low brings refused plain =
+      ap (past how s)
       (resume_is e brings ∙ enter_at bundle s w x resume_at.0 (scalars.Stack s.stack) e s.stack w.frames (Err k) (own_ready s w low) refused ∙ reply_refused (numbered bundle) s w x resume_at.0 k plain)
-      ∙ past_end s (reverse (reverse x.lines)) (undefined_at s k) ∙ ap (λ ls. End ls (undefined_at s k)) (reverse-reverse x.lines)
+      ∙ past_end how s (reverse (reverse x.lines)) (undefined_at s k) ∙ ap (λ ls. End ls (undefined_at s k)) (reverse-reverse x.lines)
 
   pub resume_goes : (e : Entering) (r : EnteredFrames) → s.stack < length s.seats.stacks → traps.entering_of (bundle_tables bundle) v ≡ Some e → entered_by bundle w.frames e ≡ Some (Ok r)
       → replying bundle s w x (Resume v) ≡ entering_then s w x s.stack r
@@ -537,10 +537,10 @@ module _ (bundle : List Item) (s : Held) (w : EnteredFrames) (x : Change) (t : C
       let k = some_of (ready (stacks_then s w) sc) r in
       some_there (ready (held_stacks s) sc) k.0 (sym (other_same s w sc other) ∙ k.1)
 
-  pub rebind_not_ready : (sc : Scalar) → scalar_in (Some t.1) ≡ Some sc → sc ≢ scalars.Stack s.stack → ready (held_stacks s) sc ≡ Some (Err cases.StackNotReady)
-      → past s (replying bundle s w x (Rebind t v)) ≡ End x.lines (undefined_at s cases.StackNotReady)
-  rebind_not_ready sc named other none =
-      ap (past s) (rebind_is sc rebind_with.0 named rebind_with.1 ∙ not_ready bundle s w x rebind_at.0 sc rebind_with.0 (other_same s w sc other ∙ none)) ∙ past_end s (reverse (reverse x.lines)) (undefined_at s cases.StackNotReady)
+  pub rebind_not_ready : (how : Way) (sc : Scalar) → scalar_in (Some t.1) ≡ Some sc → sc ≢ scalars.Stack s.stack → ready (held_stacks s) sc ≡ Some (Err cases.StackNotReady)
+      → past how s (replying bundle s w x (Rebind t v)) ≡ End x.lines (undefined_at s cases.StackNotReady)
+  rebind_not_ready how sc named other none =
+      ap (past how s) (rebind_is sc rebind_with.0 named rebind_with.1 ∙ not_ready bundle s w x rebind_at.0 sc rebind_with.0 (other_same s w sc other ∙ none)) ∙ past_end how s (reverse (reverse x.lines)) (undefined_at s cases.StackNotReady)
       ∙ ap (λ ls. End ls (undefined_at s cases.StackNotReady)) (reverse-reverse x.lines)
 
   -- another stack that is ready
@@ -556,12 +556,12 @@ module _ (bundle : List Item) (s : Held) (w : EnteredFrames) (x : Change) (t : C
   rebind_looks k e named other there brings =
       enter_there bundle s w x rebind_at.0 (scalars.Stack k) e k (frames_at (slice_get s.seats.stacks k)) (λ stuck. h (rebind_is (scalars.Stack k) e named brings ∙ stuck)) (others k other there)
 
-  pub rebind_refuses : (k : ℕ) (e : Entering) (q : Case) → scalar_in (Some t.1) ≡ Some (scalars.Stack k) → k ≢ s.stack → IsReady (slice_get s.seats.stacks k) → traps.entering_of (bundle_tables bundle) v ≡ Some e
-      → entered_by bundle (frames_at (slice_get s.seats.stacks k)) e ≡ Some (Err q) → is_fault q ≡ false → past s (replying bundle s w x (Rebind t v)) ≡ End x.lines (undefined_at s q)
-  rebind_refuses k e q named other there brings refused plain =
-      ap (past s)
+  pub rebind_refuses : (how : Way) (k : ℕ) (e : Entering) (q : Case) → scalar_in (Some t.1) ≡ Some (scalars.Stack k) → k ≢ s.stack → IsReady (slice_get s.seats.stacks k) → traps.entering_of (bundle_tables bundle) v ≡ Some e
+      → entered_by bundle (frames_at (slice_get s.seats.stacks k)) e ≡ Some (Err q) → is_fault q ≡ false → past how s (replying bundle s w x (Rebind t v)) ≡ End x.lines (undefined_at s q)
+  rebind_refuses how k e q named other there brings refused plain =
+      ap (past how s)
       (rebind_is (scalars.Stack k) e named brings ∙ enter_at bundle s w x rebind_at.0 (scalars.Stack k) e k (frames_at (slice_get s.seats.stacks k)) (Err q) (others k other there) refused
-      ∙ reply_refused (numbered bundle) s w x rebind_at.0 q plain) ∙ past_end s (reverse (reverse x.lines)) (undefined_at s q)
+      ∙ reply_refused (numbered bundle) s w x rebind_at.0 q plain) ∙ past_end how s (reverse (reverse x.lines)) (undefined_at s q)
       ∙ ap (λ ls. End ls (undefined_at s q)) (reverse-reverse x.lines)
 
   pub rebind_goes : (k : ℕ) (e : Entering) (r : EnteredFrames) → scalar_in (Some t.1) ≡ Some (scalars.Stack k) → k ≢ s.stack → IsReady (slice_get s.seats.stacks k) → traps.entering_of (bundle_tables bundle) v ≡ Some e

@@ -6,10 +6,10 @@ use Rattle.frames.specs.Chains.{frames_of, Chain}
 use Rattle.mu_model.specs.declared.lines.Line.{Line}
 use Rattle.mu_model.specs.declared.lines.Note.{Note}
 use Rattle.client_hooks.specs.Replies.{edit_of}
+use Rattle.client_hooks.specs.Ways.{Way}
 use Rattle.mem_axioms.specs.declared.types.Kind.TheVariants.{Leave}
 use Rattle.mu_model.specs.Changes.{logged, stack_becomes, frames_end}
 use Rattle.mu_model.specs.Clients.{Classed, Edit, Reply}
-use Rattle.mu_model.specs.Answers.{advanced}
 use Rattle.mu_model.specs.Configuration.{Ready, Configuration}
 use Rattle.mu_model.specs.Edits.{edited}
 use Rattle.mu_model.specs.Exceptions.{EnteredFrames}
@@ -70,9 +70,9 @@ left_by bundle s t = after_edit bundle (edit_of t.edit) (frames_of (waiting_fram
 abbrev pub IsEdited : List Item → Held → Trapped → Type 0
 IsEdited bundle s t = IsMade bundle (edit_of t.edit) (frames_of (waiting_frames s t.wait))
 
--- the client goes past its answer
-unfoldable pub past : Held → Outcome → Outcome
-past s o = with_client (advanced s.client) o
+-- a client that answers in that way goes past its answer
+unfoldable pub past : Way → Held → Outcome → Outcome
+past how s o = with_client (how.past s.client) o
 
 -- the stack k is entered then
 unfoldable pub entering_then : Held → EnteredFrames → Change → ℕ → EnteredFrames → Outcome

@@ -6,7 +6,6 @@ ghost use Rattle.mem_axioms.specs.declared.types.Kind.TheVariants as kinds;
 ghost use Rattle.mu_model.specs.declared.lines.Line.TheVariants as written;
 ghost use Rattle.mu_model.specs.declared.endings.Case.TheVariants as cases;
 ghost use Rattle.mu_model.specs.Acts as acts;
-ghost use Rattle.mu_model.specs.Answers.{answer_of};
 ghost use Rattle.mu_model.specs.Changes.{event};
 ghost use Rattle.mu_model.specs.Outcomes as outcomes;
 ghost use Rattle.mu_model.specs.Outcomes.{Stuck};
@@ -63,8 +62,8 @@ pub fn trap<M: Memory, C: Determined>(
     requires room { state.old.steps < state.old.budget }
     requires narrow { AreNarrow (graph_of code.now) }
     requires classes { All (λ c. c < length (graph_of code.now)) lists.old.room.waits.members }
-    requires there { told code.now state.old.client (trapping code.now state.old watchpoint lists.old.room.waits.members) ≢ Stuck }
-    ensures ok { IfOk result (λ end. answers end state.new ≡ told code.now state.old.client (trapping code.now state.old watchpoint lists.old.room.waits.members)) }
+    requires there { told C.way code.now state.old.client (trapping code.now state.old watchpoint lists.old.room.waits.members) ≢ Stuck }
+    ensures ok { IfOk result (λ end. answers end state.new ≡ told C.way code.now state.old.client (trapping code.now state.old watchpoint lists.old.room.waits.members)) }
     ensures err { OnErr result (state.new ≡ state.old) }
     ensures stays { IfOk result (λ end. Stays end state.old state.new) }
 {
@@ -89,7 +88,7 @@ fn consult<M: Memory, C: Determined>(
     requires left { state.old.left ≡ true }
     requires thread { view.now.thread ≡ state.old.thread }
     requires asked { view.now.asked ≡ wait.old.waits }
-    ensures answer { IfOk result (λ plan. option_map planned plan ≡ answer_of view.now.tables (seen state.old view.now.watchpoint wait.old) state.old.client) }
+    ensures answer { IfOk result (λ plan. option_map planned plan ≡ C.way.answer view.now.tables (seen state.old view.now.watchpoint wait.old) state.old.client) }
     ensures same { state.new ≡ state.old }
     ensures wait { wait.new ≡ wait.old }
 {
@@ -142,7 +141,7 @@ fn take<M: Memory, C: Determined>(
     requires left { state.old.left ≡ true }
     requires room { state.old.steps < state.old.budget }
     requires there { answering code.now state.old wait (edit_of plan.edit) (record { watched = fold watch state.old.watched plan.watches; lines = written.Event (length state.old.log) (event state.old.thread (kinds.Leave state.old.stack)) ∷ written.Note note ∷ map written.Note plan.notes }) (end_planned plan.end) ≢ Stuck }
-    ensures ok { IfOk result (λ end. answers end state.new ≡ past state.old (answering code.now state.old wait (edit_of plan.edit) (record { watched = fold watch state.old.watched plan.watches; lines = written.Event (length state.old.log) (event state.old.thread (kinds.Leave state.old.stack)) ∷ written.Note note ∷ map written.Note plan.notes }) (end_planned plan.end))) }
+    ensures ok { IfOk result (λ end. answers end state.new ≡ past C.way state.old (answering code.now state.old wait (edit_of plan.edit) (record { watched = fold watch state.old.watched plan.watches; lines = written.Event (length state.old.log) (event state.old.thread (kinds.Leave state.old.stack)) ∷ written.Note note ∷ map written.Note plan.notes }) (end_planned plan.end))) }
     ensures err { OnErr result (state.new ≡ state.old) }
     ensures stays { IfOk result (λ end. Stays end state.old state.new) }
 {
@@ -177,7 +176,7 @@ fn edit_and_reply<M: Memory, C: Determined>(
     requires left { state.old.left ≡ true }
     requires room { state.old.steps < state.old.budget }
     requires there { answering code.now state.old trapped.wait (edit_of trapped.edit) (change_by state.old trapped) (end_planned end) ≢ Stuck }
-    ensures ok { IfOk result (λ e. answers e state.new ≡ past state.old (answering code.now state.old trapped.wait (edit_of trapped.edit) (change_by state.old trapped) (end_planned end))) }
+    ensures ok { IfOk result (λ e. answers e state.new ≡ past C.way state.old (answering code.now state.old trapped.wait (edit_of trapped.edit) (change_by state.old trapped) (end_planned end))) }
     ensures err { OnErr result (state.new ≡ state.old) }
     ensures stays { IfOk result (λ end. Stays end state.old state.new) }
 {
@@ -201,8 +200,8 @@ pub fn meet<M: Memory, C: Determined>(
     requires room { state.old.steps < state.old.budget }
     requires narrow { AreNarrow (graph_of code.now) }
     requires classes { All (λ c. c < length (graph_of code.now)) lists.old.room.waits.members }
-    requires there { told code.now state.old.client (acting code.now state.old (acts.Watches watchpoint lists.old.room.waits.members (record { block = block; values = lists.old.room.values.values }))) ≢ Stuck }
-    ensures ok { IfOk result (λ end. answers end state.new ≡ told code.now state.old.client (acting code.now state.old (acts.Watches watchpoint lists.old.room.waits.members (record { block = block; values = lists.old.room.values.values })))) }
+    requires there { told C.way code.now state.old.client (acting code.now state.old (acts.Watches watchpoint lists.old.room.waits.members (record { block = block; values = lists.old.room.values.values }))) ≢ Stuck }
+    ensures ok { IfOk result (λ end. answers end state.new ≡ told C.way code.now state.old.client (acting code.now state.old (acts.Watches watchpoint lists.old.room.waits.members (record { block = block; values = lists.old.room.values.values })))) }
     ensures err { OnErr result (state.new ≡ state.old) }
     ensures stays { IfOk result (λ end. Stays end state.old state.new) }
 {

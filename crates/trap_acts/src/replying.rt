@@ -1,7 +1,8 @@
 // What comes of the client's reply: the thread ends, or its own stack or another one is entered.
-ghost use Rattle.std.specs.Prelude.{◌≡◌, ◌≢◌, ◌<◌, IfOk, IfSome, IsSome, OnErr, slice_get, true, false};
+ghost use Rattle.std.specs.Prelude.{◌≡◌, ◌≢◌, ◌<◌, ◌++◌, ◌∷◌, [], IfOk, IfSome, IsSome, OnErr, slice_get, true, false};
 ghost use Rattle.mu_values.specs.declared.scalars.Scalar.TheVariants as scalars;
 ghost use Rattle.frames.specs.Chains.{frames_of};
+ghost use Rattle.mu_model.specs.declared.lines.Line.TheVariants as written;
 ghost use Rattle.mu_model.specs.Clients as clients;
 ghost use Rattle.mu_model.specs.Outcomes.{Stuck};
 ghost use Rattle.client_hooks.specs.Plans.{end_planned};
@@ -64,7 +65,7 @@ pub(crate) fn reply<M: Memory, C: Determined>(
     requires room { state.old.steps < state.old.budget }
     requires edited { IsEdited code.now state.old trapped }
     requires there { replying code.now state.old (left_by code.now state.old trapped) (change_by state.old trapped) (end_planned end) ≢ Stuck }
-    ensures ok { IfOk result (λ e. answers e state.new ≡ past state.old (replying code.now state.old (left_by code.now state.old trapped) (change_by state.old trapped) (end_planned end))) }
+    ensures ok { IfOk result (λ e. answers e state.new ≡ past C.way state.old (replying code.now state.old (left_by code.now state.old trapped) (change_by state.old trapped) (end_planned end))) }
     ensures err { OnErr result (state.new ≡ state.old) }
     ensures stays { IfOk result (λ end. Stays end state.old state.new) }
 {
@@ -86,7 +87,7 @@ fn exit_ready<M: Memory, C: Determined>(
     requires room { state.old.steps < state.old.budget }
     requires edited { IsEdited code.now state.old trapped }
     requires there { replying code.now state.old (left_by code.now state.old trapped) (change_by state.old trapped) clients.Exit ≢ Stuck }
-    ensures ok { IfOk result (λ end. answers end state.new ≡ past state.old (replying code.now state.old (left_by code.now state.old trapped) (change_by state.old trapped) clients.Exit)) }
+    ensures ok { IfOk result (λ end. answers end state.new ≡ past C.way state.old (replying code.now state.old (left_by code.now state.old trapped) (change_by state.old trapped) clients.Exit)) }
     ensures err { OnErr result (state.new ≡ state.old) }
     ensures stays { IfOk result (λ end. Stays end state.old state.new) }
 {
@@ -144,7 +145,7 @@ fn resume<M: Memory, C: Determined>(
     requires room { state.old.steps < state.old.budget }
     requires edited { IsEdited code.now state.old trapped }
     requires there { replying code.now state.old (left_by code.now state.old trapped) (change_by state.old trapped) (clients.Resume (way_of with)) ≢ Stuck }
-    ensures ok { IfOk result (λ end. answers end state.new ≡ past state.old (replying code.now state.old (left_by code.now state.old trapped) (change_by state.old trapped) (clients.Resume (way_of with)))) }
+    ensures ok { IfOk result (λ end. answers end state.new ≡ past C.way state.old (replying code.now state.old (left_by code.now state.old trapped) (change_by state.old trapped) (clients.Resume (way_of with)))) }
     ensures err { OnErr result (state.new ≡ state.old) }
     ensures stays { IfOk result (λ end. Stays end state.old state.new) }
 {
@@ -202,7 +203,7 @@ fn resume_at<M: Memory, C: Determined>(
     requires room { state.old.steps < state.old.budget }
     requires edited { IsEdited code.now state.old trapped }
     requires lands { IsSome (arrives arrival (left_by code.now state.old trapped).frames out.old.values) }
-    ensures ok { IfOk result (λ end. IfSome (arrives arrival (left_by code.now state.old trapped).frames out.old.values) (λ r. answers end state.new ≡ past state.old (entering_then state.old (left_by code.now state.old trapped) (change_by state.old trapped) state.old.stack r))) }
+    ensures ok { IfOk result (λ end. IfSome (arrives arrival (left_by code.now state.old trapped).frames out.old.values) (λ r. answers end state.new ≡ past C.way state.old (entering_then state.old (left_by code.now state.old trapped) (change_by state.old trapped) state.old.stack r))) }
     ensures err { OnErr result (state.new ≡ state.old) }
     ensures stays { IfOk result (λ end. Stays end state.old state.new) }
 {
@@ -258,7 +259,7 @@ fn rebind<M: Memory, C: Determined>(
     requires room { state.old.steps < state.old.budget }
     requires edited { IsEdited code.now state.old trapped }
     requires there { replying code.now state.old (left_by code.now state.old trapped) (change_by state.old trapped) (clients.Rebind (classed stack) (way_of with)) ≢ Stuck }
-    ensures ok { IfOk result (λ end. answers end state.new ≡ past state.old (replying code.now state.old (left_by code.now state.old trapped) (change_by state.old trapped) (clients.Rebind (classed stack) (way_of with)))) }
+    ensures ok { IfOk result (λ end. answers end state.new ≡ past C.way state.old (replying code.now state.old (left_by code.now state.old trapped) (change_by state.old trapped) (clients.Rebind (classed stack) (way_of with)))) }
     ensures err { OnErr result (state.new ≡ state.old) }
     ensures stays { IfOk result (λ end. Stays end state.old state.new) }
 {
@@ -287,6 +288,14 @@ fn rebind<M: Memory, C: Determined>(
     }
 }
 
+/// The lines with that of an event behind them. It is refused only when out of memory; then the lines are dropped.
+fn with_event(mut lines: Lines, number: u32, event: Event) -> Result<Lines, AllocError>
+    ensures { IfOk result (λ more. more ≡ lines ++ written.Event number event ∷ []) }
+{
+    lines.push(Line::Event { number, event })?;
+    Ok(lines)
+}
+
 /// The same, where another stack is ready and goes on so, with the values in the list.
 fn rebind_to<M: Memory, C: Determined>(
     state: &mut State<M, C>,
@@ -303,31 +312,20 @@ fn rebind_to<M: Memory, C: Determined>(
     requires lands { entered_by code.now (frames_at (slice_get state.old.seats.stacks landing.stack)) (entering_of entering lists.old.room.types.members lists.old.room.values.values) ≡ found (Found.Lands landing.arrival) (frames_at (slice_get state.old.seats.stacks landing.stack)) lists.old.out.values }
     requires ready { IsReady (slice_get state.old.seats.stacks landing.stack) }
     requires there { IsSome (entered_by code.now (frames_at (slice_get state.old.seats.stacks landing.stack)) (entering_of entering lists.old.room.types.members lists.old.room.values.values)) }
-    ensures ok { IfOk result (λ end. IfSome (arrives landing.arrival (frames_at (slice_get state.old.seats.stacks landing.stack)) lists.old.out.values) (λ r. answers end state.new ≡ past state.old (entering_then state.old (left_by code.now state.old trapped) (change_by state.old trapped) landing.stack r))) }
+    ensures ok { IfOk result (λ end. IfSome (arrives landing.arrival (frames_at (slice_get state.old.seats.stacks landing.stack)) lists.old.out.values) (λ r. answers end state.new ≡ past C.way state.old (entering_then state.old (left_by code.now state.old trapped) (change_by state.old trapped) landing.stack r))) }
     ensures err { OnErr result (state.new ≡ state.old) }
     ensures stays { IfOk result (λ end. Stays end state.old state.new) }
 {
     let handing = hand_over(state.alloc, entering, &mut lists.room)?;
-    let mut lines = trapped.lines;
-    let enter = Event {
-        thread: state.thread,
-        kind: Kind::Enter {
-            stack: landing.stack,
-        },
-    };
-    lines.push(Line::Event {
-        number: state.events + 1,
-        event: enter,
-    })?;
     let Landing { stack: to, arrival } = landing;
-    let leave = Event {
-        thread: state.thread,
-        kind: Kind::Leave { stack: state.stack },
-    };
-    let seat = Seat {
-        thread: state.thread,
-        stack: state.stack,
-    };
+    let thread = state.thread;
+    let kind = Kind::Enter { stack: to };
+    let enter = Event { thread, kind };
+    let lines = with_event(trapped.lines, state.events + 1, enter)?;
+    let stack = state.stack;
+    let kind = Kind::Leave { stack };
+    let leave = Event { thread, kind };
+    let own = Seat { thread, stack };
     let waits = waits_after(
         state.alloc,
         code,
@@ -335,26 +333,19 @@ fn rebind_to<M: Memory, C: Determined>(
         trapped.edit,
         &mut trapped.wait,
     )?;
-    state.memory.reserve(state.thread, None, 2)?;
+    state.memory.reserve(thread, None, 2)?;
     state.watched.reserve(&trapped.watches)?;
     wait_and_edit(
         state.alloc,
         code,
-        seat,
+        own,
         &mut state.seats,
         &mut state.frames,
         &mut state.heap,
         trapped.edit,
         &mut trapped.wait,
     )?;
-    let passed = switch(
-        &mut state.seats,
-        seat,
-        &mut state.frames,
-        waits,
-        to,
-        handing,
-    );
+    let passed = switch(&mut state.seats, own, &mut state.frames, waits, to, handing);
     hand_back(passed, &mut lists.room);
     arrive(&mut state.frames, &mut state.heap, arrival, &mut lists.out);
     log_two(&mut state.memory, leave, enter);

@@ -21,7 +21,7 @@ use Rattle.mu_model.specs.declared.endings.Case.TheVariants as cases
 use Rattle.model_numbers.specs.Numbered.{numbered}
 use Rattle.mu_osr.specs.Pushing.{Pushes, WhyNot}
 use Rattle.mu_osr.specs.declared.pushing.PushFault.{PushFault}
-use Rattle.mu_osr.proofs.EditLaws.{pushes}
+use Rattle.mu_osr.specs.Lemmas.EditLaws.{pushes}
 use Rattle.mu_osr.specs.Faults.{case_of_fault}
 
 -- ---- a push

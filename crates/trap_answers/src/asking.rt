@@ -2,7 +2,6 @@
 ghost use Rattle.std.specs.Prelude.{◌≡◌, List, IfOk, Some, option_map, slice_get};
 ghost use Rattle.frames.specs.Activations.{Activation};
 ghost use Rattle.mu_model.specs.Configuration.{Active};
-ghost use Rattle.mu_model.specs.Answers.{answer_of};
 ghost use Rattle.client_hooks.specs.Plans.{planned};
 ghost use Rattle.seats.specs.Seats.{IsOn};
 
@@ -23,12 +22,11 @@ struct Asking<'a, C: Determined> {
 
 impl<'a, C: Determined> Asks for Asking<'a, C> {
     ghost use Rattle.std.specs.Prelude.{◌≡◌, IfOk, option_map};
-    ghost use Rattle.mu_model.specs.Answers.{answer_of};
     ghost use Rattle.client_hooks.specs.Plans.{planned};
 
     ghost takes = { λ _ _ _. Unit {0} };
 
-    ghost asked = { λ old number frames waits new after. (after ≡ frames) × IfOk new.answer (λ plan. option_map planned plan ≡ answer_of old.view.now.tables (record { thread = old.view.now.thread; watchpoint = old.view.now.watchpoint; asked = old.view.now.asked; frames = frames }) (C.stands_for old.client.now)) };
+    ghost asked = { λ old number frames waits new after. (after ≡ frames) × IfOk new.answer (λ plan. option_map planned plan ≡ C.way.answer old.view.now.tables (record { thread = old.view.now.thread; watchpoint = old.view.now.watchpoint; asked = old.view.now.asked; frames = frames }) (C.stands_for old.client.now)) };
 
     fn ask(&mut self, stack: ReadyStack) -> ReadyStack {
         match self.client.answer(self.alloc, self.view, stack) {
@@ -61,7 +59,7 @@ pub fn ask<C: Determined>(
     requires { IsOn seats.old view.now.thread stack }
     ensures same { (frames : List Activation) → slice_get seats.old.stacks stack ≡ Some (Active view.now.thread frames) → seats.new ≡ seats.old }
     ensures answer { (frames : List Activation) → slice_get seats.old.stacks stack ≡ Some (Active view.now.thread frames)
-        → IfOk result (λ plan. option_map planned plan ≡ answer_of view.now.tables (record { thread = view.now.thread; watchpoint = view.now.watchpoint; asked = view.now.asked; frames = frames }) (C.stands_for client.now)) }
+        → IfOk result (λ plan. option_map planned plan ≡ C.way.answer view.now.tables (record { thread = view.now.thread; watchpoint = view.now.watchpoint; asked = view.now.asked; frames = frames }) (C.stands_for client.now)) }
 {
     let waits = Types::from_vec(Vec::from_slice(alloc, view.asked().as_slice())?);
     let mut asking = Asking {

@@ -4,7 +4,7 @@ use Rattle.std.specs.Prelude.{slice_index}
 use Rattle.type_definitions.specs.declared.definition.TypeDef.{TypeDef}
 use Rattle.type_definitions.specs.Same.{IsGraph}
 use Rattle.type_definitions.specs.Partition.{IsLeast}
-use Rattle.type_definitions.proofs.Respect.{respected}
+use Rattle.type_definitions.specs.Lemmas.Respect.{respected}
 use Rattle.mu_types.specs.Held.{RowsHold}
 use Rattle.type_classes.specs.Listings.{Lists}
 

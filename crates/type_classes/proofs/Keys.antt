@@ -4,7 +4,7 @@ use Rattle.std.proofs.lemmas.Bool.{false≢true, and_parts}
 use Rattle.type_definitions.specs.declared.definition.TypeDef.{TypeDef}
 use Rattle.type_definitions.specs.Definition.{constructor, number, arguments}
 use Rattle.type_definitions.specs.Same.{pairs, same, IsGraph}
-use Rattle.type_definitions.proofs.Depth.{same_meets}
+use Rattle.type_definitions.specs.Lemmas.Depth.{same_meets}
 use Rattle.type_definitions.specs.Partition.{Keeps}
 use Rattle.type_classes.specs.Keys.{IsKeyed}
 

@@ -8,9 +8,9 @@ use Rattle.std.proofs.lemmas.List.Elements.{All-get_or, Contains-get_or}
 use Rattle.type_definitions.specs.declared.definition.TypeDef.{TypeDef}
 use Rattle.type_definitions.specs.Definition.{arguments}
 use Rattle.type_definitions.specs.Same.{IsGraph}
-use Rattle.type_definitions.proofs.Depth.{args_within, alike_back}
+use Rattle.type_definitions.specs.Lemmas.Depth.{args_within, alike_back}
 use Rattle.type_definitions.specs.Partition.{arg, arg_of, Keeps}
-use Rattle.type_definitions.proofs.Partition.{same_arg}
+use Rattle.type_definitions.specs.Lemmas.Partition.{same_arg}
 use Rattle.type_classes.specs.declared.edges.Edge.{Edge}
 use Rattle.type_classes.specs.Edges.{edge_of}
 use Rattle.mu_types.specs.Rows.{Holds, added}

@@ -8,7 +8,7 @@ use Rattle.type_definitions.specs.declared.definition.TypeDef.{TypeDef}
 use Rattle.type_definitions.specs.Parts.{parts}
 use Rattle.type_definitions.specs.Leaves.{leaves_to, leaves_at}
 use Rattle.type_definitions.specs.Counts.{count_by}
-use Rattle.type_definitions.proofs.Counts.{counted, capped_count}
+use Rattle.type_definitions.specs.Lemmas.Counts.{counted, capped_count}
 use Rattle.type_classes.specs.Levels.{Counts}
 
 pub deeper_is : (g : List TypeDef) (k cap : ℕ) (counts next : List ℕ) → length next ≡ length g

@@ -12,8 +12,8 @@ use Rattle.type_definitions.specs.Same.{IsGraph}
 use Rattle.type_definitions.specs.Class.{class_of}
 use Rattle.type_definitions.specs.Parts.{parts}
 use Rattle.type_definitions.specs.Leaves.{leaves_to, leaves_by, leaves_at, times}
-use Rattle.type_definitions.proofs.Depth.{args_within}
-use Rattle.type_definitions.proofs.Respect.{map_times, front_all}
+use Rattle.type_definitions.specs.Lemmas.Depth.{args_within}
+use Rattle.type_definitions.specs.Lemmas.Respect.{map_times, front_all}
 use Rattle.mu_types.specs.Rows.{lists}
 use Rattle.type_classes.proofs.RowLemmas.{length-lists}
 use Rattle.type_classes.specs.Listings.{row_by, IsIdentity, Lists}

@@ -12,15 +12,15 @@ use Rattle.type_definitions.specs.Class.{class_of}
 use Rattle.type_definitions.specs.Parts.{parts, parts_at}
 use Rattle.type_definitions.specs.Leaves.{leaves, leaves_by, leaves_at}
 use Rattle.type_definitions.specs.Ranks.{AreRanked}
-use Rattle.type_definitions.proofs.Ranks.{leaves_level, none_there}
+use Rattle.type_definitions.specs.Lemmas.Ranks.{leaves_level, none_there}
 use Rattle.type_definitions.specs.Counts.{count_by}
-use Rattle.type_definitions.proofs.Counts.{counted, capped_count}
+use Rattle.type_definitions.specs.Lemmas.Counts.{counted, capped_count}
 use Rattle.type_classes.specs.Listings.{row_by, RowsDone, DoneTo}
 use Rattle.type_classes.specs.Walks.{is_marked}
 use Rattle.mu_types.specs.Held.{RowsHold}
 use Rattle.type_definitions.specs.Partition.{IsLeast}
-use Rattle.type_definitions.proofs.Respect.{respected}
-use Rattle.type_definitions.proofs.Classes.{class_is}
+use Rattle.type_definitions.specs.Lemmas.Respect.{respected}
+use Rattle.type_definitions.specs.Lemmas.Classes.{class_is}
 use Rattle.type_classes.proofs.Listings.{parts_within, mapped}
 use Rattle.type_classes.specs.Ordered.{IsOrder, Found}
 

@@ -4,7 +4,7 @@ use Rattle.std.proofs.Common.{sym, ◌∙◌, subst, arith, inl, inr}
 use Rattle.std.proofs.lemmas.Bool.{false≢true, eq-eqb, eqb-true, cases_lt}
 use Rattle.type_definitions.specs.declared.definition.TypeDef.{TypeDef}
 use Rattle.type_definitions.specs.Same.{alike, agree_at, IsGraph}
-use Rattle.type_definitions.proofs.Depth.{meets, from_meets, meets_more, alike_same, alike_back, alike_over}
+use Rattle.type_definitions.specs.Lemmas.Depth.{meets, from_meets, meets_more, alike_same, alike_back, alike_over}
 use Rattle.type_definitions.specs.Partition.{alike_by}
 use Rattle.type_classes.specs.Rounds.{IsLeastTo, IsFirstTo}
 

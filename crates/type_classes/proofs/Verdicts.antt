@@ -11,7 +11,7 @@ use Rattle.std.proofs.Common.{get_or, subst, sym}
 use Rattle.std.specs.Prelude.{slice_index}
 use Rattle.type_definitions.specs.Parts.{parts, parts_at, contains_itself}
 use Rattle.type_definitions.specs.Ranks.{Descends}
-use Rattle.type_definitions.proofs.Ranks.{free_is_finite}
+use Rattle.type_definitions.specs.Lemmas.Ranks.{free_is_finite}
 use Rattle.type_classes.proofs.Firsts.{there}
 use Rattle.type_definitions.specs.Leaves.{leaves}
 use Rattle.mu_types.specs.declared.limits.TheConstants.{MOST_LEAVES}

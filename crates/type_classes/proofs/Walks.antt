@@ -5,7 +5,7 @@ use Rattle.std.proofs.lemmas.Option.{slice_get_cases}
 use Rattle.std.proofs.lemmas.List.{get_or_past}
 use Rattle.type_definitions.specs.declared.definition.TypeDef.{TypeDef}
 use Rattle.type_definitions.specs.Parts.{parts, parts_at, leads, contains_itself}
-use Rattle.type_definitions.proofs.Walks.{any_more, cut}
+use Rattle.type_definitions.specs.Lemmas.Walks.{any_more, cut}
 use Rattle.std.proofs.lemmas.Bool.{eqb-true}
 use Rattle.type_classes.specs.Walks.{is_marked, Marks}
 

@@ -29,7 +29,7 @@ fn capped_sum_of(a: usize, b: usize) -> usize
     if b > CAP - a { CAP } else { a + b }
 }
 
-#[tactic(auto, using(type_definitions::proofs::Counts::capped_both))]
+#[tactic(auto, using(type_definitions::specs::Lemmas::Counts::capped_both))]
 fn capped_product_of(n: u128, count: usize) -> usize
     ensures { result ≡ min CAP (n * count) }
 {

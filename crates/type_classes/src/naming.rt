@@ -44,7 +44,7 @@ fn name_by_least(alloc: Global, block: &[usize], blocks: usize) -> Result<Vec<us
 }
 
 /// The classes by a partition that keeps the same types together, however it was found.
-#[tactic(auto, using(type_definitions::proofs::Partition::least_from))]
+#[tactic(auto, using(type_definitions::specs::Lemmas::Partition::least_from))]
 pub fn classes_by(
     alloc: Global,
     definitions: &[TypeDef],

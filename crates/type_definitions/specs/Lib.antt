@@ -9,3 +9,4 @@ pub mod Scalars
 pub mod Laws
 pub mod Counts
 pub mod Examples
+pub mod Lemmas

@@ -12,7 +12,7 @@ use Rattle.mu_values.specs.declared.scalars.Scalar.TheVariants.{Null}
 use Rattle.typed_heap.specs.declared.objects.Initial.{Initial}
 use Rattle.typed_heap.specs.declared.objects.Initial.TheVariants as initials
 use Rattle.typed_heap.specs.Rows.{initial_of, IsKnown, AreApart, AreOwn, first_by, firsts}
-use Rattle.typed_heap.proofs.Firsts.{known_more}
+use Rattle.typed_heap.specs.Lemmas.Firsts.{known_more}
 
 -- ---- cells that are added or taken away
 

@@ -1,11 +1,3 @@
-pub mod Rows
-pub mod Firsts
 pub mod Apart
-pub mod Filled
 pub mod Rowed
-pub mod Runs
-pub mod LeafClasses
-pub mod Found
-pub mod Fitted
-pub mod Landing
 pub mod Repeating

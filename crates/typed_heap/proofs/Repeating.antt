@@ -8,7 +8,7 @@ use Rattle.std.proofs.Math.Nat.{mod-lt, mod-eq_of_lt, mod-eq-sub-mod, mod-add-di
 use Rattle.type_definitions.specs.Leaves.{times}
 use Rattle.typed_heap.specs.Fits.{begins, are_runs}
 use Rattle.typed_heap.specs.Repeating.{Repeats, Enough}
-use Rattle.typed_heap.proofs.Runs.{AreRuns, runs_decide, whole_long, times_at, times_length, begun}
+use Rattle.typed_heap.specs.Lemmas.Runs.{AreRuns, runs_decide, whole_long, times_at, times_length, begun}
 
 -- the first leaves that are looked at are enough, and one run at least
 pub record Looks (found : List ℕ) (many fixed step known : ℕ) : Type 0 where

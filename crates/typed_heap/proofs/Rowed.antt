@@ -12,10 +12,10 @@ use Rattle.typed_heap.specs.declared.objects.Initial.{Initial}
 use Rattle.typed_heap.specs.declared.objects.Extent.{Extent}
 use Rattle.typed_heap.specs.Rows.{initial_of, shown, objects_in, firsts, first_by, IsCut, IsKnown, AreOwn, IsRowed, begin, end}
 use Rattle.typed_heap.specs.Repeating.{Repeats, AllRepeat}
-use Rattle.typed_heap.proofs.Rows.{within, range_kept, range_last, pushed, cut_pushed, front, cut_of_front}
-use Rattle.typed_heap.proofs.Firsts.{zeros_shown, firsts_known}
+use Rattle.typed_heap.specs.Lemmas.Rows.{within, range_kept, range_last, pushed, cut_pushed, front, cut_of_front}
+use Rattle.typed_heap.specs.Lemmas.Firsts.{zeros_shown, firsts_known}
 use Rattle.typed_heap.proofs.Apart.{apart_pushed, apart_front}
-use Rattle.typed_heap.proofs.Filled.{object_filled}
+use Rattle.typed_heap.specs.Lemmas.Filled.{object_filled}
 
 -- ---- leaves that repeat
 

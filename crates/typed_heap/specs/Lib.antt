@@ -8,3 +8,4 @@ pub mod Laws
 pub mod Repeating
 pub mod FitsExamples
 pub mod PlacesExamples
+pub mod Lemmas

@@ -55,7 +55,7 @@ fn later(rhythm: Rhythm, n: usize) -> Rhythm
     }
 }
 
-#[tactic(auto, using(crate::proofs::Runs::begins_is))]
+#[tactic(auto, using(crate::specs::Lemmas::Runs::begins_is))]
 fn begins(wanted: &[u32], found: &[u32]) -> bool
     ensures begins { result ≡ begins wanted.now found.now }
     ensures few { IsTrue result → length wanted.now ≤ length found.now }

@@ -1,5 +1,5 @@
 -- Lemmas of wakes, over the parts of a state.
-use Rattle.std.proofs.Common.{◌≡◌, ◌≢◌, ℕ, suc, ◌+◌, Bool, true, false, List, [], ◌∷◌, ◌++◌, Option, Some, None, IsSome, IsSomeAnd, Result, Ok, Err, OnOk, OnErr, length, slice_get, slice_set, refl, sym, ◌∙◌, ap, subst, arith, add-one}
+use Rattle.std.proofs.Common.{◌≡◌, ◌≢◌, ℕ, suc, ◌+◌, Bool, true, false, List, [], ◌∷◌, ◌++◌, Option, Some, None, IsSome, IsSomeAnd, Result, Ok, Err, OnOk, length, slice_get, slice_set, refl, sym, ◌∙◌, ap, subst, arith, add-one}
 use Rattle.std.proofs.lemmas.List.{append-nil, append_assoc}
 use Rattle.std.proofs.lemmas.Option.{same_Some}
 use Rattle.ir_tree.specs.declared.items.Item.{Item}
@@ -9,7 +9,7 @@ use Rattle.mu_values.specs.declared.cells.CellId.{CellId}
 use Rattle.typed_heap.specs.declared.faults.PlaceFault.{PlaceFault}
 use Rattle.typed_heap.specs.Places.{with_some, cell_of}
 use Rattle.frames.specs.Activations.{Value, Activation}
-use Rattle.frames.specs.Chains.{Chain, StoredChain, frames_of, chain_of, stands}
+use Rattle.frames.specs.Chains.{Chain, frames_of, stands}
 use Rattle.mem_axioms.specs.declared.types.Rule.{Rule}
 use Rattle.mem_axioms.specs.declared.types.Event.{Event}
 use Rattle.mem_axioms.specs.EventFits.{is_thread, wakes_at, EventFits}
@@ -34,9 +34,6 @@ use Rattle.wake_acts.specs.Waking.{frames_at, behind, stood, with_vars, vars_of,
 use Rattle.wake_acts.specs.WakeLaws.{IsSeated, seated_from, seated_at, goes_at, go_last, woken_threads, next_wakes, logs_same, logs_many, all_go_many, all_threads, waking_at, woken_of, woke, Wakes, wakes, wake_cell_there, wake_is}
 
 -- ---- where a thread goes on that is woken
-
-on_seat : (s : Seats) (i k : ℕ) (seat : Thread) → IsOn s i k → slice_get s.threads i ≡ Some (Some seat) → seat.stack ≡ k
-on_seat s i k seat h e = subst (λ (o : Option (Option Thread)). IsSomeAnd (with_some o (λ t. t)) (λ (t : Thread). t.stack ≡ k)) e h
 
 frames_same : (ss : List Stack) (k i : ℕ) (fs gs : List Activation) → slice_get ss k ≡ Some (Active i fs) → slice_get ss k ≡ Some (Active i gs) → fs ≡ gs
 frames_same ss k i fs gs a b = let same : Active i fs ≡ Active i gs = cc in cc
@@ -115,16 +112,6 @@ some_frames : (o : Option (ℕ × List Activation)) (k : ℕ) (P : ℕ × List A
 some_frames None k P h = absurd h
 some_frames (Some (m, fs)) k P (same, h) = (fs, ap (λ m. Some (m, fs)) same, subst (λ m. P (m, fs)) same h)
 
-pub on_same : (s mid : Seats) (i k : ℕ) (ss : List Stack) → IsOn s i k → mid ≡ record s { stacks = ss } → IsOn mid i k
-on_same s mid i k ss h e = subst (λ (x : Seats). IsOn x i k) (sym e) h
-
-pub on_still : (s mid : Seats) (i k : ℕ) (g : ℕ × List Activation → List Stack) → IsOn s i k → IsSomeAnd (frames_at s.threads s.stacks i) (λ at. mid ≡ record s { stacks = g at }) → IsOn mid i k
-on_still s mid i k g h went = by (frames_at s.threads s.stacks i) went
-  where
-    by : (o : Option (ℕ × List Activation)) → IsSomeAnd o (λ at. mid ≡ record s { stacks = g at }) → IsOn mid i k
-    by None went = absurd went
-    by (Some at) went = on_same s mid i k (g at) h went
-
 vars_back : (fs : List Activation) (vs ws : List Value) → ws ≡ vars_of fs → with_vars ws (with_vars vs fs) ≡ fs
 vars_back [] vs ws e = refl
 vars_back (f ∷ fs) vs ws e = ap (λ vs. record f { vars = vs } ∷ fs) e
@@ -171,14 +158,6 @@ pub none_go : {A E : Type 0} (bundle : List Item) (s : Seats) (is : List ℕ) (r
 unfolding all_go
 none_go bundle s is (Ok a) e = subst (λ is. IsSomeAnd (all_go bundle s.threads is s.stacks) (λ ss. s ≡ record s { stacks = ss })) (sym e) refl
 none_go bundle s is (Err x) e = tt
-
-pub none_changes : {A E B : Type 0} (r : Result A E) (x : B) → OnErr r (x ≡ x)
-none_changes (Ok a) x = tt
-none_changes (Err e) x = refl
-
-pub none_moves : {A E : Type 0} (r : Result A E) (x y : StoredChain) → OnErr r (x ≡ y) → OnErr r (chain_of x ≡ chain_of y)
-none_moves (Ok a) x y h = tt
-none_moves (Err e) x y h = ap chain_of h
 
 pub first_goes : (bundle : List Item) (s : Seats) (is js : List ℕ) (i : ℕ) → is ≡ i ∷ js → IsSome (all_go bundle s.threads is s.stacks) → IsSome (goes_behind bundle s.threads i s.stacks)
 unfolding all_go
@@ -248,16 +227,6 @@ module _ (bundle : List Item) (s mid : Seats) (is js : List ℕ) (i k block at :
 
   last_is : (last : Seats) → IsSomeAnd (all_go bundle mid.threads js mid.stacks) (λ ss. last ≡ record mid { stacks = ss }) → last ≡ record s { stacks = first.rest }
   last_is last there = rested bundle mid last js first.rest go_mid there ∙ ap (λ (x : Seats). record x { stacks = first.rest }) mid_is
-
-  on_seated : (x : Seats) (ss : List Stack) (fs : List Activation) → x ≡ record s { stacks = ss } → IsOn x i k
-  on_seated x ss fs same =
-      subst (λ (x : Seats). IsOn x i k) (sym same) (subst (λ (o : Option (Option Thread)). IsSomeAnd (with_some o (λ t. t)) (λ (t : Thread). t.stack ≡ k)) (sym first.seated.there) first.seated.on)
-
-  pub on_later : (last : Seats) → IsSomeAnd (all_go bundle mid.threads js mid.stacks) (λ ss. last ≡ record mid { stacks = ss }) → IsOn last i k
-  on_later last there = on_seated last first.rest first.frames (last_is last there)
-
-  pub on_mid : (last : Seats) → last ≡ mid → IsOn last i k
-  on_mid last same = on_seated last left first.frames (same ∙ mid_is)
 
   pub all_gone : (last after : Seats) → IsSomeAnd (all_go bundle mid.threads js mid.stacks) (λ ss. last ≡ record mid { stacks = ss })
       → IsSomeAnd (frames_at last.threads last.stacks i) (λ here. after ≡ record last { stacks = slice_set last.stacks k (Active i (stood block at (finished taken vs) here.1)) })

@@ -108,7 +108,8 @@ fn take(
     }
 }
 
-/// Where the top frame of a thread that is woken stands after its wait, with what its variables become, which are copied.
+/// Where the top frame of a thread that is woken stands after its wait, with what its variables become, which are copied. It is refused when
+/// out of memory, and where no number tells the next place.
 fn after_wait(
     alloc: Global,
     code: &Checked,

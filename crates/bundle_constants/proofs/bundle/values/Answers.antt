@@ -8,7 +8,7 @@ use Rattle.checked_code.specs.declared.constants.Constant.{Constant}
 use Rattle.checked_code.specs.ConstantValues.{told}
 use Rattle.checked_code.specs.Constants.{constant_values}
 use Rattle.checked_code.specs.ConstantMembers.{Lawful}
-use Rattle.checked_code.proofs.ConstantsAnswered.{AreHeld, lawful_held, values_held, if_ok}
+use Rattle.checked_code.specs.Lemmas.ConstantsAnswered.{AreHeld, lawful_held, values_held, if_ok}
 use Rattle.bundle_constants.proofs.bundle.values.Goals as goal
 
 pub make_all-requires-clause-lawful : goal.make_all-requires-clause-lawful

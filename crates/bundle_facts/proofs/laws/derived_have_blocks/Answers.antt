@@ -1,4 +1,4 @@
-use Rattle.bundle_facts.proofs.Derived as facts
+use Rattle.bundle_facts.specs.Lemmas.Derived as facts
 use Rattle.bundle_facts.proofs.laws.derived_have_blocks.Goals as goal
 
 pub returns : goal.returns

@@ -1,4 +1,4 @@
-use Rattle.bundle_facts.proofs.Accepted as facts
+use Rattle.bundle_facts.specs.Lemmas.Accepted as facts
 use Rattle.bundle_facts.proofs.laws.function_values_fit.Goals as goal
 
 pub returns : goal.returns

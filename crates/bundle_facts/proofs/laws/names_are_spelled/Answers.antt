@@ -1,4 +1,4 @@
-use Rattle.bundle_facts.proofs.Spelled.{names_spelled}
+use Rattle.bundle_facts.specs.Lemmas.Spelled.{names_spelled}
 use Rattle.bundle_facts.proofs.laws.names_are_spelled.Goals as goal
 
 pub returns : goal.returns

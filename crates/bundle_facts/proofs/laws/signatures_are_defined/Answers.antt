@@ -1,4 +1,4 @@
-use Rattle.bundle_facts.proofs.Accepted as facts
+use Rattle.bundle_facts.specs.Lemmas.Accepted as facts
 use Rattle.bundle_facts.proofs.laws.signatures_are_defined.Goals as goal
 
 pub returns : goal.returns

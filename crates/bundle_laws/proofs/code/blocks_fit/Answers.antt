@@ -1,4 +1,4 @@
-use Rattle.bundle_laws.proofs.TypedEndings.{block_fits}
+use Rattle.bundle_laws.specs.Lemmas.TypedEndings.{block_fits}
 use Rattle.bundle_laws.proofs.code.blocks_fit.Goals as goal
 
 pub returns : goal.returns

@@ -1,4 +1,4 @@
-use Rattle.bundle_laws.proofs.TypedVariables.{bound_fits}
+use Rattle.bundle_laws.specs.Lemmas.TypedVariables.{bound_fits}
 use Rattle.bundle_laws.proofs.code.bound_fits.Goals as goal
 
 pub returns : goal.returns

@@ -1,4 +1,4 @@
-use Rattle.bundle_laws.proofs.TypedOperands.{exceptional_fits, normal_fits}
+use Rattle.bundle_laws.specs.Lemmas.TypedOperands.{exceptional_fits, normal_fits}
 use Rattle.bundle_laws.proofs.code.destinations_fit.Goals as goal
 
 pub returns : goal.returns

@@ -1,4 +1,4 @@
-use Rattle.bundle_laws.proofs.TypedInstructions.{op_fits}
+use Rattle.bundle_laws.specs.Lemmas.TypedInstructions.{op_fits}
 use Rattle.bundle_laws.proofs.code.forms_fit.Goals as goal
 
 pub returns : goal.returns

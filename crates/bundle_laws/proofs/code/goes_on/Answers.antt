@@ -1,4 +1,4 @@
-use Rattle.bundle_laws.proofs.TypedEndings.{goes_on}
+use Rattle.bundle_laws.specs.Lemmas.TypedEndings.{goes_on}
 use Rattle.bundle_laws.proofs.code.goes_on.Goals as goal
 
 pub returns : goal.returns

@@ -1,4 +1,4 @@
-use Rattle.bundle_laws.proofs.TypedInstructions.{inst_fits}
+use Rattle.bundle_laws.specs.Lemmas.TypedInstructions.{inst_fits}
 use Rattle.bundle_laws.proofs.code.instructions_fit.Goals as goal
 
 pub returns : goal.returns

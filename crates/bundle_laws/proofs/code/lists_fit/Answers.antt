@@ -1,4 +1,4 @@
-use Rattle.bundle_laws.proofs.TypedInstructions.{insts_fit, all_fit, all_classes}
+use Rattle.bundle_laws.specs.Lemmas.TypedInstructions.{insts_fit, all_fit, all_classes}
 use Rattle.bundle_laws.proofs.code.lists_fit.Goals as goal
 
 pub returns : goal.returns

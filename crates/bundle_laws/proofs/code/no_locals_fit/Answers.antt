@@ -1,4 +1,4 @@
-use Rattle.bundle_laws.proofs.TypedVariables.{no_locals_fit}
+use Rattle.bundle_laws.specs.Lemmas.TypedVariables.{no_locals_fit}
 use Rattle.bundle_laws.proofs.code.no_locals_fit.Goals as goal
 
 pub returns : goal.returns

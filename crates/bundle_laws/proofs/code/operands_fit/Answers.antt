@@ -1,4 +1,4 @@
-use Rattle.bundle_laws.proofs.TypedOperands.{operand_fits}
+use Rattle.bundle_laws.specs.Lemmas.TypedOperands.{operand_fits}
 use Rattle.bundle_laws.proofs.code.operands_fit.Goals as goal
 
 pub returns : goal.returns

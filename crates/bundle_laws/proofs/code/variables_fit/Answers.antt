@@ -1,4 +1,4 @@
-use Rattle.bundle_laws.proofs.TypedInstructions.{after_fits, after_classes}
+use Rattle.bundle_laws.specs.Lemmas.TypedInstructions.{after_fits, after_classes}
 use Rattle.bundle_laws.proofs.code.variables_fit.Goals as goal
 
 pub returns : goal.returns

@@ -1,4 +1,4 @@
-use Rattle.bundle_laws.proofs.Lifting.{bundle_fits}
+use Rattle.bundle_laws.specs.Lemmas.Lifting.{bundle_fits}
 use Rattle.bundle_laws.proofs.laws.accepted_blocks_fit.Goals as goal
 
 pub returns : goal.returns

@@ -1,4 +1,4 @@
-use Rattle.bundle_laws.proofs.Numbered.{code_fits}
+use Rattle.bundle_laws.specs.Lemmas.Numbered.{code_fits}
 use Rattle.bundle_laws.proofs.laws.accepted_code_fits.Goals as goal
 
 pub returns : goal.returns

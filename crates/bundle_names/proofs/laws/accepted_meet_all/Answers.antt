@@ -1,4 +1,4 @@
-use Rattle.demands.proofs.Meeting.{all_met}
+use Rattle.demands.specs.Lemmas.Meeting.{all_met}
 use Rattle.bundle_names.specs.Naming.{name_demands}
 use Rattle.bundle_names.proofs.laws.accepted_meet_all.Goals as goal
 

@@ -1,4 +1,4 @@
-use Rattle.demands.proofs.Meeting.{first_of_list}
+use Rattle.demands.specs.Lemmas.Meeting.{first_of_list}
 use Rattle.bundle_names.specs.Naming.{name_demands}
 use Rattle.bundle_names.proofs.laws.fault_is_of_one_list.Goals as goal
 

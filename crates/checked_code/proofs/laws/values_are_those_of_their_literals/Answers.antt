@@ -2,8 +2,8 @@ use Rattle.std.proofs.Common.{refl}
 use Rattle.bundle_names.specs.Globals.{globals_of}
 use Rattle.checked_code.specs.Entries.{tables_of}
 use Rattle.checked_code.specs.Constants.{constants_of}
-use Rattle.checked_code.proofs.ConstantMembers.{settled}
-use Rattle.checked_code.proofs.ConstantsAccepted.{accepted}
+use Rattle.checked_code.specs.Lemmas.ConstantMembers.{settled}
+use Rattle.checked_code.specs.Lemmas.ConstantsAccepted.{accepted}
 use Rattle.checked_code.proofs.laws.values_are_those_of_their_literals.Goals as goal
 
 pub returns : goal.returns

@@ -2,8 +2,8 @@ use Rattle.std.proofs.Common.{refl}
 use Rattle.bundle_names.specs.Globals.{globals_of}
 use Rattle.checked_code.specs.Entries.{tables_of}
 use Rattle.checked_code.specs.Constants.{constants_of}
-use Rattle.checked_code.proofs.ConstantsAccepted.{accepted}
-use Rattle.checked_code.proofs.ConstantsFitting.{all_fit}
+use Rattle.checked_code.specs.Lemmas.ConstantsAccepted.{accepted}
+use Rattle.checked_code.specs.Lemmas.ConstantsFitting.{all_fit}
 use Rattle.checked_code.proofs.laws.values_fit_their_types.Goals as goal
 
 pub returns : goal.returns

@@ -1,4 +1,4 @@
-use Rattle.client_hooks.proofs.GoingOn.{goes_on}
+use Rattle.client_hooks.specs.Lemmas.GoingOn.{goes_on}
 use Rattle.client_hooks.proofs.laws.hooks_go_on.Goals as goal
 
 pub returns : goal.returns

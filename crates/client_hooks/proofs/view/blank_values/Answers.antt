@@ -1,4 +1,4 @@
-use Rattle.typed_heap.proofs.LeafClasses.{classes_within}
+use Rattle.typed_heap.specs.Lemmas.LeafClasses.{classes_within}
 use Rattle.client_hooks.proofs.view.blank_values.Goals as goal
 
 pub zeros-requires-clause-leaves : goal.zeros-requires-clause-leaves

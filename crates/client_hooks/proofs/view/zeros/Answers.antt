@@ -1,4 +1,4 @@
-use Rattle.typed_heap.proofs.Firsts.{narrow_at}
+use Rattle.typed_heap.specs.Lemmas.Firsts.{narrow_at}
 use Rattle.client_hooks.proofs.view.zeros.Goals as goal
 
 pub zero-requires : goal.zero-requires

@@ -1,7 +1,7 @@
 use Rattle.std.proofs.Common.{sym}
 use Rattle.std.proofs.lemmas.Result.{err_from_is_err_and}
 use Rattle.text_forms.specs.Reading.{read}
-use Rattle.text_forms.proofs.Lists.{shorter}
+use Rattle.text_forms.specs.Lemmas.Lists.{shorter}
 use Rattle.client_script.specs.Grammar.{action, inside}
 use Rattle.client_script.proofs.Elements.{action_plain}
 use Rattle.client_script.proofs.InsideLoops.{begins_so_far, goes_on, fails_with, ending_fails, is_done}

@@ -4,7 +4,7 @@ use Rattle.text_forms.specs.declared.symbol.Symbol.TheVariants as symbols
 use Rattle.text_forms.specs.Tokens.{at, first, last_symbols}
 use Rattle.demands.specs.Demands.{first_unmet}
 use Rattle.ir_lex.specs.Walk.{tokens_from}
-use Rattle.ir_lex.proofs.Cursors.{texts_end}
+use Rattle.ir_lex.specs.Lemmas.Cursors.{texts_end}
 use Rattle.client_script.specs.Demands.{token_demand, token_demands}
 use Rattle.client_script.specs.Judged.{is_before, judged_tokens}
 use Rattle.client_script.proofs.TokenJudging.{goes_on_here, text_behind, met_more, none_behind, none_at_last, rest_shorter, symbol_is, refused_here}

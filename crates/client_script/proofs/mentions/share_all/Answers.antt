@@ -1,6 +1,6 @@
 use Rattle.std.proofs.Common.{◌≡◌, false, sym, ◌∙◌}
 use Rattle.text_forms.specs.Tokens.{at, last_symbols}
-use Rattle.ir_lex.proofs.Cursors.{texts_end}
+use Rattle.ir_lex.specs.Lemmas.Cursors.{texts_end}
 use Rattle.client_script.proofs.TokenJudging.{goes_on_here, text_behind, rest_shorter}
 use Rattle.client_script.proofs.mentions.share_all.Goals as goal
 

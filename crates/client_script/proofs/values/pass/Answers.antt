@@ -3,7 +3,7 @@ use Rattle.frames.specs.Chains.{frames_in}
 use Rattle.mu_model.specs.Answers.{argument_value}
 use Rattle.client_hooks.specs.Replies.{classed}
 use Rattle.client_script.specs.Meaning.{argument_meant}
-use Rattle.client_script.proofs.Partial.{begun, goes_on, is_done}
+use Rattle.client_script.specs.Lemmas.Partial.{begun, goes_on, is_done}
 use Rattle.client_script.proofs.values.pass.Goals as goal
 
 pub loop-given-init : goal.loop-given-init

@@ -2,7 +2,7 @@ use Rattle.std.proofs.Common.{drop}
 use Rattle.frames.specs.Chains.{frames_in}
 use Rattle.mu_model.specs.Answers.{argument_value}
 use Rattle.client_script.specs.Meaning.{argument_meant}
-use Rattle.client_script.proofs.Partial.{Progress}
+use Rattle.client_script.specs.Lemmas.Partial.{Progress}
 use Rattle.client_script.proofs.values.pass.Given as goal
 
 abbrev pub invariant-loop-given : goal.invariant-loop-given

@@ -4,7 +4,7 @@ use Rattle.conditions.specs.declared.before.Before.TheVariants as places
 use Rattle.text_forms.specs.Tokens.{at, first, last_symbols}
 use Rattle.demands.specs.Demands.{first_unmet}
 use Rattle.ir_lex.specs.Walk.{tokens_from}
-use Rattle.ir_lex.proofs.Cursors.{texts_end}
+use Rattle.ir_lex.specs.Lemmas.Cursors.{texts_end}
 use Rattle.conditions.specs.Demands.{token_demand, token_demands}
 use Rattle.conditions.specs.Judged.{is_before, judged_tokens}
 use Rattle.conditions.proofs.TokenJudging.{goes_on_here, text_behind, met_more, none_behind, none_at_last, rest_shorter, refused_here}

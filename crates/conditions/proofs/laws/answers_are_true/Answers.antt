@@ -1,4 +1,4 @@
-use Rattle.conditions.proofs.Truth as truth
+use Rattle.conditions.specs.Lemmas.Truth as truth
 use Rattle.conditions.proofs.laws.answers_are_true.Goals as goal
 
 pub returns : goal.returns

@@ -1,4 +1,4 @@
-use Rattle.conditions.proofs.Truth as truth
+use Rattle.conditions.specs.Lemmas.Truth as truth
 use Rattle.conditions.proofs.laws.deciding_outcomes_are_first.Goals as goal
 
 pub returns : goal.returns

@@ -3,8 +3,8 @@ use Rattle.std.proofs.lemmas.Result.{err_from_is_err_and}
 use Rattle.text_forms.specs.declared.symbol.Symbol.TheVariants as symbols
 use Rattle.text_forms.specs.Forms.{until}
 use Rattle.text_forms.specs.Reading.{read}
-use Rattle.text_forms.proofs.Lists.{shorter}
-use Rattle.text_forms.proofs.Loops.{goes_on, is_done, fails_with}
+use Rattle.text_forms.specs.Lemmas.Lists.{shorter}
+use Rattle.text_forms.specs.Lemmas.Loops.{goes_on, is_done, fails_with}
 use Rattle.conditions.specs.Grammar.{atom}
 use Rattle.conditions.proofs.Elements.{atom_plain}
 use Rattle.conditions.proofs.parts.atoms.Goals as goal

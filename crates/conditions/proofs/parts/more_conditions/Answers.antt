@@ -4,8 +4,8 @@ use Rattle.text_forms.specs.declared.symbol.Symbol.TheVariants as symbols
 use Rattle.text_forms.specs.Forms.{until}
 use Rattle.text_forms.specs.Reading.{read}
 use Rattle.text_forms.specs.Answers.{with_front}
-use Rattle.text_forms.proofs.Lists.{shorter}
-use Rattle.text_forms.proofs.Loops.{goes_on, is_done, fails_whole}
+use Rattle.text_forms.specs.Lemmas.Lists.{shorter}
+use Rattle.text_forms.specs.Lemmas.Loops.{goes_on, is_done, fails_whole}
 use Rattle.conditions.specs.Grammar.{condition}
 use Rattle.conditions.proofs.Elements.{condition_plain}
 use Rattle.conditions.proofs.parts.more_conditions.Goals as goal

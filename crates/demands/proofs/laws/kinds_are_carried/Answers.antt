@@ -1,4 +1,4 @@
-use Rattle.demands.proofs.Meeting.{carried}
+use Rattle.demands.specs.Lemmas.Meeting.{carried}
 use Rattle.demands.proofs.laws.kinds_are_carried.Goals as goal
 
 pub returns : goal.returns

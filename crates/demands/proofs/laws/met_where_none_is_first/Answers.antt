@@ -1,4 +1,4 @@
-use Rattle.demands.proofs.Meeting.{all_met}
+use Rattle.demands.specs.Lemmas.Meeting.{all_met}
 use Rattle.demands.proofs.laws.met_where_none_is_first.Goals as goal
 
 pub returns : goal.returns

@@ -1,7 +1,7 @@
 use Rattle.std.proofs.lemmas.Result.{err_from_is_err_and}
 use Rattle.mu_texts.specs.declared.what.What.TheVariants.{Client}
 use Rattle.mu_texts.specs.Answer.{client_part}
-use Rattle.mu_command.proofs.Files.{not_loaded}
+use Rattle.mu_command.specs.Lemmas.Files.{not_loaded}
 use Rattle.explore.proofs.Files.{given_no_more, was_given}
 use Rattle.explore.proofs.finding.find_client.Goals as goal
 

@@ -1,7 +1,7 @@
 use Rattle.std.proofs.lemmas.Result.{err_from_is_err_and}
 use Rattle.mu_texts.specs.declared.what.What.TheVariants.{Hail}
 use Rattle.mu_texts.specs.Answer.{loaded}
-use Rattle.mu_command.proofs.Files.{not_loaded}
+use Rattle.mu_command.specs.Lemmas.Files.{not_loaded}
 use Rattle.explore.proofs.Files.{filled_no_more, was_filled_by}
 use Rattle.explore.proofs.finding.find_hail.Goals as goal
 

@@ -2,7 +2,7 @@ use Rattle.std.proofs.Common.{◌≡◌, ℕ, List, Ok, refl, subst, arith}
 use Rattle.std.proofs.lemmas.Result.{err_from_is_err_and}
 use Rattle.mu_texts.specs.declared.what.What.TheVariants.{Hail, Client}
 use Rattle.mu_texts.specs.Answer.{Part, entered}
-use Rattle.mu_command.proofs.Beginnings.{earlier, later, not_filled, not_scripted}
+use Rattle.mu_command.specs.Lemmas.Beginnings.{earlier, later, not_filled, not_scripted}
 use Rattle.explore.proofs.Files.{entry_stops, hail_of, is_ready, player_begins}
 use Rattle.explore.proofs.finding.find_player.Goals as goal
 

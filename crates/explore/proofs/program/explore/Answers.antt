@@ -1,4 +1,4 @@
-use Rattle.explore.proofs.Causes.{refused_cause, read_fault_cause, too_long_cause, accepted_cause, usage_only, usage_is, complete}
+use Rattle.explore.proofs.Causes.{refused_cause, read_fault_cause, too_long_cause, accepted_cause, no_other, usage_only, usage_is, complete}
 use Rattle.explore.proofs.program.explore.Goals as goal
 
 pub returns-clause-usage : goal.returns-clause-usage
@@ -18,6 +18,9 @@ returns-clause-refused g c = λ s. refused_cause _ _ _ _ _ _ _ c.answer.ensures.
 
 pub returns-clause-accepted : goal.returns-clause-accepted
 returns-clause-accepted g c = λ s. accepted_cause _ _ _ _ _ _ _ c.answer.ensures.explored s
+
+pub returns-clause-no_other : goal.returns-clause-no_other
+returns-clause-no_other g c = λ whole u f l r. no_other _ _ _ _ _ _ _ c.answer.ensures.explored whole u f l r
 
 pub returns-clause-complete : goal.returns-clause-complete
 returns-clause-complete g c = λ files told quiet. complete _ files _ _ _ _ _ _ c.answer.ensures.explored told quiet

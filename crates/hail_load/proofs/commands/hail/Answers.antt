@@ -1,7 +1,7 @@
 use Rattle.std.proofs.Common.{sym}
 use Rattle.std.proofs.lemmas.Result.{err_from_is_err_and}
 use Rattle.text_forms.specs.Reading.{read}
-use Rattle.text_forms.proofs.Lists.{shorter}
+use Rattle.text_forms.specs.Lemmas.Lists.{shorter}
 use Rattle.hail_load.specs.Grammar.{line, hail}
 use Rattle.hail_load.proofs.ScriptLoops.{line_plain, begins_so_far, goes_on, fails_whole, is_done}
 use Rattle.hail_load.proofs.commands.hail.Goals as goal

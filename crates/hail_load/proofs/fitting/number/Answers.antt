@@ -1,6 +1,6 @@
 use Rattle.std.proofs.Common.{slice_get, refl}
 use Rattle.mu_values.specs.Constants.{width_of}
-use Rattle.hail_load.proofs.Steps.{number_refused}
+use Rattle.hail_load.specs.Lemmas.Steps.{number_refused}
 use Rattle.hail_load.proofs.fitting.number.Goals as goal
 
 pub returns-in-Err : goal.returns-in-Err

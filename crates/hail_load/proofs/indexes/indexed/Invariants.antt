@@ -1,5 +1,5 @@
-use Rattle.std.proofs.Common.{◌≡◌, length}
-use Rattle.hail_load.specs.Parts.{indexed}
+use Rattle.std.proofs.Common.{◌≡◌, ◌+◌, ◌^◌, ◌<◌, length}
+use Rattle.hail_load.specs.Parts.{size_of, indexed}
 use Rattle.hail_load.specs.Answering.{IsThere}
 use Rattle.hail_load.proofs.indexes.indexed.Given as goal
 
@@ -7,6 +7,7 @@ abbrev pub invariant-each : goal.invariant-each
 invariant-each l = record {
   told : indexed l.classes.definitions l.spot l.left ≡ indexed l.classes.definitions l.fn.from l.fn.indexes;
   part : IsThere l.classes.definitions l.spot.part;
+  room : l.spot.at + size_of l.classes.definitions l.spot.part < 2 ^ 32;
 }
 
 abbrev pub decreases-each : goal.decreases-each

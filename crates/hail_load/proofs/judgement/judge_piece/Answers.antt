@@ -6,7 +6,7 @@ use Rattle.hail_load.specs.Code.{code_of}
 use Rattle.hail_load.specs.Parts.{parts_of}
 use Rattle.hail_load.specs.Judging.{wanted_by, part_scalars, judged}
 use Rattle.hail_load.specs.Answering.{GoesOn, behind, IsThere, store_of}
-use Rattle.hail_load.proofs.Steps.{list_step, plain_step, list_there, plain_is, on_ok}
+use Rattle.hail_load.specs.Lemmas.Steps.{list_step, plain_step, list_there, plain_is, on_ok}
 use Rattle.hail_load.proofs.judgement.judge_piece.Goals as goal
 
 pub returns-in-List : goal.returns-in-List

@@ -1,6 +1,6 @@
 use Rattle.std.proofs.Common.{refl}
 use Rattle.hail_load.specs.declared.parts.Part.TheVariants.{Value}
-use Rattle.hail_load.proofs.Steps.{elements_wanted, elements_unwanted}
+use Rattle.hail_load.specs.Lemmas.Steps.{elements_wanted, elements_unwanted}
 use Rattle.hail_load.proofs.judgement.push_elements.Goals as goal
 
 pub returns-then-many-wanted : goal.returns-then-many-wanted

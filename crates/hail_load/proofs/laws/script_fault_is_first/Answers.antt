@@ -1,6 +1,6 @@
-use Rattle.text_forms.proofs.Judged.{fault_is_first}
+use Rattle.text_forms.specs.Lemmas.Judged.{fault_is_first}
 use Rattle.ir_lex.specs.Walk.{tokens_from}
-use Rattle.ir_lex.proofs.Cursors.{texts_end}
+use Rattle.ir_lex.specs.Lemmas.Cursors.{texts_end}
 use Rattle.hail_load.specs.Grammar.{hail}
 use Rattle.hail_load.proofs.Grammatical.{is_grammar}
 use Rattle.hail_load.proofs.laws.script_fault_is_first.Goals as goal

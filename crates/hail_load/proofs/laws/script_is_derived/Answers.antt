@@ -1,6 +1,6 @@
-use Rattle.text_forms.proofs.Judged.{read_is_derived}
+use Rattle.text_forms.specs.Lemmas.Judged.{read_is_derived}
 use Rattle.ir_lex.specs.Walk.{tokens_from}
-use Rattle.ir_lex.proofs.Cursors.{texts_end}
+use Rattle.ir_lex.specs.Lemmas.Cursors.{texts_end}
 use Rattle.hail_load.specs.Grammar.{hail}
 use Rattle.hail_load.proofs.Grammatical.{is_grammar}
 use Rattle.hail_load.proofs.laws.script_is_derived.Goals as goal

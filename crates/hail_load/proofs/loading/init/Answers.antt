@@ -8,6 +8,7 @@ use Rattle.hail_load.specs.Judging.{judged}
 use Rattle.hail_load.specs.Gathered.{gathered}
 use Rattle.hail_load.specs.Answering.{Makes, behind, store_of}
 use Rattle.hail_load.proofs.Lagging.{behind_none, source_done, source_refused}
+use Rattle.hail_load.proofs.Rooms.{source_room}
 use Rattle.hail_load.proofs.loading.init.Goals as goal
 
 pub returns-in_err-judge-clause-made : goal.returns-in_err-judge-clause-made
@@ -31,3 +32,16 @@ returns-clause-made c =
     let all : judged code (store_of c.args.heap.now c.args.made.now) (spot.part ∷ []) c.args.source.now ≡ Ok (gathered c.as_slice-2.result.now) =
     behind_none _ c.judge.new.scalars told ∙ ap (λ (ss : List Scalar). let r : Scalars = Ok ss in r) (sym c.as_slice-2.ensures) in
     source_done code c.args.heap.now c.add.new.heap c.args.fills.now c.add.new.self c.args.made.now target c.args.source.now spot (gathered c.as_slice-2.result.now) found all c.in_ok-add.ensures.filled c.add.ensures.left
+
+pub add-requires-clause-room : goal.add-requires-clause-room
+add-requires-clause-room c =
+    let code = code_of c.args.loader.code.now in
+    let s = store_of c.args.heap.now c.args.made.now in
+    let target = c.args.target.now in
+    let spot = c.in_ok-spot.spot in
+    let found : target_spot code c.args.made.now target.root target.indexes ≡ Ok spot = rw c.as_slice.ensures at c.in_ok-spot.ensures.told in
+    let told : behind [] (judged code s (spot.part ∷ []) c.args.source.now) ≡ Ok c.judge.new.scalars =
+    ap (λ (ss : List Scalar). behind ss (judged code s (spot.part ∷ []) c.args.source.now)) (sym c.clear.ensures) ∙ c.in_ok-judge.ensures in
+    let all : judged code s (spot.part ∷ []) c.args.source.now ≡ Ok (gathered c.as_slice-2.result.now) =
+    behind_none _ c.judge.new.scalars told ∙ ap (λ (ss : List Scalar). let r : Scalars = Ok ss in r) (sym c.as_slice-2.ensures) in
+    source_room code c.requires.known s target.root target.indexes c.args.source.now spot (gathered c.as_slice-2.result.now) c.requires.roomy c.in_ok-spot.ensures.part found all

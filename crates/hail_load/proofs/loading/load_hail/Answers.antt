@@ -6,7 +6,7 @@ use Rattle.hail_load.specs.LoadAnswers.{Loads}
 use Rattle.hail_load.specs.Fills.{made, shown}
 use Rattle.hail_load.proofs.Lagging.{loads_settled}
 use Rattle.hail_load.proofs.Making.{lags_none}
-use Rattle.hail_load.proofs.Steps.{globals_whole}
+use Rattle.hail_load.specs.Lemmas.Steps.{globals_whole}
 use Rattle.hail_load.proofs.loading.load_hail.Goals as goal
 
 pub perform_all-result-requires-clause-lags : goal.perform_all-result-requires-clause-lags

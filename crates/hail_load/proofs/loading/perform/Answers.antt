@@ -2,6 +2,7 @@ use Rattle.std.proofs.Common.{arith}
 use Rattle.name_scopes.specs.Names.{found}
 use Rattle.check_tables.specs.Lookups.{written_number}
 use Rattle.hail_load.specs.Code.{code_of}
+use Rattle.hail_load.proofs.Making.{long_kept}
 use Rattle.hail_load.proofs.Lagging.{fits_new, fits_newhybrid, new_shown, newhybrid_shown}
 use Rattle.hail_load.proofs.loading.perform.Goals as goal
 
@@ -32,6 +33,7 @@ returns-in-New-clause-lags c =
       cells = c.requires.lags.cells;
       room = omega (arith, c.new_object.ensures.spare, c.requires.lags.room);
       few = omega (arith, c.new_object.ensures.more, c.requires.lags.few);
+      long = long_kept c.args.heap.now.objects c.new_object.new.heap.objects c.args.fills.now.rows.items c.new_object.ensures.cells c.requires.lags.long;
     }
 
 pub returns-in-NewHybrid-clause-lags : goal.returns-in-NewHybrid-clause-lags
@@ -47,4 +49,5 @@ returns-in-NewHybrid-clause-lags c =
       cells = c.requires.lags.cells;
       room = omega (arith, c.new_hybrid.ensures.spare, c.requires.lags.room);
       few = omega (arith, c.new_hybrid.ensures.more, c.requires.lags.few);
+      long = long_kept c.args.heap.now.objects c.new_hybrid.new.heap.objects c.args.fills.now.rows.items c.new_hybrid.ensures.cells c.requires.lags.long;
     }

@@ -3,12 +3,13 @@ use Rattle.std.proofs.lemmas.Result.{err_from_is_err_and}
 use Rattle.hail_load.specs.Code.{code_of}
 use Rattle.hail_load.specs.Answering.{store_of}
 use Rattle.hail_load.specs.Fills.{shown}
-use Rattle.hail_load.proofs.Steps.{none_there}
+use Rattle.hail_load.specs.Lemmas.Steps.{none_there}
+use Rattle.hail_load.proofs.Rooms.{roomy_first}
 use Rattle.hail_load.proofs.Loads.{loads_more, loads_refused}
 use Rattle.hail_load.proofs.loading.perform_all.Goals as goal
 
 pub loop-command-init : goal.loop-command-init
-loop-command-init c = rw c.new-made.ensures (record { so_far = refl; lags = c.requires.lags; there = none_there (code_of c.args.loader.code.now).graph })
+loop-command-init c = rw c.new-made.ensures (record { so_far = refl; lags = c.requires.lags; there = none_there (code_of c.args.loader.code.now).graph; roomy = roomy_first (code_of c.args.loader.code.now) c.args.heap.now.objects c.requires.globals })
 
 pub returns-in_err-perform-clause-loads : goal.returns-in_err-perform-clause-loads
 returns-in_err-perform-clause-loads c =
@@ -26,4 +27,5 @@ loop-command-preserved c =
           c.loop-command-test.true c.command-item.is c.loop-command.invariant.so_far c.in_ok-perform.ensures.made;
       lags = c.perform.ensures.lags;
       there = c.in_ok-perform.ensures.there;
+      roomy = c.in_ok-perform.ensures.roomy;
     }

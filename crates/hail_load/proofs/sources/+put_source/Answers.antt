@@ -4,7 +4,7 @@ use Rattle.text_forms.specs.declared.symbol.Symbol.TheVariants as symbols
 use Rattle.text_forms.specs.Tokens.{at}
 use Rattle.text_forms.specs.Reading.{read}
 use Rattle.text_forms.specs.Answers.{with_front}
-use Rattle.text_forms.proofs.Lists.{shorter}
+use Rattle.text_forms.specs.Lemmas.Lists.{shorter}
 use Rattle.hail_load.specs.declared.tree.Piece.TheVariants as pieces
 use Rattle.hail_load.specs.Sources.{element, list, source}
 use Rattle.hail_load.proofs.Nested.{element_plain, read_list, read_plain}

@@ -1,8 +1,8 @@
 use Rattle.std.proofs.Common.{◌≡◌, ℕ, zero, suc, ◌+◌, ◌<◌, List, [], ◌∷◌, ◌++◌, length, map, take, Some, slice_get, ap, ◌∙◌, sym, add-one}
 use Rattle.typed_heap.specs.Objects.{HeapObject, leaf_classes, object_of}
-use Rattle.checked_code.proofs.ConstantMembers.{holds_at}
+use Rattle.checked_code.specs.Lemmas.ConstantMembers.{holds_at}
 use Rattle.hail_load.specs.Code.{code_of}
-use Rattle.hail_load.proofs.Knowing.{is_known}
+use Rattle.hail_load.specs.Lemmas.Knowing.{is_known, narrow}
 use Rattle.hail_tests.proofs.loads.heap_of.Goals as goal
 
 mapped : (f : ℕ → HeapObject) (xs : List ℕ) (n x : ℕ) → slice_get xs n ≡ Some x → map f (take n xs) ++ f x ∷ [] ≡ map f (take (suc n) xs)
@@ -19,6 +19,10 @@ pub add_global-requires-clause-t : goal.add_global-requires-clause-t
 add_global-requires-clause-t c =
     let g = (code_of c.args.code.now).graph in
     rw c.classes-classes.ensures.same (holds_at (λ t. t < length g) (code_of c.args.code.now).globals c.loop-n.n c.global_type-t.result (is_known c.args.code.now c.items-items.ensures.met).globals c.global_type-t.ensures)
+
+pub add_global-requires-clause-narrow : goal.add_global-requires-clause-narrow
+add_global-requires-clause-narrow c =
+    rw c.classes-classes.ensures.same (narrow (code_of c.args.code.now) (is_known c.args.code.now c.items-items.ensures.met))
 
 pub loop-n-preserved : goal.loop-n-preserved
 loop-n-preserved c =

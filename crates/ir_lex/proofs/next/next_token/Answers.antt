@@ -1,5 +1,5 @@
 use Rattle.std.proofs.Common.{sym, ◌∙◌}
-use Rattle.ir_lex.proofs.Nexts.{next_is, fault_is, end_is, next_found, fault_found, end_found, found_some, found_number}
+use Rattle.ir_lex.specs.Lemmas.Nexts.{next_is, fault_is, end_is, next_found, fault_found, end_found, found_some, found_number}
 use Rattle.ir_lex.proofs.next.next_token.Goals as goal
 
 pub returns-clause-token : goal.returns-clause-token

@@ -3,7 +3,7 @@ use Rattle.std.specs.Prelude.{is_ok}
 use Rattle.ir_lex.specs.declared.token.Number.{Number}
 use Rattle.ir_lex.specs.Numerals.{Means}
 use Rattle.ir_lex.specs.Texts.{spelling_of}
-use Rattle.ir_lex.proofs.Meanings.{means_numeral, numeral_ok, one_number}
+use Rattle.ir_lex.specs.Lemmas.Meanings.{means_numeral, numeral_ok, one_number}
 use Rattle.ir_lex.proofs.next.number.Goals as goal
 
 pub number_of-requires : goal.number_of-requires

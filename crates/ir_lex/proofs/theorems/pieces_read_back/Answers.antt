@@ -1,4 +1,4 @@
-use Rattle.ir_lex.proofs.Lists.{pieces_read_back as law}
+use Rattle.ir_lex.specs.Lemmas.Lists.{pieces_read_back as law}
 use Rattle.ir_lex.proofs.theorems.pieces_read_back.Goals as goal
 
 pub returns : goal.returns

@@ -1,4 +1,4 @@
-use Rattle.ir_lex.proofs.Lists.{spaced_stand_apart as law}
+use Rattle.ir_lex.specs.Lemmas.Lists.{spaced_stand_apart as law}
 use Rattle.ir_lex.proofs.theorems.spaced_stand_apart.Goals as goal
 
 pub returns : goal.returns

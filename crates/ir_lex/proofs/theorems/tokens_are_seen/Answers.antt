@@ -1,4 +1,4 @@
-use Rattle.ir_lex.proofs.Cursors.{tokens_are_seen as law}
+use Rattle.ir_lex.specs.Lemmas.Cursors.{tokens_are_seen as law}
 use Rattle.ir_lex.proofs.theorems.tokens_are_seen.Goals as goal
 
 pub returns : goal.returns

@@ -1,7 +1,7 @@
 use Rattle.std.proofs.Common.{ℕ, List, ◌++◌, sym, ap, ◌∙◌}
 use Rattle.ir_print.specs.Words.{on_new_line}
 use Rattle.ir_print.specs.Bodies.{block_words}
-use Rattle.ir_print.proofs.Texts.{texts}
+use Rattle.ir_print.specs.Lemmas.Texts.{texts}
 use Rattle.ir_print.proofs.bodies.blocks.Goals as goal
 
 pub returns : goal.returns

@@ -1,7 +1,7 @@
 use Rattle.std.proofs.Common.{ℕ, List, ◌++◌, sym, ap, ◌∙◌}
 use Rattle.ir_print.specs.Words.{indented}
 use Rattle.ir_print.specs.Instructions.{inst_words}
-use Rattle.ir_print.proofs.Texts.{texts}
+use Rattle.ir_print.specs.Lemmas.Texts.{texts}
 use Rattle.ir_print.proofs.bodies.insts.Goals as goal
 
 pub returns : goal.returns

@@ -1,7 +1,7 @@
 use Rattle.std.proofs.Common.{ℕ, List, ◌++◌, sym, ap, ◌∙◌}
 use Rattle.ir_print.specs.Words.{spaced}
 use Rattle.ir_print.specs.Control.{switch_case_words}
-use Rattle.ir_print.proofs.Texts.{texts}
+use Rattle.ir_print.specs.Lemmas.Texts.{texts}
 use Rattle.ir_print.proofs.flow.cases.Goals as goal
 
 pub returns : goal.returns

@@ -1,4 +1,4 @@
-use Rattle.ir_print.proofs.ReadBack as law
+use Rattle.ir_print.specs.Lemmas.ReadBack as law
 use Rattle.ir_print.proofs.laws.reads_back.Goals as goal
 
 pub returns-clause-back : goal.returns-clause-back

@@ -1,5 +1,5 @@
 use Rattle.std.proofs.Common.{ℕ, List, ◌++◌, sym, ap, ◌∙◌}
-use Rattle.ir_print.proofs.Texts.{local_list_text}
+use Rattle.ir_print.specs.Lemmas.Texts.{local_list_text}
 use Rattle.ir_print.proofs.lists.local_list.Goals as goal
 
 pub returns : goal.returns

@@ -1,6 +1,6 @@
 use Rattle.std.proofs.Common.{ℕ, List, ◌++◌, sym, ap, ◌∙◌}
 use Rattle.ir_print.specs.Words.{spaced, global_words}
-use Rattle.ir_print.proofs.Texts.{texts}
+use Rattle.ir_print.specs.Lemmas.Texts.{texts}
 use Rattle.ir_print.proofs.lists.more_names.Goals as goal
 
 pub returns : goal.returns

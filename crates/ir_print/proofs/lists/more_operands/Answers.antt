@@ -1,7 +1,7 @@
 use Rattle.std.proofs.Common.{ℕ, List, ◌++◌, sym, ap, ◌∙◌}
 use Rattle.ir_print.specs.Words.{spaced}
 use Rattle.ir_print.specs.Lists.{value_words}
-use Rattle.ir_print.proofs.Texts.{texts}
+use Rattle.ir_print.specs.Lemmas.Texts.{texts}
 use Rattle.ir_print.proofs.lists.more_operands.Goals as goal
 
 pub returns : goal.returns

@@ -1,4 +1,4 @@
-use Rattle.ir_print.proofs.Texts.{fields_joined}
+use Rattle.ir_print.specs.Lemmas.Texts.{fields_joined}
 use Rattle.ir_print.proofs.types.fields.Goals as goal
 
 pub returns : goal.returns

@@ -3,7 +3,7 @@ use Rattle.std.proofs.lemmas.Result.{err_from_is_err_and}
 use Rattle.text_forms.specs.Tokens.{first}
 use Rattle.text_forms.specs.Reading.{read, read_from}
 use Rattle.text_forms.specs.Answers.{Gives, kept}
-use Rattle.text_forms.proofs.Lists.{shorter}
+use Rattle.text_forms.specs.Lemmas.Lists.{shorter}
 use Rattle.ir_tree.specs.declared.code.Line.{Line}
 use Rattle.ir_tree.specs.Bodies.{line, flags, blocks_of, body_rest}
 use Rattle.ir_text.specs.BodiesSoFar.{counted}

@@ -6,8 +6,8 @@ use Rattle.text_forms.specs.Tokens.{at}
 use Rattle.text_forms.specs.Begins.{begins}
 use Rattle.text_forms.specs.Forms.{up_to}
 use Rattle.text_forms.specs.Reading.{read}
-use Rattle.text_forms.proofs.Lists.{shorter}
-use Rattle.text_forms.proofs.Loops.{goes_on_counted, is_done_up_to, fails_up_to, too_many}
+use Rattle.text_forms.specs.Lemmas.Lists.{shorter}
+use Rattle.text_forms.specs.Lemmas.Loops.{goes_on_counted, is_done_up_to, fails_up_to, too_many}
 use Rattle.ir_lex.specs.TokenForms.{name}
 use Rattle.ir_tree.specs.Lists.{global}
 use Rattle.ir_tree.specs.Control.{switch_case}

@@ -5,8 +5,8 @@ use Rattle.text_forms.specs.declared.symbol.Symbol.TheVariants as symbols
 use Rattle.text_forms.specs.Tokens.{at, first, rest_of, too_many_at}
 use Rattle.text_forms.specs.Begins.{begins}
 use Rattle.text_forms.specs.Reading.{read}
-use Rattle.text_forms.proofs.Lists.{shorter}
-use Rattle.text_forms.proofs.Loops.{goes_on_counted, is_done_up_to, fails_up_to, too_many}
+use Rattle.text_forms.specs.Lemmas.Lists.{shorter}
+use Rattle.text_forms.specs.Lemmas.Loops.{goes_on_counted, is_done_up_to, fails_up_to, too_many}
 use Rattle.ir_lex.specs.TokenForms.{mark}
 use Rattle.ir_tree.specs.Items.{typedef, funcsig, constant, global_cell, funcdecl, funcdef, item, bundle}
 use Rattle.ir_text.proofs.Fronts.{front-nothing}

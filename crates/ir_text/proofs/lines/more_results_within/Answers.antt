@@ -2,7 +2,7 @@ use Rattle.std.proofs.Common.{◌≡◌, true, false, sym, ◌∙◌}
 use Rattle.std.specs.Prelude.{◌&&◌}
 use Rattle.text_forms.specs.Tokens.{at}
 use Rattle.text_forms.specs.Begins.{begins}
-use Rattle.text_forms.proofs.Lists.{fits_read, passes_read}
+use Rattle.text_forms.specs.Lemmas.Lists.{fits_read, passes_read}
 use Rattle.ir_tree.specs.Bodies.{more_results}
 use Rattle.ir_text.proofs.Fronts.{more_results_grouped}
 use Rattle.ir_text.proofs.Insides.{more_results_own, more_results_begins}

@@ -2,7 +2,7 @@ use Rattle.std.proofs.Common.{◌≡◌, true, false, sym, ◌∙◌}
 use Rattle.std.specs.Prelude.{◌&&◌}
 use Rattle.text_forms.specs.Tokens.{at}
 use Rattle.text_forms.specs.Begins.{begins}
-use Rattle.text_forms.proofs.Lists.{fits_read, passes_read}
+use Rattle.text_forms.specs.Lemmas.Lists.{fits_read, passes_read}
 use Rattle.ir_tree.specs.Blocks.{result}
 use Rattle.ir_text.proofs.Insides.{result_own, result_begins}
 use Rattle.ir_text.proofs.lines.result_within.Goals as goal

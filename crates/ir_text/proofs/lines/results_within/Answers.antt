@@ -2,7 +2,7 @@ use Rattle.std.proofs.Common.{◌≡◌, true, false, sym, ◌∙◌}
 use Rattle.std.specs.Prelude.{◌&&◌}
 use Rattle.text_forms.specs.Tokens.{at, first}
 use Rattle.text_forms.specs.Begins.{begins}
-use Rattle.text_forms.proofs.Lists.{fits_read, passes_read}
+use Rattle.text_forms.specs.Lemmas.Lists.{fits_read, passes_read}
 use Rattle.ir_tree.specs.Bodies.{results}
 use Rattle.ir_text.proofs.Insides.{results_own, results_begins}
 use Rattle.ir_text.proofs.lines.results_within.Goals as goal

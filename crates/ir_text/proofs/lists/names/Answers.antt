@@ -6,8 +6,8 @@ use Rattle.text_forms.specs.Begins.{begins}
 use Rattle.text_forms.specs.Forms.{up_to_from}
 use Rattle.text_forms.specs.Reading.{read}
 use Rattle.text_forms.specs.Answers.{with_front}
-use Rattle.text_forms.proofs.Lists.{shorter}
-use Rattle.text_forms.proofs.Loops.{goes_on_counted, is_done_up_to, fails_up_to, too_many}
+use Rattle.text_forms.specs.Lemmas.Lists.{shorter}
+use Rattle.text_forms.specs.Lemmas.Loops.{goes_on_counted, is_done_up_to, fails_up_to, too_many}
 use Rattle.ir_lex.specs.TokenForms.{name}
 use Rattle.ir_text.proofs.Elements.{name_plain}
 use Rattle.ir_text.proofs.lists.names.Goals as goal

@@ -1,4 +1,4 @@
-use Rattle.kin_laws.proofs.Parts.{leaves_kin}
+use Rattle.kin_laws.specs.Lemmas.Parts.{leaves_kin}
 use Rattle.kin_laws.proofs.laws.kin_have_as_many_leaves.Goals as goal
 
 pub returns : goal.returns

@@ -1,4 +1,4 @@
-use Rattle.kin_laws.proofs.Parts.{finite_kin}
+use Rattle.kin_laws.specs.Lemmas.Parts.{finite_kin}
 use Rattle.kin_laws.proofs.laws.kin_of_finite_types_are_finite.Goals as goal
 
 pub returns : goal.returns

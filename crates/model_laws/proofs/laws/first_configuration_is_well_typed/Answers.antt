@@ -1,4 +1,4 @@
-use Rattle.model_laws.proofs.Proved.{first_well}
+use Rattle.model_laws.specs.Lemmas.Proved.{first_well}
 use Rattle.model_laws.proofs.laws.first_configuration_is_well_typed.Goals as goal
 
 pub returns : goal.returns

@@ -1,4 +1,4 @@
-use Rattle.model_laws.proofs.Proved.{meets, race_free, reads_offered}
+use Rattle.model_laws.specs.Lemmas.Proved.{meets, race_free, reads_offered}
 use Rattle.model_laws.proofs.laws.logs_meet_the_axioms.Goals as goal
 
 pub returns-clause-axioms : goal.returns-clause-axioms

@@ -1,4 +1,4 @@
-use Rattle.model_laws.proofs.Printing.{first_is_printable, steps_stay_printable}
+use Rattle.model_laws.specs.Lemmas.Printing.{first_is_printable, steps_stay_printable}
 use Rattle.model_laws.proofs.laws.logs_stay_printable.Goals as goal
 
 pub returns-clause-first : goal.returns-clause-first

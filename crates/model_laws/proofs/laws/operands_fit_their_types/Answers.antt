@@ -1,4 +1,4 @@
-use Rattle.model_laws.proofs.Proved.{operands_fit}
+use Rattle.model_laws.specs.Lemmas.Proved.{operands_fit}
 use Rattle.model_laws.proofs.laws.operands_fit_their_types.Goals as goal
 
 pub returns : goal.returns

@@ -1,4 +1,4 @@
-use Rattle.model_laws.proofs.Bounded.{runs_end}
+use Rattle.model_laws.specs.Lemmas.Bounded.{runs_end}
 use Rattle.model_laws.proofs.laws.runs_have_an_ending.Goals as goal
 
 pub returns : goal.returns

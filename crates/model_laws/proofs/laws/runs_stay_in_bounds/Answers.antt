@@ -1,4 +1,4 @@
-use Rattle.model_laws.proofs.Bounded.{first_in_bounds, steps_in_bounds, runs_small}
+use Rattle.model_laws.specs.Lemmas.Bounded.{first_in_bounds, steps_in_bounds, runs_small}
 use Rattle.model_laws.proofs.laws.runs_stay_in_bounds.Goals as goal
 
 pub returns-clause-first : goal.returns-clause-first

@@ -1,4 +1,4 @@
-use Rattle.model_laws.proofs.Proved.{steps_well, clients_settle}
+use Rattle.model_laws.specs.Lemmas.Proved.{steps_well, clients_settle}
 use Rattle.model_laws.proofs.laws.steps_are_never_stuck.Goals as goal
 
 pub returns-clause-steps : goal.returns-clause-steps

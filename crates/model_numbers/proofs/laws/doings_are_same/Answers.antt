@@ -1,4 +1,4 @@
-use Rattle.model_numbers.proofs.Places.{doing_same}
+use Rattle.model_numbers.specs.Lemmas.Places.{doing_same}
 use Rattle.model_numbers.proofs.laws.doings_are_same.Goals as goal
 
 pub returns : goal.returns

@@ -1,4 +1,4 @@
-use Rattle.model_numbers.proofs.Places.{going_on_same}
+use Rattle.model_numbers.specs.Lemmas.Places.{going_on_same}
 use Rattle.model_numbers.proofs.laws.goings_on_are_same.Goals as goal
 
 pub returns : goal.returns

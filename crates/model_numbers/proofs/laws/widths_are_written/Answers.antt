@@ -1,4 +1,4 @@
-use Rattle.bundle_laws.proofs.Tables.{tables_fit}
+use Rattle.bundle_laws.specs.Lemmas.Tables.{tables_fit}
 use Rattle.checked_code.specs.Checking.{bundle_tables}
 use Rattle.model_numbers.proofs.Classes.{width_same}
 use Rattle.model_numbers.proofs.laws.widths_are_written.Goals as goal

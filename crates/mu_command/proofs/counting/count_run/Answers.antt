@@ -4,7 +4,7 @@ use Rattle.mu_model.specs.Programs.{named}
 use Rattle.mu_model.specs.Run.{run}
 use Rattle.model_laws.specs.Bounds.{HasEnding}
 use Rattle.mu_command.specs.Steps.{IsCounted, tally_behind}
-use Rattle.mu_command.proofs.InSteps.{not_stuck}
+use Rattle.mu_command.proofs.InSteps.{not_stuck, no_more}
 use Rattle.mu_command.proofs.Tallies.{goes_on, has_ending, ends_so}
 use Rattle.mu_command.proofs.counting.count_run.Goals as goal
 
@@ -44,3 +44,6 @@ returns-in-Some g c =
     subst (λ (k : ℕ). tally_behind 0 0 (run (named bundle) c.args.limit c.args.machine.now.configuration) ≡ tally_behind c.steps.steps c.steps.events (run (named bundle) k c.steps.machine.configuration)) e c.steps.invariant.whole
     ∙ ends_so bundle (c.steps.left - 1) c.steps.machine.configuration c.count_step.new.machine.configuration c.steps.steps c.steps.events c.in_ok-step.step one c.in-Some.ending c.in-Some.is in
     cc
+
+pub unreachable-requires : goal.unreachable-requires
+unreachable-requires g c = no_more (named c.args.machine.now.bundle) c.steps.left c.steps.machine.configuration (omega (arith, c.steps-test.false)) c.steps.invariant.ends

@@ -1,6 +1,6 @@
 use Rattle.std.proofs.Common.{◌≡◌, ℕ, refl, sym, subst, arith}
 use Rattle.mu_texts.specs.declared.what.What.TheVariants.{Bundle, Hail, Client, Schedule}
-use Rattle.mu_command.proofs.Beginnings.{earlier, later}
+use Rattle.mu_command.specs.Lemmas.Beginnings.{earlier, later}
 use Rattle.mu_command.proofs.Together.{not_begun, run_found}
 use Rattle.mu_command.proofs.finding.find_run.Goals as goal
 

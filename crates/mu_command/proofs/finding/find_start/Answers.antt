@@ -3,7 +3,7 @@ use Rattle.std.proofs.lemmas.Result.{err_from_is_err_and}
 use Rattle.mu_texts.specs.declared.what.What.TheVariants.{Hail, Client, Schedule}
 use Rattle.mu_texts.specs.Answer.{Part, entered}
 use Rattle.mu_command.specs.Parts.{OfRun}
-use Rattle.mu_command.proofs.Beginnings.{earlier, between, later, not_filled, not_scripted, not_scheduled, all_begun}
+use Rattle.mu_command.specs.Lemmas.Beginnings.{earlier, between, later, not_filled, not_scripted, not_scheduled, all_begun}
 use Rattle.mu_command.proofs.finding.find_start.Goals as goal
 
 abbrev entered_as : ℕ → Part ℕ

@@ -1,7 +1,7 @@
 use Rattle.std.proofs.Common.{ℕ, List, subst}
 use Rattle.mu_texts.specs.Answer.{for_judge}
 use Rattle.mu_texts.specs.Comes.{Comes}
-use Rattle.mu_command.proofs.Files.{was_judged}
+use Rattle.mu_command.specs.Lemmas.Files.{was_judged}
 use Rattle.mu_command.proofs.finding.find_verdict.Goals as goal
 
 pub returns-clause-judged : goal.returns-clause-judged

@@ -2,7 +2,7 @@ use Rattle.std.proofs.Common.{ℕ, List, subst}
 use Rattle.mu_texts.specs.declared.what.What.TheVariants.{Joined}
 use Rattle.mu_texts.specs.Answer.{written_in}
 use Rattle.mu_texts.specs.Comes.{Comes}
-use Rattle.mu_command.proofs.Files.{was_judged}
+use Rattle.mu_command.specs.Lemmas.Files.{was_judged}
 use Rattle.mu_command.proofs.joining.find_bundle.Goals as goal
 
 pub returns-clause-judged : goal.returns-clause-judged

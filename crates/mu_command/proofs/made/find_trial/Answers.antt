@@ -10,7 +10,7 @@ use Rattle.mu_texts.specs.Start.{Started}
 use Rattle.mu_texts.specs.Answer.{Part, ◌>>=◌, accepted}
 use Rattle.mu_texts.specs.Comes.{Comes}
 use Rattle.mu_command.specs.Answer.{trial_begun, trial_found}
-use Rattle.mu_command.proofs.Trials.{comes_early, comes_behind}
+use Rattle.mu_command.specs.Lemmas.Trials.{comes_early, comes_behind}
 use Rattle.mu_command.proofs.made.find_trial.Goals as goal
 
 abbrev begins_with : ℕ → List Item → Started → Part Ready

@@ -1,6 +1,6 @@
-use Rattle.mu_command.proofs.Accepting.{accepted_cause}
-use Rattle.mu_command.proofs.Causes.{read_fault_cause, refused_cause, too_long_cause}
-use Rattle.mu_command.proofs.Completeness.{complete}
+use Rattle.mu_command.specs.Lemmas.Accepting.{accepted_cause}
+use Rattle.mu_command.specs.Lemmas.Causes.{read_fault_cause, refused_cause, too_long_cause}
+use Rattle.mu_command.specs.Lemmas.Completeness.{complete}
 use Rattle.mu_command.proofs.Verdicts.{verdict_cause}
 use Rattle.std.proofs.Common.{◌∙◌, sym, subst}
 use Rattle.mu_command.specs.Job.{job_of}

@@ -3,7 +3,7 @@ use Rattle.mu_model.specs.Programs.{named}
 use Rattle.mu_model.specs.Run.{run}
 use Rattle.mu_texts.specs.Answer.{run_answer}
 use Rattle.model_laws.specs.Bounds.{HasEnding}
-use Rattle.mu_command.proofs.InSteps.{SoFar, not_stuck, one_more, is_over}
+use Rattle.mu_command.proofs.InSteps.{SoFar, not_stuck, no_more, one_more, is_over}
 use Rattle.mu_command.proofs.running.write_steps.Goals as goal
 
 pub make_step-requires-clause-there : goal.make_step-requires-clause-there
@@ -33,3 +33,6 @@ steps-preserved g c =
       fresh = c.in-None.ensures.fresh;
       faults = omega arith;
     }
+
+pub unreachable-requires : goal.unreachable-requires
+unreachable-requires g c = no_more (named c.args.code.now) c.steps.left c.steps.machine.configuration (omega (arith, c.steps-test.false)) c.steps.invariant.far.ends

@@ -1,4 +1,4 @@
-use Rattle.mu_osr.proofs.EditLaws.{pops, pushes}
+use Rattle.mu_osr.specs.Lemmas.EditLaws.{pops, pushes}
 use Rattle.mu_osr.proofs.laws.edits_are_abstract_edits.Goals as goal
 
 pub returns-clause-pops : goal.returns-clause-pops

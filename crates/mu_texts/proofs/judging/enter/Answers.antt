@@ -1,5 +1,5 @@
 use Rattle.std.proofs.Common.{sym}
-use Rattle.mu_texts.proofs.Runnable.{can_begin}
+use Rattle.mu_texts.specs.Lemmas.Runnable.{can_begin}
 use Rattle.mu_texts.proofs.judging.enter.Goals as goal
 
 pub returns-in-Ok-clause-begins : goal.returns-in-Ok-clause-begins

@@ -1,4 +1,4 @@
-use Rattle.mu_texts.proofs.Runnable.{loaded_runs_end}
+use Rattle.mu_texts.specs.Lemmas.Runnable.{loaded_runs_end}
 use Rattle.mu_texts.proofs.judging.judge_for_run.Goals as goal
 
 pub returns-in-Ok-clause-ends : goal.returns-in-Ok-clause-ends

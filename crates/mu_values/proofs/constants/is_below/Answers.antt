@@ -1,6 +1,6 @@
 use Rattle.std.proofs.Common.{◌≡◌, ◌^◌, sym, refl, arith}
 use Rattle.std.proofs.lemmas.Bool.{lt-ltb}
-use Rattle.mu_values.proofs.Signed.{pow_up}
+use Rattle.mu_values.specs.Lemmas.Signed.{pow_up}
 use Rattle.mu_values.proofs.constants.is_below.Goals as goal
 
 pub returns-then-n-ge128 : goal.returns-then-n-ge128

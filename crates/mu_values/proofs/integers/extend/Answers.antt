@@ -1,5 +1,5 @@
 use Rattle.std.proofs.Common.{◌∙◌, sym, arith}
-use Rattle.mu_values.proofs.Signed.{pow_up, is_high, is_low, extended_high, extended_low}
+use Rattle.mu_values.specs.Lemmas.Signed.{pow_up, is_high, is_low, extended_high, extended_low}
 use Rattle.mu_values.proofs.integers.extend.Goals as goal
 
 pub overflow_sub-result-then-is_negative : goal.overflow_sub-result-then-is_negative

@@ -1,6 +1,6 @@
 use Rattle.std.proofs.Common.{◌∙◌, sym}
 use Rattle.mu_values.specs.Integers.{shift}
-use Rattle.mu_values.proofs.Signed.{shifted_high, is_high}
+use Rattle.mu_values.specs.Lemmas.Signed.{shifted_high, is_high}
 use Rattle.mu_values.proofs.integers.shift_signed.Goals as goal
 
 pub returns-then-is_negative : goal.returns-then-is_negative

@@ -1,7 +1,7 @@
 use Rattle.std.proofs.Common.{◌≡◌, ◌^◌, ◌-◌, sym, true, not}
 use Rattle.std.specs.Prelude.{nat_lt}
 use mathlib.Core.Bool.{beq}
-use Rattle.mu_values.proofs.Signed.{quotient_alike}
+use Rattle.mu_values.specs.Lemmas.Signed.{quotient_alike}
 use Rattle.mu_values.proofs.integers.signed_quotient.Goals as goal
 
 pub returns-then-is_negative : goal.returns-then-is_negative

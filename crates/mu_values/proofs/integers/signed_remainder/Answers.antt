@@ -1,5 +1,5 @@
 use Rattle.std.proofs.Common.{◌∙◌, sym}
-use Rattle.mu_values.proofs.Signed.{remainder_positive}
+use Rattle.mu_values.specs.Lemmas.Signed.{remainder_positive}
 use Rattle.mu_values.proofs.integers.signed_remainder.Goals as goal
 
 pub returns-else-is_negative : goal.returns-else-is_negative

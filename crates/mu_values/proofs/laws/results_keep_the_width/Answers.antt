@@ -1,4 +1,4 @@
-use Rattle.mu_values.proofs.Widths.{binary_below}
+use Rattle.mu_values.specs.Lemmas.Widths.{binary_below}
 use Rattle.mu_values.proofs.laws.results_keep_the_width.Goals as goal
 
 pub returns : goal.returns

@@ -1,6 +1,6 @@
 use Rattle.std.proofs.Common.{ap}
 use Rattle.type_definitions.specs.Definition.{arguments}
-use Rattle.typed_heap.proofs.Found.{target_within}
+use Rattle.typed_heap.specs.Lemmas.Found.{target_within}
 use Rattle.object_acts.proofs.finding.cast.Goals as goal
 
 pub class-requires : goal.class-requires

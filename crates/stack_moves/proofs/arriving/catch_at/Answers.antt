@@ -1,4 +1,4 @@
-use Rattle.stack_moves.proofs.EnteringViews.{thrown_handler, thrown_block, thrown_lands}
+use Rattle.stack_moves.specs.Lemmas.EnteringViews.{thrown_handler, thrown_block, thrown_lands}
 use Rattle.stack_moves.proofs.arriving.catch_at.Goals as goal
 
 pub handler_goal-requires : goal.handler_goal-requires

@@ -1,5 +1,5 @@
 use Rattle.std.proofs.Common.{refl}
-use Rattle.stack_moves.proofs.EnteringViews.{passes_there, passes_land}
+use Rattle.stack_moves.specs.Lemmas.EnteringViews.{passes_there, passes_land}
 use Rattle.stack_moves.proofs.arriving.pass_at.Goals as goal
 
 pub passing-requires : goal.passing-requires

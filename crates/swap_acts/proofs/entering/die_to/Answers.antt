@@ -3,7 +3,7 @@ use Rattle.frames.specs.Chains.{chain_of}
 use Rattle.run_state.specs.Held.{Held}
 use Rattle.run_state.specs.Hand.{hand_made, hand_on, hand_within}
 use Rattle.stack_moves.specs.EnteringLaws.{enter_fits, entered_sound}
-use Rattle.stack_moves.proofs.EnteringViews.{lands_low, counts_one, low_one, steps_low, dies_so}
+use Rattle.stack_moves.specs.Lemmas.EnteringViews.{lands_low, counts_one, low_one, steps_low, dies_so}
 use Rattle.swap_acts.proofs.entering.die_to.Goals as goal
 
 pub switch_ending-ended-requires-clause-on : goal.switch_ending-ended-requires-clause-on

@@ -1,6 +1,6 @@
 use Rattle.std.proofs.Common.{refl}
 use Rattle.stack_moves.specs.SwapLaws.{leave_looks}
-use Rattle.stack_moves.proofs.EnteringViews.{no_misfit, lands_there, ready_takes, leave_answered}
+use Rattle.stack_moves.specs.Lemmas.EnteringViews.{no_misfit, lands_there, ready_takes, leave_answered}
 use Rattle.swap_acts.proofs.entering.leave_for.Goals as goal
 
 pub hand_over-requires : goal.hand_over-requires

@@ -3,7 +3,7 @@ use Rattle.frames.specs.Chains.{StoredChain, chain_of}
 use Rattle.run_state.specs.Held.{Held}
 use Rattle.run_state.specs.Hand.{hand_made, hand_on, hand_within}
 use Rattle.stack_moves.specs.EnteringLaws.{leave_fits, enter_fits_then, swapped_sound}
-use Rattle.stack_moves.proofs.EnteringViews.{lands_low, counts_two, low_two, steps_low, swaps_so}
+use Rattle.stack_moves.specs.Lemmas.EnteringViews.{lands_low, counts_two, low_two, steps_low, swaps_so}
 use Rattle.swap_acts.proofs.entering.move_to.Goals as goal
 
 pub switch-passed-requires-clause-on : goal.switch-passed-requires-clause-on

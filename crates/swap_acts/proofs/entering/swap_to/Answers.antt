@@ -1,6 +1,6 @@
 use Rattle.std.proofs.Common.{refl}
 use Rattle.stack_moves.specs.SwapLaws.{swap_looks}
-use Rattle.stack_moves.proofs.EnteringViews.{awaits_at, no_misfit, lands_there, ready_takes, swap_answered}
+use Rattle.stack_moves.specs.Lemmas.EnteringViews.{awaits_at, no_misfit, lands_there, ready_takes, swap_answered}
 use Rattle.swap_acts.proofs.entering.swap_to.Goals as goal
 
 pub waiting_for-requires : goal.waiting_for-requires

@@ -3,7 +3,7 @@ use Rattle.frames.specs.Chains.{chain_of}
 use Rattle.run_state.specs.Held.{Held}
 use Rattle.run_state.specs.Hand.{hand_made, hand_on}
 use Rattle.swap_acts.specs.StartLaws.{new_enters}
-use Rattle.stack_moves.proofs.EnteringViews.{lands_low, counts_two, low_two, steps_low}
+use Rattle.stack_moves.specs.Lemmas.EnteringViews.{lands_low, counts_two, low_two, steps_low}
 use Rattle.swap_acts.proofs.StartViews.{begins_there, begins_so, made_at, sound_at}
 use Rattle.swap_acts.proofs.starting.begin.Goals as goal
 

@@ -1,7 +1,7 @@
 use Rattle.std.proofs.Common.{refl, ap, ◌∙◌, length}
 use Rattle.run_state.specs.Held.{Held}
 use Rattle.swap_acts.specs.StartLaws.{start_looks}
-use Rattle.stack_moves.proofs.EnteringViews.{no_misfit, lands_there, ready_takes}
+use Rattle.stack_moves.specs.Lemmas.EnteringViews.{no_misfit, lands_there, ready_takes}
 use Rattle.swap_acts.proofs.StartViews.{few_threads, started_results, started_answered}
 use Rattle.swap_acts.proofs.starting.start_on.Goals as goal
 

@@ -1,4 +1,4 @@
-use Rattle.text_forms.proofs.Judged.{is_judged, is_not_both}
+use Rattle.text_forms.specs.Lemmas.Judged.{is_judged, is_not_both}
 use Rattle.text_forms.proofs.laws.each_text_is_judged.Goals as goal
 
 pub returns : goal.returns

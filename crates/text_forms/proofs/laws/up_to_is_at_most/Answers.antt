@@ -1,4 +1,4 @@
-use Rattle.text_forms.proofs.Usual.{up_to_is_short, up_to_unlimited}
+use Rattle.text_forms.specs.Lemmas.Usual.{up_to_is_short, up_to_unlimited}
 use Rattle.text_forms.proofs.laws.up_to_is_at_most.Goals as goal
 
 pub returns : goal.returns

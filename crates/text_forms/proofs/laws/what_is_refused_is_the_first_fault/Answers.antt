@@ -1,4 +1,4 @@
-use Rattle.text_forms.proofs.Judged.{fault_is_first}
+use Rattle.text_forms.specs.Lemmas.Judged.{fault_is_first}
 use Rattle.text_forms.proofs.laws.what_is_refused_is_the_first_fault.Goals as goal
 
 pub returns : goal.returns

@@ -1,4 +1,4 @@
-use Rattle.text_programs.proofs.Texts.{read_have_blocks}
+use Rattle.text_programs.specs.Lemmas.Texts.{read_have_blocks}
 use Rattle.text_programs.proofs.laws.bundles_that_are_read_have_blocks.Goals as goal
 
 pub returns : goal.returns

@@ -1,4 +1,4 @@
-use Rattle.text_programs.proofs.Entered.{entered_runs_have_an_ending}
+use Rattle.text_programs.specs.Lemmas.Entered.{entered_runs_have_an_ending}
 use Rattle.text_programs.proofs.laws.entered_runs_have_an_ending.Goals as goal
 
 pub returns : goal.returns

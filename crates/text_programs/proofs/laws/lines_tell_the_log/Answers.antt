@@ -1,4 +1,4 @@
-use Rattle.text_programs.proofs.RunLogs.{lines_tell}
+use Rattle.text_programs.specs.Lemmas.RunLogs.{lines_tell}
 use Rattle.text_programs.proofs.laws.lines_tell_the_log.Goals as goal
 
 pub returns : goal.returns

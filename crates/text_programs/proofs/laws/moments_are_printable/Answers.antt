@@ -1,4 +1,4 @@
-use Rattle.text_programs.proofs.Printable.{moments_are_printable}
+use Rattle.text_programs.specs.Lemmas.Printable.{moments_are_printable}
 use Rattle.text_programs.proofs.laws.moments_are_printable.Goals as goal
 
 pub returns : goal.returns

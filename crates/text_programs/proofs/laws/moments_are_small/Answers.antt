@@ -1,4 +1,4 @@
-use Rattle.text_programs.proofs.Moments.{moments_are_small}
+use Rattle.text_programs.specs.Lemmas.Moments.{moments_are_small}
 use Rattle.text_programs.proofs.laws.moments_are_small.Goals as goal
 
 pub returns : goal.returns

@@ -1,4 +1,4 @@
-use Rattle.text_programs.proofs.Texts.{plain_settings_fit}
+use Rattle.text_programs.specs.Lemmas.Texts.{plain_settings_fit}
 use Rattle.text_programs.proofs.laws.plain_settings_fit.Goals as goal
 
 pub returns : goal.returns

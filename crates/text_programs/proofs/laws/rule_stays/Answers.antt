@@ -1,4 +1,4 @@
-use Rattle.text_programs.proofs.RunLogs.{rule_stays}
+use Rattle.text_programs.specs.Lemmas.RunLogs.{rule_stays}
 use Rattle.text_programs.proofs.laws.rule_stays.Goals as goal
 
 pub returns : goal.returns

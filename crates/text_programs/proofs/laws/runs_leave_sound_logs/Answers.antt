@@ -1,4 +1,4 @@
-use Rattle.text_programs.proofs.RunLogs.{runs_leave_sound_logs}
+use Rattle.text_programs.specs.Lemmas.RunLogs.{runs_leave_sound_logs}
 use Rattle.text_programs.proofs.laws.runs_leave_sound_logs.Goals as goal
 
 pub returns : goal.returns

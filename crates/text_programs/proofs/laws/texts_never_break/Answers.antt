@@ -1,4 +1,4 @@
-use Rattle.text_programs.proofs.Texts.{texts_are_typed, runs_of_texts_have_an_ending, runs_of_texts_never_break}
+use Rattle.text_programs.specs.Lemmas.Texts.{texts_are_typed, runs_of_texts_have_an_ending, runs_of_texts_never_break}
 use Rattle.text_programs.proofs.laws.texts_never_break.Goals as goal
 
 pub returns-clause-typed : goal.returns-clause-typed

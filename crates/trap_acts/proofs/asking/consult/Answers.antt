@@ -9,7 +9,7 @@ pub returns-clause-answer : goal.returns-clause-answer
 returns-clause-answer g c =
     let low = hand_within _ _ _ _ _ c.state.invariant.5 (ap (λ (s : Held). s.left) c.state.view_is ∙ c.requires.left) in
     let there = shown_by _ _ _ _ _ _ low c.exchange.ensures.seats (ap (λ (s : Held). s.thread) c.state.view_is ∙ sym c.requires.thread) in
-    seen_so c.ask-answer.result c.args.view.now.tables c.args.state.now _ c.args.view.now c.args.wait.now _ c.state.view_is c.requires.thread c.requires.asked (ap chain_of c.exchange_on_top.ensures.frames)
+    seen_so g.C.Determined.way c.ask-answer.result c.args.view.now.tables c.args.state.now _ c.args.view.now c.args.wait.now _ c.state.view_is c.requires.thread c.requires.asked (ap chain_of c.exchange_on_top.ensures.frames)
     (c.ask-answer.ensures.answer (frames_in c.exchange_on_top.new.frames) there)
 
 pub returns-clause-same : goal.returns-clause-same

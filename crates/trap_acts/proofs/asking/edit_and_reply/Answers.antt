@@ -12,7 +12,7 @@ refusal-requires g c = record { there = edit_there c.args.code.now c.args.state.
 
 pub returns-in-Some-clause-ok : goal.returns-in-Some-clause-ok
 returns-in-Some-clause-ok g c =
-    edit_ended c.args.code.now c.args.state.now _ _ c.args.trapped.wait (edit_of c.args.trapped.edit) (change_by c.args.state.now c.args.trapped) (end_planned c.args.end) _ _ c.refusal.ensures.same c.requires.there c.in-Some.ensures.refused c.case_ending.ensures
+    edit_ended g.C.Determined.way c.args.code.now c.args.state.now _ _ c.args.trapped.wait (edit_of c.args.trapped.edit) (change_by c.args.state.now c.args.trapped) (end_planned c.args.end) _ _ c.refusal.ensures.same c.requires.there c.in-Some.ensures.refused c.case_ending.ensures
 
 pub reply-requires-clause-edited : goal.reply-requires-clause-edited
 reply-requires-clause-edited g c = edited_again c.args.code.now c.args.state.now _ c.args.trapped.wait _ (edit_of c.args.trapped.edit) c.refusal.ensures.same c.refusal.ensures.wait c.in-None.ensures.goes
@@ -23,4 +23,4 @@ reply-requires-clause-there g c =
 
 pub returns-in-None-clause-ok : goal.returns-in-None-clause-ok
 returns-in-None-clause-ok g c =
-    edit_answered c.args.code.now c.args.state.now _ _ c.args.trapped.wait _ (edit_of c.args.trapped.edit) (change_by c.args.state.now c.args.trapped) _ (end_planned c.args.end) c.reply.result c.refusal.ensures.same c.refusal.ensures.wait (ap (λ (s : Held). change_by s c.args.trapped) c.refusal.ensures.same) c.requires.there c.in-None.ensures.goes c.reply.ensures.ok
+    edit_answered g.C.Determined.way c.args.code.now c.args.state.now _ _ c.args.trapped.wait _ (edit_of c.args.trapped.edit) (change_by c.args.state.now c.args.trapped) _ (end_planned c.args.end) c.reply.result c.refusal.ensures.same c.refusal.ensures.wait (ap (λ (s : Held). change_by s c.args.trapped) c.refusal.ensures.same) c.requires.there c.in-None.ensures.goes c.reply.ensures.ok

@@ -9,4 +9,4 @@ edit_and_reply-requires-clause-there g c =
 
 pub returns-clause-ok : goal.returns-clause-ok
 returns-clause-ok g c =
-    take_answered c.args.code.now c.args.state.now _ c.args.wait (edit_of c.args.plan.edit) _ _ _ (end_planned c.args.plan.end) c.edit_and_reply.result (taken_lines c.args.state.now _ _ _ c.args.note _ c.state.view_is c.state.invariant.1 c.in_ok-trap_lines.ensures) c.edit_and_reply.ensures.ok
+    take_answered g.C.Determined.way c.args.code.now c.args.state.now _ c.args.wait (edit_of c.args.plan.edit) _ _ _ (end_planned c.args.plan.end) c.edit_and_reply.result (taken_lines c.args.state.now _ _ _ c.args.note _ c.state.view_is c.state.invariant.1 c.in_ok-trap_lines.ensures) c.edit_and_reply.ensures.ok

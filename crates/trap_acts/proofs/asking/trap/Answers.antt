@@ -9,10 +9,10 @@ consult-requires-clause-asked g c = ap (λ (v : Trap). v.asked) c.in_ok-view.ens
 
 pub take-requires-clause-there : goal.take-requires-clause-there
 take-requires-clause-there g c =
-    trap_there c.args.code.now c.args.state.now _ c.args.watchpoint _ c.in_ok-wait.wait _ _ c.in-Some.plan c.requires.there c.consult.ensures.same c.consult.ensures.wait (awaits_in c.args.code.now c.args.state.now _ _ _ _ _ c.state.view_is c.top.ensures c.in_ok-awaited.ensures c.in_ok-wait.ensures)
-    (answer_in c.args.code.now _ _ c.args.state.now c.in_ok-wait.wait _ c.args.watchpoint _ _ c.in-Some.plan c.in_ok-consult.ensures.answer c.in_ok-view.ensures c.tables.ensures c.in-Some.is) c.trap_note-note.ensures
+    trap_there g.C.Determined.way c.args.code.now c.args.state.now _ c.args.watchpoint _ c.in_ok-wait.wait _ _ c.in-Some.plan c.requires.there c.consult.ensures.same c.consult.ensures.wait (awaits_in c.args.code.now c.args.state.now _ _ _ _ _ c.state.view_is c.top.ensures c.in_ok-awaited.ensures c.in_ok-wait.ensures)
+    (answer_in g.C.Determined.way c.args.code.now _ _ c.args.state.now c.in_ok-wait.wait _ c.args.watchpoint _ _ c.in-Some.plan c.in_ok-consult.ensures.answer c.in_ok-view.ensures c.tables.ensures c.in-Some.is) c.trap_note-note.ensures
 
 pub returns-in-Some-clause-ok : goal.returns-in-Some-clause-ok
 returns-in-Some-clause-ok g c =
-    trap_taken c.args.code.now c.args.state.now _ _ c.args.watchpoint _ c.in_ok-wait.wait _ _ c.in-Some.plan _ c.requires.there c.consult.ensures.same c.consult.ensures.wait (awaits_in c.args.code.now c.args.state.now _ _ _ _ _ c.state.view_is c.top.ensures c.in_ok-awaited.ensures c.in_ok-wait.ensures)
-    (answer_in c.args.code.now _ _ c.args.state.now c.in_ok-wait.wait _ c.args.watchpoint _ _ c.in-Some.plan c.in_ok-consult.ensures.answer c.in_ok-view.ensures c.tables.ensures c.in-Some.is) c.trap_note-note.ensures c.take.ensures.ok
+    trap_taken g.C.Determined.way c.args.code.now c.args.state.now _ _ c.args.watchpoint _ c.in_ok-wait.wait _ _ c.in-Some.plan _ c.requires.there c.consult.ensures.same c.consult.ensures.wait (awaits_in c.args.code.now c.args.state.now _ _ _ _ _ c.state.view_is c.top.ensures c.in_ok-awaited.ensures c.in_ok-wait.ensures)
+    (answer_in g.C.Determined.way c.args.code.now _ _ c.args.state.now c.in_ok-wait.wait _ c.args.watchpoint _ _ c.in-Some.plan c.in_ok-consult.ensures.answer c.in_ok-view.ensures c.tables.ensures c.in-Some.is) c.trap_note-note.ensures c.take.ensures.ok

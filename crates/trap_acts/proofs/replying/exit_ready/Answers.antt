@@ -5,7 +5,7 @@ use Rattle.run_state.specs.Held.{Held}
 use Rattle.run_state.specs.Hand.{hand_made, hand_on, hand_within}
 use Rattle.stack_moves.specs.EnteringLaws.{leave_fits}
 use Rattle.trap_acts.specs.Trapping.{change_by, left_by}
-use Rattle.stack_moves.proofs.EnteringViews.{counts_one, low_one, steps_low}
+use Rattle.stack_moves.specs.Lemmas.EnteringViews.{counts_one, low_one, steps_low}
 use Rattle.trap_acts.proofs.TrapViews.{enabled_so, edited_is, edited_ends, made_in, waits_edited, top_waits, on_same, exited_so, exit_waits, gone_sound}
 use Rattle.trap_acts.proofs.replying.exit_ready.Goals as goal
 
@@ -37,7 +37,7 @@ log_other-requires-clause-fits g c = leave_fits _ _ _ _ _ _ c.reserve.ensures.sa
 
 pub returns-clause-ok : goal.returns-clause-ok
 returns-clause-ok g c =
-    exited_so c.args.code.now c.args.state.now _ (left_by c.args.code.now c.args.state.now c.args.trapped) (change_by c.args.state.now c.args.trapped) (chain_of c.wait_and_edit.new.frames) _ _ _ _ _ _ _ _ _ _ _ _ _ c.state.view_is c.requires.there (edited_is c.args.code.now c.args.state.now _ (edit_of c.args.trapped.edit) c.args.trapped.wait _ (chain_of c.waits_after.new.frames) (chain_of c.wait_and_edit.new.frames) c.state.view_is c.waits_after.ensures.frames c.waits_after.ensures.wait c.in_ok-wait_and_edit.ensures.frames)
+    exited_so g.C.Determined.way c.args.code.now c.args.state.now _ (left_by c.args.code.now c.args.state.now c.args.trapped) (change_by c.args.state.now c.args.trapped) (chain_of c.wait_and_edit.new.frames) _ _ _ _ _ _ _ _ _ _ _ _ _ c.state.view_is c.requires.there (edited_is c.args.code.now c.args.state.now _ (edit_of c.args.trapped.edit) c.args.trapped.wait _ (chain_of c.waits_after.new.frames) (chain_of c.wait_and_edit.new.frames) c.state.view_is c.waits_after.ensures.frames c.waits_after.ensures.wait c.in_ok-wait_and_edit.ensures.frames)
     (edited_ends c.args.code.now c.args.state.now _ (edit_of c.args.trapped.edit) c.args.trapped.wait _ (chain_of c.waits_after.new.frames) _ _ c.state.view_is c.waits_after.ensures.frames c.waits_after.ensures.wait refl c.in_ok-wait_and_edit.ensures.objects) c.wait_and_edit.ensures.left
     c.wait_and_edit.ensures.seats c.exchange.ensures.seats c.exit.ensures
     c.reserve.ensures.same_log c.reserve.ensures.same_rule c.log_other.ensures.added c.log_other.ensures.same_rule (enabled_so c.args.state.now _ _ _ c.args.trapped.watches c.state.view_is c.reserve-2.ensures.enabled c.apply.ensures.enabled) (g.met.C.Determined.goes_on _ _ c.advance.ensures.advanced) c.in_ok-push.ensures.ok

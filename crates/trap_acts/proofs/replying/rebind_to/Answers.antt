@@ -4,7 +4,7 @@ use Rattle.client_hooks.specs.Replies.{edit_of}
 use Rattle.run_state.specs.Held.{Held}
 use Rattle.run_state.specs.Hand.{hand_made, hand_on, hand_within}
 use Rattle.stack_moves.specs.EnteringLaws.{leave_fits, enter_fits_then, swapped_sound}
-use Rattle.stack_moves.proofs.EnteringViews.{no_misfit, lands_there, ready_takes, counts_two, low_two, steps_low}
+use Rattle.stack_moves.specs.Lemmas.EnteringViews.{no_misfit, lands_there, ready_takes, counts_two, low_two, steps_low}
 use Rattle.trap_acts.specs.Trapping.{change_by, left_by}
 use Rattle.trap_acts.proofs.TrapViews.{enabled_so, edited_is, edited_ends, made_in, waits_edited, top_waits, on_same, low_same, takes_same, lands_same, rebound_so, moved_from}
 use Rattle.trap_acts.proofs.replying.rebind_to.Goals as goal
@@ -51,11 +51,11 @@ log_two-requires-clause-second_fits g c = enter_fits_then _ _ _ _ _ _ _ c.reserv
 
 pub returns-clause-ok : goal.returns-clause-ok
 returns-clause-ok g c =
-    rebound_so c.args.state.now _ (left_by c.args.code.now c.args.state.now c.args.trapped) (change_by c.args.state.now c.args.trapped) c.args.landing.stack c.args.landing.arrival _ (chain_of c.wait_and_edit.new.frames) (chain_of c.switch-passed.new.frames) _ _ _ _ _ _ _ _ _ _ _ _ _ _ _ c.state.view_is c.requires.left
+    rebound_so g.C.Determined.way c.args.state.now _ (left_by c.args.code.now c.args.state.now c.args.trapped) (change_by c.args.state.now c.args.trapped) c.args.landing.stack c.args.landing.arrival _ (chain_of c.wait_and_edit.new.frames) (chain_of c.switch-passed.new.frames) _ _ _ _ _ _ _ _ _ _ _ _ _ _ _ c.state.view_is c.requires.left
     (edited_is c.args.code.now c.args.state.now _ (edit_of c.args.trapped.edit) c.args.trapped.wait _ (chain_of c.waits_after.new.frames) (chain_of c.wait_and_edit.new.frames) c.state.view_is c.waits_after.ensures.frames c.waits_after.ensures.wait c.in_ok-wait_and_edit.ensures.frames) c.wait_and_edit.ensures.seats
     (edited_ends c.args.code.now c.args.state.now _ (edit_of c.args.trapped.edit) c.args.trapped.wait _ (chain_of c.waits_after.new.frames) _ _ c.state.view_is c.waits_after.ensures.frames c.waits_after.ensures.wait refl c.in_ok-wait_and_edit.ensures.objects) c.wait_and_edit.ensures.left
     c.switch-passed.ensures.frames c.switch-passed.ensures.moved c.arrive.ensures.frames c.arrive.ensures.objects c.arrive.ensures.left c.reserve.ensures.same_log c.reserve.ensures.same_rule c.log_two.ensures.log c.log_two.ensures.same_rule
-    (enabled_so c.args.state.now _ _ _ c.args.trapped.watches c.state.view_is c.reserve-2.ensures.enabled c.apply.ensures.enabled) (g.met.C.Determined.goes_on _ _ c.advance.ensures.advanced) c.state.invariant.1 c.in_ok-push.ensures.ok
+    (enabled_so c.args.state.now _ _ _ c.args.trapped.watches c.state.view_is c.reserve-2.ensures.enabled c.apply.ensures.enabled) (g.met.C.Determined.goes_on _ _ c.advance.ensures.advanced) c.state.invariant.1 c.in_ok-lines.ensures
 
 pub invariant_of-state-2 : goal.invariant_of-state-2
 invariant_of-state-2 g c = (

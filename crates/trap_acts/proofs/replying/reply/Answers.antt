@@ -6,4 +6,4 @@ use Rattle.trap_acts.proofs.replying.reply.Goals as goal
 
 pub returns-in-Stop-clause-ok : goal.returns-in-Stop-clause-ok
 returns-in-Stop-clause-ok g c =
-    stop_answered c.args.code.now c.args.state.now _ (left_by c.args.code.now c.args.state.now c.args.trapped) (change_by c.args.state.now c.args.trapped) (end_planned c.args.end) _ c.requires.there (ap end_planned c.in-Stop.is) refl
+    stop_answered g.C.Determined.way c.args.code.now c.args.state.now _ (left_by c.args.code.now c.args.state.now c.args.trapped) (change_by c.args.state.now c.args.trapped) (end_planned c.args.end) _ c.requires.there (ap end_planned c.in-Stop.is) refl

@@ -20,10 +20,10 @@ resume_at-requires-clause-lands g c =
 
 pub returns-in-Refused-clause-ok : goal.returns-in-Refused-clause-ok
 returns-in-Refused-clause-ok g c =
-    resume_ended c.args.code.now c.args.state.now _ _ (left_by c.args.code.now c.args.state.now c.args.trapped) (change_by c.args.state.now c.args.trapped) _ _ _ _ _ _ c.look_back.ensures.same c.requires.there (low_in _ _ c.state.view_is (hand_within _ _ _ _ _ c.state.invariant.5 (ap (λ (s : Held). s.left) c.state.view_is ∙ c.requires.left)))
+    resume_ended g.C.Determined.way c.args.code.now c.args.state.now _ _ (left_by c.args.code.now c.args.state.now c.args.trapped) (change_by c.args.state.now c.args.trapped) _ _ _ _ _ _ c.look_back.ensures.same c.requires.there (low_in _ _ c.state.view_is (hand_within _ _ _ _ _ c.state.invariant.5 (ap (λ (s : Held). s.left) c.state.view_is ∙ c.requires.left)))
     c.bring-entering.ensures c.in_ok-case.ensures.is c.in_ok-case.ensures.plain c.in-Refused.is c.case_ending.ensures
 
 pub returns-in-Lands-clause-ok : goal.returns-in-Lands-clause-ok
 returns-in-Lands-clause-ok g c =
-    resume_answered c.args.code.now c.args.state.now _ _ c.args.trapped.wait _ (edit_of c.args.trapped.edit) (change_by c.args.state.now c.args.trapped) _ _ _ _ _ _ _ c.look_back.ensures.same c.look_back.ensures.wait (ap (λ (s : Held). change_by s c.args.trapped) c.look_back.ensures.same) c.requires.there
+    resume_answered g.C.Determined.way c.args.code.now c.args.state.now _ _ c.args.trapped.wait _ (edit_of c.args.trapped.edit) (change_by c.args.state.now c.args.trapped) _ _ _ _ _ _ _ c.look_back.ensures.same c.look_back.ensures.wait (ap (λ (s : Held). change_by s c.args.trapped) c.look_back.ensures.same) c.requires.there
     (low_in _ _ c.state.view_is (hand_within _ _ _ _ _ c.state.invariant.5 (ap (λ (s : Held). s.left) c.state.view_is ∙ c.requires.left))) c.bring-entering.ensures c.in_ok-case.ensures.is c.in-Lands.is c.resume_at.ensures.ok

@@ -4,7 +4,7 @@ use Rattle.client_hooks.specs.Replies.{edit_of}
 use Rattle.run_state.specs.Held.{Held}
 use Rattle.run_state.specs.Hand.{hand_made, hand_on, hand_within}
 use Rattle.stack_moves.specs.EnteringLaws.{leave_fits, enter_fits_then}
-use Rattle.stack_moves.proofs.EnteringViews.{counts_two, low_two, steps_low}
+use Rattle.stack_moves.specs.Lemmas.EnteringViews.{counts_two, low_two, steps_low}
 use Rattle.trap_acts.specs.Trapping.{change_by, left_by}
 use Rattle.trap_acts.proofs.TrapViews.{enabled_so, edited_is, edited_ends, made_in, lands_low_own, resumed_so, stays_sound}
 use Rattle.trap_acts.proofs.replying.resume_at.Goals as goal
@@ -29,7 +29,7 @@ log_two-requires-clause-second_fits g c = enter_fits_then _ _ _ _ _ _ _ c.reserv
 
 pub returns-clause-ok : goal.returns-clause-ok
 returns-clause-ok g c =
-    resumed_so c.args.state.now _ (left_by c.args.code.now c.args.state.now c.args.trapped) (change_by c.args.state.now c.args.trapped) c.args.arrival _ (chain_of c.wait_and_edit.new.frames) _ _ _ _ _ _ _ _ _ _ _ _ _ _ c.state.view_is c.requires.left (hand_on _ _ _ _ _ c.state.invariant.5 (ap (λ (s : Held). s.left) c.state.view_is ∙ c.requires.left)) (hand_within _ _ _ _ _ c.state.invariant.5 (ap (λ (s : Held). s.left) c.state.view_is ∙ c.requires.left))
+    resumed_so g.C.Determined.way c.args.state.now _ (left_by c.args.code.now c.args.state.now c.args.trapped) (change_by c.args.state.now c.args.trapped) c.args.arrival _ (chain_of c.wait_and_edit.new.frames) _ _ _ _ _ _ _ _ _ _ _ _ _ _ c.state.view_is c.requires.left (hand_on _ _ _ _ _ c.state.invariant.5 (ap (λ (s : Held). s.left) c.state.view_is ∙ c.requires.left)) (hand_within _ _ _ _ _ c.state.invariant.5 (ap (λ (s : Held). s.left) c.state.view_is ∙ c.requires.left))
     (edited_is c.args.code.now c.args.state.now _ (edit_of c.args.trapped.edit) c.args.trapped.wait _ (chain_of c.state.inside.frames) (chain_of c.wait_and_edit.new.frames) c.state.view_is refl refl c.in_ok-wait_and_edit.ensures.frames) c.wait_and_edit.ensures.seats (edited_ends c.args.code.now c.args.state.now _ (edit_of c.args.trapped.edit) c.args.trapped.wait _ (chain_of c.state.inside.frames) _ _ c.state.view_is refl refl refl c.in_ok-wait_and_edit.ensures.objects) c.wait_and_edit.ensures.left
     c.arrive.ensures.frames c.arrive.ensures.objects c.arrive.ensures.left c.reserve.ensures.same_log c.reserve.ensures.same_rule c.log_two.ensures.log c.log_two.ensures.same_rule
     (enabled_so c.args.state.now _ _ _ c.args.trapped.watches c.state.view_is c.reserve-2.ensures.enabled c.apply.ensures.enabled) (g.met.C.Determined.goes_on _ _ c.advance.ensures.advanced) c.state.invariant.1 c.in_ok-push.ensures.ok

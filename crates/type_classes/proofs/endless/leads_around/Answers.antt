@@ -1,7 +1,7 @@
 use Rattle.std.proofs.Common.{◌≡◌, ◌<◌, ◌+◌, ◌∙◌, true, ◌==◌, suc, refl, sym, arith, add-one, length}
 use Rattle.std.proofs.lemmas.Bool.{eq-eqb}
 use Rattle.type_definitions.specs.Parts.{leads}
-use Rattle.type_definitions.proofs.Walks.{or_left, or_right}
+use Rattle.type_definitions.specs.Lemmas.Walks.{or_left, or_right}
 use Rattle.type_classes.proofs.Firsts.{there}
 use Rattle.type_classes.proofs.Walks.{before_walk, around}
 use Rattle.type_classes.proofs.endless.leads_around.Goals as goal

@@ -1,6 +1,6 @@
 use Rattle.std.proofs.Common.{◌≡◌, ◌+◌, ◌∙◌, ap, arith, map, suc}
 use Rattle.type_definitions.specs.Class.{class_of}
-use Rattle.type_definitions.proofs.Classes.{class_is}
+use Rattle.type_definitions.specs.Lemmas.Classes.{class_is}
 use Rattle.type_definitions.specs.Leaves.{leaves_to}
 use Rattle.mu_types.specs.Rows.{lists}
 use Rattle.type_classes.proofs.Firsts.{there}

@@ -1,6 +1,6 @@
 use Rattle.std.proofs.Common.{◌<◌, ℕ, sym, subst, refl, List}
 use Rattle.type_definitions.specs.Partition.{IsStable}
-use Rattle.type_definitions.proofs.Partition.{least_from}
+use Rattle.type_definitions.specs.Lemmas.Partition.{least_from}
 use Rattle.type_classes.proofs.naming.classes_by.Goals as goal
 
 pub returns-then-is_stable-clause-classes : goal.returns-then-is_stable-clause-classes

@@ -2,7 +2,7 @@ use Rattle.std.proofs.Common.{◌≡◌, ◌<◌, ◌%◌, false, length, sym, a
 use Rattle.std.proofs.lemmas.Bool.Decides.{nat_tests, Decides-eqb}
 use Rattle.std.proofs.lemmas.Slice.Eq.{slice_eq-Decides}
 use Rattle.typed_heap.specs.Fits.{begins}
-use Rattle.typed_heap.proofs.Runs.{no_runs, begin_otherwise}
+use Rattle.typed_heap.specs.Lemmas.Runs.{no_runs, begin_otherwise}
 use Rattle.typed_heap.proofs.Repeating.{same_tells}
 use Rattle.typed_heap.proofs.fitting.are_runs.Goals as goal
 

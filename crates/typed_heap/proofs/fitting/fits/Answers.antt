@@ -1,5 +1,5 @@
 use Rattle.std.proofs.Common.{Some, ◌∙◌, ap}
-use Rattle.typed_heap.proofs.LeafClasses.{element_within}
+use Rattle.typed_heap.specs.Lemmas.LeafClasses.{element_within}
 use Rattle.typed_heap.proofs.fitting.fits.Goals as goal
 
 pub leaves-requires : goal.leaves-requires

@@ -1,7 +1,7 @@
 use Rattle.std.proofs.Common.{◌≡◌, ◌+◌, ◌*◌, ◌++◌, length, ◌∙◌, ap, arith}
 use Rattle.std.proofs.lemmas.List.{length-append}
 use Rattle.type_definitions.specs.Leaves.{times}
-use Rattle.typed_heap.proofs.Runs.{times_length}
+use Rattle.typed_heap.specs.Lemmas.Runs.{times_length}
 use Rattle.typed_heap.proofs.heap.cells_asked.Goals as goal
 
 pub returns : goal.returns

@@ -1,6 +1,6 @@
 use Rattle.std.proofs.Common.{◌<◌, length, sym, arith}
 use Rattle.std.proofs.lemmas.Bool.Decides.{nat_tests}
-use Rattle.typed_heap.proofs.Runs.{times_length, times_none, le_times}
+use Rattle.typed_heap.specs.Lemmas.Runs.{times_length, times_none, le_times}
 use Rattle.typed_heap.proofs.heap.repeats.Goals as goal
 
 pub overflow_cast-result : goal.overflow_cast-result

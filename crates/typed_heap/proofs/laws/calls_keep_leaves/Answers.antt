@@ -1,6 +1,6 @@
 use Rattle.std.proofs.Common.{refl}
 use Rattle.typed_heap.specs.Objects.{killed, filled}
-use Rattle.typed_heap.proofs.Fitted.{added_keeps, set_keeps}
+use Rattle.typed_heap.specs.Lemmas.Fitted.{added_keeps, set_keeps}
 use Rattle.typed_heap.proofs.laws.calls_keep_leaves.Goals as goal
 
 pub returns-clause-added : goal.returns-clause-added

@@ -1,4 +1,4 @@
-use Rattle.typed_heap.proofs.Fitted.{filled_fits}
+use Rattle.typed_heap.specs.Lemmas.Fitted.{filled_fits}
 use Rattle.typed_heap.proofs.laws.changed_objects_fit.Goals as goal
 
 pub returns-clause-filled : goal.returns-clause-filled

@@ -1,4 +1,4 @@
-use Rattle.typed_heap.proofs.Fitted.{object_fits, hybrid_fits}
+use Rattle.typed_heap.specs.Lemmas.Fitted.{object_fits, hybrid_fits}
 use Rattle.typed_heap.proofs.laws.new_objects_fit.Goals as goal
 
 pub returns-clause-object : goal.returns-clause-object

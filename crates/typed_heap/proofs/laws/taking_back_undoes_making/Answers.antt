@@ -1,4 +1,4 @@
-use Rattle.typed_heap.proofs.Fitted.{taken_back, newest_counted}
+use Rattle.typed_heap.specs.Lemmas.Fitted.{taken_back, newest_counted}
 use Rattle.typed_heap.proofs.laws.taking_back_undoes_making.Goals as goal
 
 pub returns-clause-objects : goal.returns-clause-objects

@@ -1,5 +1,5 @@
 use Rattle.typed_heap.specs.Objects.{leaf_classes}
-use Rattle.typed_heap.proofs.Fitted.{definition_grows, scalar_grows, scalars_grow}
+use Rattle.typed_heap.specs.Lemmas.Fitted.{definition_grows, scalar_grows, scalars_grow}
 use Rattle.typed_heap.proofs.laws.what_fits_stays.Goals as goal
 
 pub returns-clause-definition : goal.returns-clause-definition

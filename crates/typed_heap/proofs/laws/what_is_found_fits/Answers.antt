@@ -1,4 +1,4 @@
-use Rattle.typed_heap.proofs.Landing.{found_fits, references_fit, irefs_fit, cast_same}
+use Rattle.typed_heap.specs.Lemmas.Landing.{found_fits, references_fit, irefs_fit, cast_same}
 use Rattle.typed_heap.proofs.laws.what_is_found_fits.Goals as goal
 
 pub returns-clause-places : goal.returns-clause-places

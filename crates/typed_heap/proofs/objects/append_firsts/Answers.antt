@@ -1,4 +1,4 @@
-use Rattle.typed_heap.proofs.Firsts.{narrow_at}
+use Rattle.typed_heap.specs.Lemmas.Firsts.{narrow_at}
 use Rattle.typed_heap.proofs.objects.append_firsts.Goals as goal
 
 pub first-requires : goal.first-requires

@@ -2,7 +2,7 @@ use Rattle.std.proofs.Common.{◌≡◌, ◌<◌, ◌++◌, ℕ, List, length, s
 use Rattle.std.specs.Vec.{vec_len}
 use Rattle.std.specs.List.{All}
 use Rattle.type_definitions.specs.Leaves.{times}
-use Rattle.typed_heap.proofs.Rows.{added_tail}
+use Rattle.typed_heap.specs.Lemmas.Rows.{added_tail}
 use Rattle.typed_heap.proofs.objects.append_object.Goals as goal
 
 pub append_firsts-requires-clause-leaves : goal.append_firsts-requires-clause-leaves

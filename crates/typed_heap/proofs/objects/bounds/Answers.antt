@@ -1,5 +1,5 @@
 use Rattle.std.proofs.Common.{length}
-use Rattle.typed_heap.proofs.Rows.{bounds, end_is}
+use Rattle.typed_heap.specs.Lemmas.Rows.{bounds, end_is}
 use Rattle.typed_heap.proofs.objects.bounds.Goals as goal
 
 pub returns-clause-order : goal.returns-clause-order

@@ -8,7 +8,7 @@ use Rattle.mu_values.specs.declared.scalars.Scalar.TheVariants.{Null}
 use Rattle.typed_heap.specs.declared.objects.Initial.TheVariants as initials
 use Rattle.typed_heap.specs.Rows.{initial_of}
 use Rattle.typed_heap.proofs.Apart.{known_at, overwritten_shown}
-use Rattle.typed_heap.proofs.Filled.{replaced_one, put_one}
+use Rattle.typed_heap.specs.Lemmas.Filled.{replaced_one, put_one}
 use Rattle.typed_heap.proofs.objects.give_cell.Goals as goal
 
 -- a cell that was given a scalar

@@ -3,7 +3,7 @@ use Rattle.std.proofs.lemmas.List.{length-map}
 use Rattle.mu_values.specs.declared.scalars.Scalar.{Scalar}
 use Rattle.typed_heap.specs.Objects.{replaced}
 use Rattle.typed_heap.specs.Rows.{initial_of}
-use Rattle.typed_heap.proofs.Filled.{range_is_one, replaced_next, replaced_end}
+use Rattle.typed_heap.specs.Lemmas.Filled.{range_is_one, replaced_next, replaced_end}
 use Rattle.typed_heap.proofs.objects.give_cells.Goals as goal
 
 pub loop-i-init : goal.loop-i-init

@@ -1,7 +1,7 @@
 use Rattle.std.proofs.Common.{◌≡◌, ◌+◌, ◌++◌, [], ◌∷◌, length, ◌∙◌, refl, rules}
 use Rattle.std.specs.Vec.{vec_len}
 use Rattle.std.proofs.lemmas.List.{length-append}
-use Rattle.typed_heap.proofs.Firsts.{given_shown}
+use Rattle.typed_heap.specs.Lemmas.Firsts.{given_shown}
 use Rattle.typed_heap.proofs.Apart.{own_given}
 use Rattle.typed_heap.proofs.objects.give_first.Goals as goal
 

@@ -1,4 +1,4 @@
-use Rattle.typed_programs.proofs.Running.{plain_runs_have_an_ending, plain_runs_never_break}
+use Rattle.typed_programs.specs.Lemmas.Running.{plain_runs_have_an_ending, plain_runs_never_break}
 use Rattle.typed_programs.proofs.laws.plain_runs_never_break.Goals as goal
 
 pub returns-clause-endings : goal.returns-clause-endings

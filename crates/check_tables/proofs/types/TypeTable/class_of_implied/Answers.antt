@@ -1,8 +1,8 @@
 use Rattle.std.proofs.Common.{◌∙◌}
 use Rattle.std.proofs.lemmas.Option.{slice_get_within}
 use Rattle.mu_types.specs.Implied.{definition_of}
-use Rattle.type_definitions.proofs.Proved.{congruence}
-use Rattle.check_tables.proofs.Like.{class_is_like}
+use Rattle.type_definitions.specs.Lemmas.Proved.{congruence}
+use Rattle.check_tables.specs.Lemmas.Like.{class_is_like}
 use Rattle.check_tables.proofs.types.TypeTable.class_of_implied.Goals as goal
 
 pub class-requires : goal.class-requires

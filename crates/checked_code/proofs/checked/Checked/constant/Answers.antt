@@ -6,7 +6,7 @@ use Rattle.ir_tree.specs.declared.items.Item.{Item}
 use Rattle.mu_values.specs.declared.scalars.Scalar.{Scalar}
 use Rattle.bundle_names.specs.Globals.{globals_of}
 use Rattle.checked_code.specs.Constants.{constant_values}
-use Rattle.checked_code.proofs.ConstantsAnswered.{as_many, value_there}
+use Rattle.checked_code.specs.Lemmas.ConstantsAnswered.{as_many, value_there}
 use Rattle.checked_code.specs.Checking.{bundle_tables}
 use Rattle.checked_code.proofs.checked.Checked.constant.Goals as goal
 

@@ -1,4 +1,4 @@
-use Rattle.client_hooks.proofs.Chained.{first_less, second_less}
+use Rattle.client_hooks.specs.Lemmas.Chained.{first_less, second_less}
 use Rattle.client_hooks.proofs.chain.ChainClient.advance.Goals as goal
 
 pub returns-then-spent-clause-held : goal.returns-then-spent-clause-held

@@ -1,7 +1,7 @@
 use Rattle.std.specs.Prelude.{◌++◌}
 use Rattle.client_hooks.specs.Replies.{answer_in}
 use Rattle.client_hooks.specs.Traps.{view_of}
-use Rattle.client_hooks.proofs.Chained.{in_first, in_second, result_more}
+use Rattle.client_hooks.specs.Lemmas.Chained.{in_first, in_second, result_more}
 use Rattle.client_hooks.proofs.chain.ChainClient.answer.Goals as goal
 
 pub returns-then-spent-clause-told : goal.returns-then-spent-clause-told

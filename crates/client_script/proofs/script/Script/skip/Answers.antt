@@ -1,6 +1,6 @@
 use Rattle.std.proofs.Common.{◌∙◌, ap, drop}
 use Rattle.client_script.specs.Meaning.{entry_meant}
-use Rattle.client_script.proofs.Partial.{one_spent}
+use Rattle.client_script.specs.Lemmas.Partial.{one_spent}
 use Rattle.client_script.proofs.script.Script.skip.Goals as goal
 
 pub returns-then-self-len : goal.returns-then-self-len

@@ -1,4 +1,4 @@
-use Rattle.ir_lex.proofs.Cursors.{any_has}
+use Rattle.ir_lex.specs.Lemmas.Cursors.{any_has}
 use Rattle.ir_lex.proofs.cursor.Cursor.at_any.Goals as goal
 
 pub returns : goal.returns

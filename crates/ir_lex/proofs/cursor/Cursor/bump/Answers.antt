@@ -1,6 +1,6 @@
 use Rattle.std.proofs.Common.{◌≡◌, true, sym, ap, subst, ◌∙◌}
 use Rattle.text_forms.specs.Tokens.{rest_of, goes_on_behind}
-use Rattle.ir_lex.proofs.Cursors.{holds, held_next}
+use Rattle.ir_lex.specs.Lemmas.Cursors.{holds, held_next}
 use Rattle.ir_lex.proofs.cursor.Cursor.bump.Goals as goal
 
 pub returns : goal.returns

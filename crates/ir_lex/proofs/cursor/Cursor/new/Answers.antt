@@ -1,5 +1,5 @@
 use Rattle.std.proofs.Common.{refl}
-use Rattle.ir_lex.proofs.Cursors.{held_is}
+use Rattle.ir_lex.specs.Lemmas.Cursors.{held_is}
 use Rattle.ir_lex.specs.Scanner.{next_of}
 use Rattle.ir_lex.proofs.cursor.Cursor.new.Goals as goal
 

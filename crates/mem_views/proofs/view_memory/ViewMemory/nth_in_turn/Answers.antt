@@ -1,4 +1,4 @@
-use Rattle.std.proofs.Common.{◌≡◌, ◌∙◌, ◌+◌, ◌-◌, sym, ap, length, List, ℕ, true, arith}
+use Rattle.std.proofs.Common.{◌≡◌, ◌∙◌, ◌+◌, ◌-◌, sym, ap, length, List, ℕ, arith}
 use Rattle.mem_axioms.specs.Objects.{initial_of}
 use Rattle.mem_axioms.specs.Reads.{below}
 use Rattle.mem_views.specs.Differing.{differs_from}

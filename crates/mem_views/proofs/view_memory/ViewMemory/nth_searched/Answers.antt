@@ -14,7 +14,7 @@ pub returns-in_default-clause-nth : goal.returns-in_default-clause-nth
 returns-in_default-clause-nth g c =
     let memory = c.args.self.now in
     let test = differs_from (initial_of memory.objects.values) memory.tape.events c.args.others.cell c.args.others.floor c.args.others.scalar in
-    nth-only test c.args.last c.args.n (c.requires.last ∙ untouched-newest memory.tape.events c.args.others.cell c.in_default.ensures.views) c.requires.n
+    nth-only test c.args.last c.args.n (c.requires.last ∙ untouched-newest memory.tape.events c.args.others.cell (rw c.in_default.is at c.requires.kept)) c.requires.n
 
 pub overflow_add-n : goal.overflow_add-n
 overflow_add-n g c =
@@ -29,7 +29,7 @@ overflow_add-n g c =
 pub other_at-requires : goal.other_at-requires
 other_at-requires g c =
     let values = c.in-Some.kept.now.history.values in
-    let size = history-newest c.args.self.now.rule c.args.self.now.tape.events c.args.others.cell c.in-Some.kept.now c.in-Some.ensures.views in
+    let size = history-newest c.args.self.now.rule c.args.self.now.tape.events c.args.others.cell c.in-Some.kept.now (rw c.in-Some.is at c.requires.kept) in
     let last = c.requires.last in
     let all = count-all c.args.others.scalar values (c.args.last + 1) (omega (arith, size, last)) in
     let few = count-few c.args.others.scalar values (c.args.last + 1) in
@@ -50,11 +50,11 @@ returns-then-n-placeholder-clause-nth g c =
     let n = rw last at c.requires.n in
     let few = count-few scalar (values_of log cell) (newest log cell + 1) in
     let at = ap (λ (k : ℕ). occurrences scalar (take (k + 1) (values_of log cell))) last in
-    let same = rw c.in-Some.ensures.views.values at c.count_below-same.ensures.count in
+    let same = rw (rw c.in-Some.is at c.requires.kept).values at c.count_below-same.ensures.count in
     let differing = c.args.last + 1 - c.count_below-same.result in
     let d : differing + occurrences scalar (take (newest log cell + 1) (values_of log cell)) ≡ newest log cell + 1 = omega (arith, same, at, few, last) in
     let m = rw c.placeholder.ensures.is at c.if-n-placeholder.true in
-    let o = rw c.in-Some.ensures.views.values at c.other_at.ensures.other in
+    let o = rw (rw c.in-Some.is at c.requires.kept).values at c.other_at.ensures.other in
     let found = nth-later initial log cell scalar form c.args.others.floor c.args.n low differing c.other_at.result d m n o in
     rw last found.0
 
@@ -71,17 +71,17 @@ returns-then-n-placeholder-clause-at_most g c =
     let n = rw last at c.requires.n in
     let few = count-few scalar (values_of log cell) (newest log cell + 1) in
     let at = ap (λ (k : ℕ). occurrences scalar (take (k + 1) (values_of log cell))) last in
-    let same = rw c.in-Some.ensures.views.values at c.count_below-same.ensures.count in
+    let same = rw (rw c.in-Some.is at c.requires.kept).values at c.count_below-same.ensures.count in
     let differing = c.args.last + 1 - c.count_below-same.result in
     let d : differing + occurrences scalar (take (newest log cell + 1) (values_of log cell)) ≡ newest log cell + 1 = omega (arith, same, at, few, last) in
     let m = rw c.placeholder.ensures.is at c.if-n-placeholder.true in
-    let o = rw c.in-Some.ensures.views.values at c.other_at.ensures.other in
+    let o = rw (rw c.in-Some.is at c.requires.kept).values at c.other_at.ensures.other in
     let found = nth-later initial log cell scalar form c.args.others.floor c.args.n low differing c.other_at.result d m n o in
     rw last found.1
 
 pub returns-then-n-placeholder-clause-cost : goal.returns-then-n-placeholder-clause-cost
 returns-then-n-placeholder-clause-cost g c d l =
-    let size = history-newest c.args.self.now.rule c.args.self.now.tape.events c.args.others.cell c.in-Some.kept.now c.in-Some.ensures.views in
+    let size = history-newest c.args.self.now.rule c.args.self.now.tape.events c.args.others.cell c.in-Some.kept.now (rw c.in-Some.is at c.requires.kept) in
     let few = newest-few c.args.self.now.tape.events c.args.others.cell in
     let first = c.count_below-same.ensures.cost (suc d) (omega (arith, size, few, l)) in
     let second = c.other_at.ensures.cost (suc d) (omega (arith, size, few, l)) in
@@ -100,7 +100,7 @@ returns-clause-nth g c =
     let n = rw last at c.requires.n in
     let few = count-few scalar (values_of log cell) (newest log cell + 1) in
     let at = ap (λ (k : ℕ). occurrences scalar (take (k + 1) (values_of log cell))) last in
-    let same = rw c.in-Some.ensures.views.values at c.count_below-same.ensures.count in
+    let same = rw (rw c.in-Some.is at c.requires.kept).values at c.count_below-same.ensures.count in
     let differing = c.args.last + 1 - c.count_below-same.result in
     let d : differing + occurrences scalar (take (newest log cell + 1) (values_of log cell)) ≡ newest log cell + 1 = omega (arith, same, at, few, last) in
     let m = rw c.placeholder.ensures.is at c.if-n-placeholder.false in
@@ -108,7 +108,7 @@ returns-clause-nth g c =
 
 pub returns-clause-cost : goal.returns-clause-cost
 returns-clause-cost g c d l =
-    let size = history-newest c.args.self.now.rule c.args.self.now.tape.events c.args.others.cell c.in-Some.kept.now c.in-Some.ensures.views in
+    let size = history-newest c.args.self.now.rule c.args.self.now.tape.events c.args.others.cell c.in-Some.kept.now (rw c.in-Some.is at c.requires.kept) in
     let few = newest-few c.args.self.now.tape.events c.args.others.cell in
     let first = c.count_below-same.ensures.cost (suc d) (omega (arith, size, few, l)) in
     omega (arith, first)

@@ -15,13 +15,13 @@ returns-then-position-eq0-clause-value g c =
     ∙ ap (λ (p : ℕ). value_at initial memory.tape.events c.args.cell p) (sym c.if-position-eq0.true))
 
 pub value-requires : goal.value-requires
-value-requires g c = let n = history-newest c.args.self.now.rule c.args.self.now.tape.events c.args.cell c.in-Some.kept.now c.in-Some.ensures.views in let p = c.requires.position in omega (arith, n, p)
+value-requires g c = let n = history-newest c.args.self.now.rule c.args.self.now.tape.events c.args.cell c.in-Some.kept.now (rw c.in-Some.is at c.requires.kept) in let p = c.requires.position in omega (arith, n, p)
 
 pub returns-in-Some-clause-value : goal.returns-in-Some-clause-value
 returns-in-Some-clause-value g c =
     let memory = c.args.self.now in
     let initial = initial_of memory.objects.values in
-    value-found memory.rule initial memory.tape.events c.args.cell c.in-Some.kept.now c.args.position c.value.result (form-of memory.rule initial memory.tape.events memory.log_holds.sound.axioms) c.in-Some.ensures.views (omega arith) c.requires.position c.value.ensures.value
+    value-found memory.rule initial memory.tape.events c.args.cell c.in-Some.kept.now c.args.position c.value.result (form-of memory.rule initial memory.tape.events memory.log_holds.sound.axioms) (rw c.in-Some.is at c.requires.kept) (omega arith) c.requires.position c.value.ensures.value
 
 pub returns-in-None-clause-value : goal.returns-in-None-clause-value
-returns-in-None-clause-value g c = let z = untouched-newest c.args.self.now.tape.events c.args.cell c.in-None.ensures.views in let p = c.requires.position in let n = c.if-position-eq0.false in absurd (omega (arith, z, p, n))
+returns-in-None-clause-value g c = let z = untouched-newest c.args.self.now.tape.events c.args.cell (rw c.in-None.is at c.requires.kept) in let p = c.requires.position in let n = c.if-position-eq0.false in absurd (omega (arith, z, p, n))

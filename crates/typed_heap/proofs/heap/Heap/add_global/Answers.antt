@@ -1,4 +1,4 @@
-use Rattle.typed_heap.proofs.LeafClasses.{all_within}
+use Rattle.typed_heap.specs.Lemmas.LeafClasses.{all_within}
 use Rattle.typed_heap.proofs.heap.Heap.add_global.Goals as goal
 
 pub push-requires-clause-leaves : goal.push-requires-clause-leaves

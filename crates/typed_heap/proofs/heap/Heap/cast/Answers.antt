@@ -7,7 +7,7 @@ use Rattle.mu_values.specs.declared.scalars.Scalar.{Scalar}
 use Rattle.mu_values.specs.declared.scalars.Scalar.TheVariants.{Place}
 use Rattle.typed_heap.specs.Heap.{HeapContents}
 use Rattle.typed_heap.specs.Places.{cast}
-use Rattle.typed_heap.proofs.Found.{cast_there, target_within}
+use Rattle.typed_heap.specs.Lemmas.Found.{cast_there, target_within}
 use Rattle.typed_heap.proofs.heap.Heap.cast.Goals as goal
 
 pub fits-fits-requires-clause-t : goal.fits-fits-requires-clause-t

@@ -2,7 +2,7 @@ use Rattle.std.proofs.Common.{IsSome, subst, ap}
 use Rattle.type_definitions.specs.Definition.{arguments}
 use Rattle.mu_values.specs.declared.scalars.Scalar.{Scalar}
 use Rattle.typed_heap.specs.Places.{Element, move, find_place}
-use Rattle.typed_heap.proofs.Found.{object_there, target_within}
+use Rattle.typed_heap.specs.Lemmas.Found.{object_there, target_within}
 use Rattle.typed_heap.proofs.heap.Heap.element.Goals as goal
 
 pub leaves-leaves-requires : goal.leaves-leaves-requires

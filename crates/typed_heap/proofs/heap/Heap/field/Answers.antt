@@ -3,7 +3,7 @@ use Rattle.std.specs.Prelude.{pos}
 use Rattle.std.proofs.lemmas.List.Elements.{All-take}
 use Rattle.mu_values.specs.declared.scalars.Scalar.{Scalar}
 use Rattle.typed_heap.specs.Places.{Field, move, find_place, leaves_together}
-use Rattle.typed_heap.proofs.Found.{object_there, field_of, field_found, same_offset}
+use Rattle.typed_heap.specs.Lemmas.Found.{object_there, field_of, field_found, same_offset}
 use Rattle.typed_heap.proofs.heap.Heap.field.Goals as goal
 
 pub leaves_before-before-requires : goal.leaves_before-before-requires

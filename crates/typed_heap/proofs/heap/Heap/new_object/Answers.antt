@@ -1,4 +1,4 @@
-use Rattle.typed_heap.proofs.LeafClasses.{all_within}
+use Rattle.typed_heap.specs.Lemmas.LeafClasses.{all_within}
 use Rattle.typed_heap.proofs.heap.Heap.new_object.Goals as goal
 
 pub add-requires-clause-leaves : goal.add-requires-clause-leaves

@@ -1,8 +1,8 @@
 use Rattle.std.proofs.Common.{Some, IsSome, subst, ap, ◌∙◌}
 use Rattle.mu_values.specs.declared.scalars.Scalar.{Scalar}
 use Rattle.typed_heap.specs.Places.{VarPart, move, find_place}
-use Rattle.typed_heap.proofs.LeafClasses.{element_within}
-use Rattle.typed_heap.proofs.Found.{object_there}
+use Rattle.typed_heap.specs.Lemmas.LeafClasses.{element_within}
+use Rattle.typed_heap.specs.Lemmas.Found.{object_there}
 use Rattle.typed_heap.proofs.heap.Heap.var_part.Goals as goal
 
 pub land-requires-clause-wanted : goal.land-requires-clause-wanted

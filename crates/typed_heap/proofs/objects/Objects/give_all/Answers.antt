@@ -5,7 +5,7 @@ use Rattle.mu_types.specs.ListLaws.{lent_back}
 use Rattle.typed_heap.specs.declared.objects.Initial.{Initial}
 use Rattle.typed_heap.specs.Objects.{replaced}
 use Rattle.typed_heap.specs.Rows.{initial_of, begin, IsKnown, AreOwn, IsRowed}
-use Rattle.typed_heap.proofs.Rows.{seen, cells_there, bounds}
+use Rattle.typed_heap.specs.Lemmas.Rows.{seen, cells_there, bounds}
 use Rattle.typed_heap.proofs.Rowed.{rowed_filled, shown_filled}
 use Rattle.typed_heap.proofs.objects.Objects.give_all.Goals as goal
 

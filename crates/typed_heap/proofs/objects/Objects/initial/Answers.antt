@@ -2,7 +2,7 @@ use Rattle.std.proofs.Common.{◌≡◌, ◌<◌, ◌+◌, Some, length, map, sy
 use Rattle.std.specs.Vec.{vec_len}
 use Rattle.std.proofs.lemmas.Option.{slice_get-map, slice_get_read}
 use Rattle.typed_heap.specs.Rows.{initial_of, begin, IsKnown}
-use Rattle.typed_heap.proofs.Rows.{seen, cell_there, cell_within, cell_begins}
+use Rattle.typed_heap.specs.Lemmas.Rows.{seen, cell_there, cell_within, cell_begins}
 use Rattle.typed_heap.proofs.objects.Objects.initial.Goals as goal
 
 pub bounds-begin-requires-clause-n : goal.bounds-begin-requires-clause-n

@@ -1,7 +1,7 @@
 use Rattle.std.proofs.Common.{◌≡◌, length, map, refl, arith, rules}
 use Rattle.std.specs.Vec.{vec_len}
 use Rattle.typed_heap.specs.Rows.{initial_of}
-use Rattle.typed_heap.proofs.Rows.{counted, seen, there}
+use Rattle.typed_heap.specs.Lemmas.Rows.{counted, seen, there}
 use Rattle.typed_heap.proofs.objects.Objects.is_dead.Goals as goal
 
 pub index-requires : goal.index-requires

@@ -3,7 +3,7 @@ use Rattle.std.specs.Vec.{vec_len}
 use Rattle.std.proofs.lemmas.List.{length-set}
 use Rattle.std.proofs.lemmas.Option.{slice_get_read}
 use Rattle.typed_heap.specs.Rows.{initial_of}
-use Rattle.typed_heap.proofs.Rows.{counted, seen, object_at, killed_at, cut_killed}
+use Rattle.typed_heap.specs.Lemmas.Rows.{counted, seen, object_at, killed_at, cut_killed}
 use Rattle.typed_heap.proofs.Rowed.{repeat_killed}
 use Rattle.typed_heap.proofs.objects.Objects.kill.Goals as goal
 

@@ -4,7 +4,7 @@ use Rattle.std.proofs.lemmas.List.{length-map}
 use Rattle.std.proofs.lemmas.Option.{slice_get_read}
 use Rattle.std.specs.Prelude.{slice_range}
 use Rattle.typed_heap.specs.Rows.{RoomyObjects, initial_of, begin, end}
-use Rattle.typed_heap.proofs.Rows.{objects_length, leaves_at, initials_at, counted}
+use Rattle.typed_heap.specs.Lemmas.Rows.{objects_length, leaves_at, initials_at, counted}
 use Rattle.typed_heap.proofs.Rowed.{repeats_at}
 use Rattle.typed_heap.proofs.objects.Objects.leaves.Goals as goal
 

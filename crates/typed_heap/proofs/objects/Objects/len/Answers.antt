@@ -1,7 +1,7 @@
 use Rattle.std.proofs.Common.{◌≡◌, length, map, sym, ap, ◌∙◌, rules}
 use Rattle.std.specs.Vec.{vec_len}
 use Rattle.typed_heap.specs.Rows.{RoomyObjects, initial_of}
-use Rattle.typed_heap.proofs.Rows.{objects_length}
+use Rattle.typed_heap.specs.Lemmas.Rows.{objects_length}
 use Rattle.typed_heap.proofs.objects.Objects.len.Goals as goal
 
 pub returns : goal.returns

@@ -1,7 +1,7 @@
 use Rattle.std.proofs.Common.{◌≡◌, ◌-◌, length, sym, ◌∙◌, refl, arith, rules}
 use Rattle.std.specs.Vec.{vec_len}
 use Rattle.typed_heap.specs.Rows.{begin}
-use Rattle.typed_heap.proofs.Rows.{counted, seen}
+use Rattle.typed_heap.specs.Lemmas.Rows.{counted, seen}
 use Rattle.typed_heap.proofs.Rowed.{rowed_front, shown_front}
 use Rattle.typed_heap.proofs.objects.Objects.pop.Goals as goal
 

@@ -1,7 +1,7 @@
 use Rattle.std.proofs.Common.{◌++◌, length, arith}
 use Rattle.std.specs.Vec.{vec_len}
 use Rattle.type_definitions.specs.Leaves.{times}
-use Rattle.typed_heap.proofs.Rows.{seen, counted}
+use Rattle.typed_heap.specs.Lemmas.Rows.{seen, counted}
 use Rattle.typed_heap.proofs.Rowed.{rowed_pushed, shown_pushed}
 use Rattle.typed_heap.proofs.Repeating.{hybrid_repeats}
 use Rattle.typed_heap.proofs.objects.Objects.push.Goals as goal

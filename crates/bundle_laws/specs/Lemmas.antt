@@ -1,0 +1,20 @@
+-- Lemmas with their proofs, for this crate's proofs and those of the crates above. Nothing here need be believed, and no clause names
+-- anything here.
+pub mod TypedOperands
+pub mod TypedVariables
+pub mod TypedTables
+pub mod TypedComputations
+pub mod TypedControl
+pub mod TypedObjects
+pub mod TypedAccesses
+pub mod TypedStacks
+pub mod TypedCommons
+pub mod TypedExits
+pub mod TypedInstructions
+pub mod TypedEndings
+pub mod Heads
+pub mod Bodies
+pub mod Graph
+pub mod Tables
+pub mod Lifting
+pub mod Numbered

@@ -1,0 +1,7 @@
+-- Lemmas with their proofs, for this crate's proofs and those of the crates above. Nothing here need be believed, and no clause names
+-- anything here.
+pub mod ConstantMembers
+pub mod ConstantsAccepted
+pub mod ConstantsFitting
+pub mod ConstantsAnswered
+pub mod Counted

@@ -1,0 +1,23 @@
+-- Lemmas with their proofs, for this crate's proofs and those of the crates above. Nothing here need be believed, and no clause names
+-- anything here.
+pub mod Texts
+pub mod Apart
+pub mod Prints
+pub mod Choices
+pub mod Members
+pub mod Numbers
+pub mod TokenKinds
+pub mod Tokens
+pub mod ListForms
+pub mod TypeForms
+pub mod ComputationForms
+pub mod ObjectForms
+pub mod ControlForms
+pub mod AccessForms
+pub mod StackForms
+pub mod CommonForms
+pub mod InstructionForms
+pub mod BodyForms
+pub mod LineForms
+pub mod ItemForms
+pub mod ReadBack

@@ -1,0 +1,3 @@
+pub mod Leaves
+pub mod Local
+pub mod Lemmas

@@ -1,0 +1,26 @@
+-- Lemmas with their proofs, for this crate's proofs and those of the crates above. Nothing here need be believed, and no clause names
+-- anything here.
+pub mod Basics
+pub mod Fitting
+pub mod Growing
+pub mod FrameLaws
+pub mod Keeps
+pub mod Turning
+pub mod Happening
+pub mod Accessing
+pub mod Moving
+pub mod Making
+pub mod Owners
+pub mod Editing
+pub mod Asking
+pub mod Waiting
+pub mod Starting
+pub mod Placing
+pub mod Waking
+pub mod Performing
+pub mod First
+pub mod Answering
+pub mod Proved
+pub mod Counting
+pub mod Bounded
+pub mod Printing

@@ -1,0 +1,8 @@
+-- Lemmas with their proofs, for this crate's proofs and those of the crates above. Nothing here need be believed, and no clause names
+-- anything here.
+pub mod Names
+pub mod Operands
+pub mod Forms
+pub mod Functions
+pub mod Places
+pub mod Whole

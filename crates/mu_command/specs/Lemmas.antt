@@ -1,0 +1,9 @@
+-- Lemmas with their proofs, for this crate's proofs and those of the crates above. Nothing here need be believed, and no clause names
+-- anything here.
+pub mod Way
+pub mod Completeness
+pub mod Accepting
+pub mod Causes
+pub mod Files
+pub mod Beginnings
+pub mod Trials

@@ -1,0 +1,19 @@
+-- Lemmas with their proofs, for this crate's proofs and those of the crates above. Nothing here need be believed, and no clause names
+-- anything here.
+pub mod Tests
+pub mod Beginnings
+pub mod Reading
+pub mod Unlimited
+pub mod Alike
+pub mod Living
+pub mod Passing
+pub mod Completing
+pub mod Beyond
+pub mod Stops
+pub mod Stopping
+pub mod Ends
+pub mod Whole
+pub mod Lists
+pub mod Loops
+pub mod Usual
+pub mod Judged

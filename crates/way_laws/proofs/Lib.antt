@@ -1,0 +1,4 @@
+mod Settling
+mod Ending
+mod Running
+mod Entries
