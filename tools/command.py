@@ -14,7 +14,7 @@ RUN_OPTIONS = {"--entry": "the name of a function, with its `@`", "--hail": "a f
                "--schedule": "a file with a schedule", "--steps": "a number from 0 to 1000000", "--cells": "a number from 0 to 1000000",
                "--release-sequences": "c11 or rmw", "--auto": None}
 # The options of `explore`, likewise.
-EXPLORE_OPTIONS = {**RUN_OPTIONS, "--runs": "a number from 1 to 100000000"}
+EXPLORE_OPTIONS = {**RUN_OPTIONS, "--runs": "a number from 1 to 100000000", "--condition": "a file with conditions"}
 del EXPLORE_OPTIONS["--schedule"]
 OPTIONS = {"run": RUN_OPTIONS, "explore": EXPLORE_OPTIONS}
 JUDGE_OPTION = "--release-sequences"
@@ -26,7 +26,7 @@ BOUNDS = {"--steps": (0, 1_000_000), "--cells": (0, 1_000_000), "--runs": (1, 10
 DEFAULT_STEPS, DEFAULT_CELLS = 200_000, 100_000
 DEFAULT_RUNS, DEFAULT_STEPS_OF_EACH = 1_000_000, 1_000
 # The files that a refusal may name besides the bundle, each with the option that names it.
-FILES = {"hail": "--hail", "client": "--client", "schedule": "--schedule"}
+FILES = {"hail": "--hail", "client": "--client", "schedule": "--schedule", "condition": "--condition"}
 
 
 class Call(typing.NamedTuple):
@@ -72,7 +72,7 @@ class Call(typing.NamedTuple):
         return self.options.get("--release-sequences", "c11")
 
     def file(self, name):
-        """The path of a file that a refusal names: `bundle`, `hail`, `client`, `schedule`, `log`, or `bundle K` for `join`."""
+        """The path of a file that a refusal names: `bundle`, `hail`, `client`, `schedule`, `condition`, `log`, or `bundle K` for `join`."""
         if name.startswith("bundle "):
             return self.joined[int(name.split()[1])]
         return self.bundle if name in ("bundle", "log") else self.options.get(FILES[name], "")

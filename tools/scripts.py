@@ -1,4 +1,4 @@
-"""Explains why a HAIL script, a client script, a schedule or the entry of a run is refused."""
+"""Explains why a HAIL script, a client script, a schedule, a file of conditions or the entry of a run is refused."""
 import difflib
 
 import lexical
@@ -16,6 +16,8 @@ def explain(file, call, source, place, fault):
     """What can be said of a refused file besides its place, as pairs of a label and a text."""
     if file == "schedule":
         return of_schedule(source, place, fault)
+    if file == "condition":
+        return of_condition(source, place, fault)
     bundle = Bundle.of_file(call.bundle)
     reader = HailReader(source.text) if file == "hail" else ClientReader(source.text)
     at = next((n for n, token in enumerate(reader.tokens) if token.start >= place), len(reader.tokens) - 1)
@@ -36,6 +38,16 @@ def of_schedule(source, place, fault):
         return [("expected", "a number below 4294967296, which is 2^32")]
     return [("found", f"`{group[0] if group else ''}`"),
             ("expected", "decimal numbers with blanks or comments between them; a comment begins with `//`")]
+
+
+def of_condition(source, place, fault):
+    """A fault of conditions."""
+    rest = source.text[place:].split("//")[0].split()
+    found = [("found", f"`{rest[0]}`" if rest else "the end of the text")]
+    if fault != "Unknown":
+        return found
+    return [*found, ("expected", "`exists`, `never` or `always` where a condition begins; in a list a thread from `t0` to `t63`, an ending "
+                                 "as `done` or `DataRace`, or the name of a global of one cell")]
 
 
 def values_of(bundle):

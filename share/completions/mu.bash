@@ -10,7 +10,7 @@ _mu() {
   local own='--proved --build --gate --install --uninstall --version --help'
   local of_judge='--release-sequences'
   local of_run='--entry --hail --client --auto --schedule --release-sequences --steps --cells'
-  local of_explore='--entry --runs --hail --client --auto --release-sequences --steps --cells'
+  local of_explore='--entry --runs --condition --hail --client --auto --release-sequences --steps --cells'
   # The words before the cursor. bash breaks words at `@` and `:`, so they are taken from the line.
   local line=${COMP_LINE:0:COMP_POINT} words current before at=1 offered=
   read -ra words <<< "$line"
@@ -40,7 +40,7 @@ _mu() {
   --entry) offered=$(_mu_functions "$file") ;;
   --release-sequences) offered='c11 rmw' ;;
   --steps | --cells | --runs | --seed | trial) return ;;
-  --hail | --client | --schedule | --picture | --check-all | check | print | run | explore | judge | join)
+  --hail | --client | --schedule | --condition | --picture | --check-all | check | print | run | explore | judge | join)
     compopt -o default 2> /dev/null
     return
     ;;

@@ -46,7 +46,7 @@ complete -c mu -n __mu_begins -a trial -d 'makes a bundle of two threads and run
 complete -c mu -n __mu_begins -a judge -d 'judges what a run printed'
 complete -c mu -n __mu_begins -a join -d 'prints many bundles joined to one'
 complete -c mu -n '__mu_is join' -F
-complete -c mu -n '__mu_after check print run explore judge --hail --client --schedule --picture --check-all' -F
+complete -c mu -n '__mu_after check print run explore judge --hail --client --schedule --condition --picture --check-all' -F
 complete -c mu -n '__mu_after --entry' -a '(__mu_functions)'
 complete -c mu -n '__mu_after --release-sequences' -a 'c11 rmw'
 complete -c mu -n '__mu_after --install --uninstall' -a '(__fish_complete_directories)'
@@ -60,6 +60,7 @@ complete -c mu -n '__mu_is judge' -l release-sequences -d 'c11 or rmw'
 complete -c mu -n '__mu_is "(run|explore)"' -l steps -d 'the most steps'
 complete -c mu -n '__mu_is "(run|explore)"' -l cells -d 'the most cells'
 complete -c mu -n '__mu_is explore' -l runs -d 'the most runs'
+complete -c mu -n '__mu_is explore' -l condition -d 'conditions on the outcomes'
 complete -c mu -n __mu_begins -l explain -d 'says where a fault stands and what it means'
 complete -c mu -n __mu_begins -l show -d 'prints the log of a run beside its source'
 complete -c mu -n __mu_begins -l results -d 'prints only records and ending'

@@ -281,6 +281,7 @@ def search(threads, names, most_runs, local_first=True):
     return outcomes_of(lambda picks: Run(threads, names, picks, local_first), most_runs)
 
 
-def search_text(found):
-    """What a complete search with these outcomes has to write, with `schedule *` for whatever schedule shows one."""
-    return "".join(f"outcome {number}\n{text}schedule *\n" for number, text in enumerate(found)) + f"complete {len(found)}\n"
+def search_text(found, answers=()):
+    """What a complete search with these outcomes has to write, with `schedule *` for whatever schedule shows one, and these lines of answers."""
+    outcomes = "".join(f"outcome {number}\n{text}schedule *\n" for number, text in enumerate(found))
+    return outcomes + "".join(f"{line}\n" for line in answers) + f"complete {len(found)}\n"

@@ -1,0 +1,33 @@
+// W+RWC+fences. Asked: value 0 of thread 1 is 1, value 1 of thread 1 is 0, value 0 of thread 2 is 0.
+.typedef @i64 = int<64>
+.funcsig @r0 = () -> ()
+.funcsig @r1 = () -> (@i64)
+.funcsig @r2 = () -> (@i64 @i64)
+.const @c1 <@i64> = 1
+.global @x <@i64>
+.global @y <@i64>
+.global @z <@i64>
+.funcdef @p1 VERSION %v <@r2> {
+%e():
+  %r0 = LOAD ACQUIRE <@i64> @z
+  FENCE SEQ_CST
+  %r1 = LOAD RELAXED <@i64> @y
+  RET (%r0 %r1)
+}
+.funcdef @p2 VERSION %v <@r1> {
+%e():
+  STORE RELAXED <@i64> @y @c1
+  FENCE SEQ_CST
+  %r0 = LOAD RELAXED <@i64> @x
+  RET (%r0)
+}
+.funcdef @main VERSION %v <@r0> {
+%e():
+  %s1 = COMMINST @uvm.new_stack <[@r2]> (@p1)
+  %s2 = COMMINST @uvm.new_stack <[@r1]> (@p2)
+  %t1 = NEWTHREAD %s1 PASS_VALUES<> ()
+  %t2 = NEWTHREAD %s2 PASS_VALUES<> ()
+  STORE RELAXED <@i64> @x @c1
+  STORE RELEASE <@i64> @z @c1
+  RET ()
+}
